@@ -14,8 +14,8 @@ use Rattle.wasm_stack.specs.declared.stack.StackLevel.{StackLevel}
 use Rattle.wasm_stack.specs.declared.stack.StackFrame.{StackFrame}
 use Rattle.wasm_stack.specs.declared.stack.Stack.TheInside.{Inside}
 use Rattle.wasm_types.specs.Code.{Trees, tree, trees}
-use Rattle.wasm_stack.specs.Thread.{Thread, with_operand, closed, closed_to, left, left_to, without, arguments, size_of_levels, size_of_frames, size_of_thread, has_frame_room, has_room}
-use Rattle.wasm_stack.specs.View.{and_close, closed_by, entered_by, Opened, opened_as, opened_by, given_by, repeated_by, innermost, levels_of, frame_labels, frames_of, thread_in, thread_of, AreCut, IsPart, AreFrameParts, IsStack}
+use Rattle.wasm_stack.specs.Thread.{Thread, with_operand, closed, closed_to, left, left_to, without, arguments, size_of_levels, size_of_frames, size_of_thread, has_frame_room, has_room, Opened}
+use Rattle.wasm_stack.specs.View.{and_close, closed_by, entered_by, opened_as, opened_by, given_by, repeated_by, innermost, levels_of, frame_labels, frames_of, thread_in, thread_of, AreCut, IsPart, AreFrameParts, IsStack}
 
 -- a frame's operands begin below those of each of its levels
 pub AreCut-low : (bottom : ℕ) (ls : List StackLevel) (top : ℕ) → AreCut bottom ls top → bottom ≤ top

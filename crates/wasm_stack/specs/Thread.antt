@@ -19,6 +19,17 @@ pub record Level : Type 0 where
   pub carries : Bool
   pub loops : Bool
 
+-- what a level is by how it was opened: the type of what it leaves, where a branch to it goes on, whether that carries
+-- an operand, and whether it begins the level again
+pub record Opened : Type 0 where
+  pub gives : Option ValType
+  pub target : Trees
+  pub carries : Bool
+  pub loops : Bool
+
+abbrev pub as_opened : Level → Opened
+as_opened l = record { gives = l.gives; target = l.target; carries = l.carries; loops = l.loops }
+
 -- a frame that waits for a call to return: its innermost level, the levels around that, its function, its
 -- locals, and whether it gives its caller an operand
 pub record Frame : Type 0 where

@@ -1,5 +1,5 @@
 -- The thread that the stacks of a strand stand for, and the levels that an instruction opens and an end closes.
-use Rattle.std.specs.Prelude.{◌≡◌, ℕ, zero, suc, ◌+◌, ◌-◌, ◌≤◌, Bool, true, false, List, [], ◌∷◌, Option, Some, None, is_some, reverse, take, drop, length}
+use Rattle.std.specs.Prelude.{◌≡◌, ℕ, zero, suc, ◌+◌, ◌-◌, ◌≤◌, true, false, List, [], ◌∷◌, Option, Some, None, is_some, reverse, take, drop, length}
 use Rattle.wasm_types.specs.declared.code.Value.{Value}
 use Rattle.wasm_types.specs.declared.code.ValType.{ValType}
 use Rattle.wasm_types.specs.Code.{Tree, Block, Loop, If, Trees, End, tree, trees}
@@ -8,15 +8,7 @@ use Rattle.wasm_stack.specs.declared.stack.StackFrame.{StackFrame}
 use Rattle.wasm_stack.specs.declared.stack.Stack.TheInside.{Inside}
 use Rattle.wasm_stack.specs.After.{After, Goes, with_top}
 use Rattle.wasm_stack.specs.Control.{on_test}
-use Rattle.wasm_stack.specs.Thread.{Level, Frame, Thread, closed, opened}
-
--- what a level is by how it was opened: the type of what it leaves, where a branch to it goes on, whether that carries
--- an operand, and whether it begins the level again
-pub record Opened : Type 0 where
-  pub gives : Option ValType
-  pub target : Trees
-  pub carries : Bool
-  pub loops : Bool
+use Rattle.wasm_stack.specs.Thread.{Level, Opened, Frame, Thread, closed, opened}
 
 -- what the level leaves that an instruction opens
 abbrev pub given_by : Tree → Option ValType

@@ -99,7 +99,7 @@ label_true (Some k) = refl
 
 module _ (m : Module) (c : Context) where
   -- a block that is opened fits, where its inside, its end and a branch to it do
-  open_fits : (t : Thread) (gives : Option ValType) (body target : Trees) (carries loops : Bool) → RestOf m c t → carries ≡ is_some (label_of gives carries) → Leaves c (label_of gives carries ∷ labels_at m t) gives body [] → TargetFits loops c gives target carries (here t) t.outer → LeavesAt m c t (put_type gives (types_of_values t.stack)) → Fits m (opened t gives body target carries loops)
+  open_fits : (t : Thread) (gives : Option ValType) (body target : Trees) (carries loops : Bool) → RestOf m c t → carries ≡ is_some (label_of gives carries) → Leaves c (label_of gives carries ∷ labels_at m t) gives body [] → TargetFits loops c (record { gives = gives; target = target; carries = carries; loops = loops }) (here t) t.outer → LeavesAt m c t (put_type gives (types_of_values t.stack)) → Fits m (opened t gives body target carries loops)
   open_fits t gives body target carries loops r e inside at_target after =
       goes m c (opened t gives body target carries loops) (r.0, r.1, r.2, (e, at_target, after, r.3), r.4) inside
 

@@ -17,7 +17,7 @@ use Rattle.wasm_step.specs.Fits.{TargetFits, known, put_type, label_of, labels_o
 use Rattle.wasm_stack.specs.Control.{jump_by, carried, carry_top, with_carried, with_result, resumed, leave_frame, landed, jump, branch, at_end, ended}
 use Rattle.wasm_stack.specs.After.{After}
 use Rattle.wasm_step.specs.Strand.{IsResult}
-use Rattle.wasm_stack.specs.Thread.{Level, Frame, Thread, with_operand, closed, closed_to, left, left_to}
+use Rattle.wasm_stack.specs.Thread.{Level, as_opened, Frame, Thread, here, with_operand, closed, closed_to, left, left_to}
 
 -- ---- steps that have a result
 
@@ -105,16 +105,13 @@ put_type-append (Some k) a b = refl
 
 module _ (m : Module) where
   -- what stays of a frame while its innermost level runs
-  abbrev pub Rest : Context → ℕ → List Value → Bool → Option ValType → Trees → Bool → Bool → List Level → List Frame → Type 0
-  Rest c func locals returns gives target carries loops outer callers =
-      IsContext m func c
-      × (types_of_values locals ≡ c.locals)
-      × (returns ≡ is_some c.gives)
-      × LevelsFit c gives target carries loops outer
-      × FramesFit m c.gives callers
-
   abbrev pub RestOf : Context → Thread → Type 0
-  RestOf c t = Rest c t.func t.locals t.returns t.gives t.target t.carries t.loops t.outer t.callers
+  RestOf c t =
+      IsContext m t.func c
+      × (types_of_values t.locals ≡ c.locals)
+      × (t.returns ≡ is_some c.gives)
+      × LevelsFit c (as_opened (here t)) t.outer
+      × FramesFit m c.gives t.callers
 
   abbrev pub labels_at : Thread → Labels
   labels_at t = label_of t.gives t.carries ∷ labels_of t.outer
@@ -180,7 +177,7 @@ module _ (m : Module) where
   return_fits t k more b frames e =
       carried_fits t.returns k t (λ o u. resumed (left u) o) more b e (λ o rest is _. resumed_fits t.callers k o frames is)
 
-  jump_by_fits : (b : Bool) (c : Context) (outer : List Level) (t : Thread) (more : List ValType) → t.loops ≡ b → Rest c t.func t.locals t.returns t.gives t.target t.carries t.loops outer t.callers → types_of_values t.stack ≡ put_type (label_of t.gives t.carries) more → AfterFits m (jump_by b (record t { outer = outer }))
+  jump_by_fits : (b : Bool) (c : Context) (outer : List Level) (t : Thread) (more : List ValType) → t.loops ≡ b → RestOf c (record t { outer = outer }) → types_of_values t.stack ≡ put_type (label_of t.gives t.carries) more → AfterFits m (jump_by b (record t { outer = outer }))
   jump_by_fits true c [] t more loops r es = cc
   jump_by_fits false c [] t more loops r es =
       let u = record t { outer = [] } in
@@ -188,17 +185,17 @@ module _ (m : Module) where
       carried_fits t.carries c.gives u (λ o u'. landed (closed (record u' { stack = [] })) (record u' { stack = [] }) t.target o) more r.3.1 (es ∙ ap (λ g. put_type g more) whole)
       (λ o rest is _. resumed_fits t.callers c.gives o r.4 is)
   jump_by_fits true c (l ∷ ls) t more loops r es =
-      goes c (record t { outer = l ∷ ls; todo = t.target; stack = [] }) r (subst (λ b. TargetFits b c t.gives t.target t.carries l ls) loops r.3.1)
+      goes c (record t { outer = l ∷ ls; todo = t.target; stack = [] }) r (subst (λ b. TargetFits b c (as_opened (here t)) l ls) loops r.3.1)
   jump_by_fits false c (l ∷ ls) t more loops r es =
       let u = record t { outer = l ∷ ls } in
-      let target = subst (λ b. TargetFits b c t.gives t.target t.carries l ls) loops r.3.1 in
+      let target = subst (λ b. TargetFits b c (as_opened (here t)) l ls) loops r.3.1 in
       carried_fits t.carries (label_of t.gives t.carries) u (λ o u'. landed (closed (record u' { stack = [] })) (record u' { stack = [] }) t.target o) more r.3.0 es
       (λ o rest is _. with_result_fits c (label_of t.gives t.carries) o (record t { gives = l.gives; todo = t.target; stack = l.stack; target = l.target; carries = l.carries; loops = l.loops; outer = ls }) (r.0, r.1, r.2, r.3.3, r.4) target is)
 
-  jump_fits : (c : Context) (outer : List Level) (t : Thread) (more : List ValType) → Rest c t.func t.locals t.returns t.gives t.target t.carries t.loops outer t.callers → types_of_values t.stack ≡ put_type (label_of t.gives t.carries) more → AfterFits m (jump (record t { outer = outer }))
+  jump_fits : (c : Context) (outer : List Level) (t : Thread) (more : List ValType) → RestOf c (record t { outer = outer }) → types_of_values t.stack ≡ put_type (label_of t.gives t.carries) more → AfterFits m (jump (record t { outer = outer }))
   jump_fits c outer t more r es = jump_by_fits t.loops c outer t more refl r es
 
-  pub branch_fits : (c : Context) (n : ℕ) (outer : List Level) (t : Thread) (label : Option ValType) (more : List ValType) → Rest c t.func t.locals t.returns t.gives t.target t.carries t.loops outer t.callers → slice_get (label_of t.gives t.carries ∷ labels_of outer) n ≡ Some label → types_of_values t.stack ≡ put_type label more → AfterFits m (branch n (record t { outer = outer }))
+  pub branch_fits : (c : Context) (n : ℕ) (outer : List Level) (t : Thread) (label : Option ValType) (more : List ValType) → RestOf c (record t { outer = outer }) → slice_get (label_of t.gives t.carries ∷ labels_of outer) n ≡ Some label → types_of_values t.stack ≡ put_type label more → AfterFits m (branch n (record t { outer = outer }))
   branch_fits c zero outer t label more r at es =
       let same : label ≡ label_of t.gives t.carries = cc in
       jump_fits c outer t more r (subst (λ x. types_of_values t.stack ≡ put_type x more) same es)
@@ -209,7 +206,7 @@ module _ (m : Module) where
       at
       (map-append type_of_value t.stack l.stack ∙ ap (λ ks. ks ++ types_of_values l.stack) es ∙ put_type-append label more (types_of_values l.stack))
 
-  end_fits : (c : Context) (outer : List Level) (t : Thread) → Rest c t.func t.locals t.returns t.gives t.target t.carries t.loops outer t.callers → types_of_values t.stack ≡ put_type t.gives [] → AfterFits m (at_end (closed_to outer t) (record t { outer = outer }))
+  end_fits : (c : Context) (outer : List Level) (t : Thread) → RestOf c (record t { outer = outer }) → types_of_values t.stack ≡ put_type t.gives [] → AfterFits m (at_end (closed_to outer t) (record t { outer = outer }))
   end_fits c [] t r es =
       return_fits (record t { outer = [] }) c.gives [] r.2 r.4 (es ∙ ap (λ g. put_type g []) r.3.0)
   end_fits c (l ∷ ls) t r es =

@@ -18,7 +18,7 @@ use Rattle.wasm_step.specs.Burst.{BurstResult}
 use Rattle.wasm_stack.specs.After.{Halt, Calls, Ends, Traps, Sticks, After, Goes, Stops}
 use Rattle.wasm_stack.specs.Control.{with_result}
 use Rattle.wasm_step.specs.Strand.{IsResult, library_result}
-use Rattle.wasm_stack.specs.Thread.{Level, Frame, Thread, here}
+use Rattle.wasm_stack.specs.Thread.{Level, Opened, as_opened, Frame, Thread, here}
 
 -- operands of these types and no others, in code that is reached
 abbrev pub known : List ValType → BlockStack
@@ -45,19 +45,19 @@ pub record Leaves (c : Context) (labels : Labels) (gives : Option ValType) (code
 
 -- Where a branch to a level goes on, in the level around it or at the level's own start, is typed from what
 -- the branch carries.
-abbrev pub TargetFits : Bool → Context → Option ValType → Trees → Bool → Level → List Level → Type 0
-TargetFits false c gives target carries l ls = Leaves c (labels_of (l ∷ ls)) l.gives target (put_type (label_of gives carries) (types_of_values l.stack))
-TargetFits true c gives target carries l ls = Leaves c (label_of gives carries ∷ labels_of (l ∷ ls)) gives target []
+abbrev pub TargetFits : Bool → Context → Opened → Level → List Level → Type 0
+TargetFits false c o l ls = Leaves c (labels_of (l ∷ ls)) l.gives o.target (put_type (label_of o.gives o.carries) (types_of_values l.stack))
+TargetFits true c o l ls = Leaves c (label_of o.gives o.carries ∷ labels_of (l ∷ ls)) o.gives o.target []
 
--- The levels around one with this target: what is left in each is typed from its operands, after the end
+-- The levels around one that was opened so: what is left in each is typed from its operands, after the end
 -- of the level in it and after a branch to that. The outermost leaves the function's result.
-abbrev pub LevelsFit : Context → Option ValType → Trees → Bool → Bool → List Level → Type 0
-LevelsFit c gives target carries loops [] = (gives ≡ c.gives) × (carries ≡ is_some c.gives) × (loops ≡ false)
-LevelsFit c gives target carries loops (l ∷ ls) =
-    (carries ≡ is_some (label_of gives carries))
-    × TargetFits loops c gives target carries l ls
-    × Leaves c (labels_of (l ∷ ls)) l.gives l.todo (put_type gives (types_of_values l.stack))
-    × LevelsFit c l.gives l.target l.carries l.loops ls
+abbrev pub LevelsFit : Context → Opened → List Level → Type 0
+LevelsFit c o [] = (o.gives ≡ c.gives) × (o.carries ≡ is_some c.gives) × (o.loops ≡ false)
+LevelsFit c o (l ∷ ls) =
+    (o.carries ≡ is_some (label_of o.gives o.carries))
+    × TargetFits o.loops c o l ls
+    × Leaves c (labels_of (l ∷ ls)) l.gives l.todo (put_type o.gives (types_of_values l.stack))
+    × LevelsFit c (as_opened l) ls
 
 -- the code of the module's own function f may name this
 pub record IsContext (m : Module) (f : ℕ) (c : Context) : Type 0 where
@@ -73,7 +73,7 @@ pub record FrameFits (m : Module) (waits : Option ValType) (f : Frame) : Type 0 
   pub function : IsContext m f.func context
   pub locals : types_of_values f.locals ≡ context.locals
   pub returns : f.returns ≡ is_some context.gives
-  pub around : LevelsFit context f.here.gives f.here.target f.here.carries f.here.loops f.outer
+  pub around : LevelsFit context (as_opened f.here) f.outer
   pub todo : Leaves context (labels_of (f.here ∷ f.outer)) f.here.gives f.here.todo (put_type waits (types_of_values f.here.stack))
 
 abbrev pub FramesFit : Module → Option ValType → List Frame → Type 0
