@@ -3,13 +3,13 @@ use Rattle.std.proofs.Common.{◌≡◌, ℕ, ◌+◌, ◌-◌, ◌<◌, ◌≤�
 use Rattle.std.proofs.lemmas.List.{append-nil}
 use Rattle.std.specs.Prelude.{IfSome}
 use Rattle.std.specs.List.{flat_map, range_with_len}
-use Rattle.watch_expr.specs.declared.expr.Agg.{Agg}
+use Rattle.expression_text.specs.declared.expr.Agg.{Agg}
 use Rattle.watch_expr.specs.declared.reads.Place.{Place}
 use Rattle.watch_expr.specs.declared.value.tally.Tally.{Tally}
-use Rattle.watch_expr.specs.Expression.{Expression, Over}
+use Rattle.expression_text.specs.Expression.{Expression, Over}
 use Rattle.watch_expr.specs.Reads.{reads_at}
 use Rattle.watch_expr.specs.Value.{Setting, value_at}
-use Rattle.watch_expr.specs.ValueTally.{IsWithin, added_if, empty_tally, total}
+use Rattle.watch_expr.specs.InsideTally.{IsWithin, added_if, empty_tally, total}
 use Rattle.watch_expr.specs.View.{◌>>=◌}
 use Rattle.watch_expr.proofs.ValueTallies.{ending, ending_all, ending_first, ending_none, ending_some, range_next, within_more}
 
