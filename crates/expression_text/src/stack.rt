@@ -9,7 +9,7 @@ use crate::expr::{Agg, Binary, Expr, NodeName, Unary, Width};
 use std::alloc::{AllocError, Global};
 
 /// What a bracket opens.
-#[derive(Clone, Copy, Debug, PartialEq, Eq)]
+#[derive(Clone, Copy)]
 pub(crate) enum Opening {
     Bracket,
     Call(Agg),
@@ -17,7 +17,7 @@ pub(crate) enum Opening {
 }
 
 /// The beginning of an operand.
-#[derive(Clone, Copy, Debug, PartialEq, Eq)]
+#[derive(Clone, Copy)]
 pub(crate) enum Half {
     Dollar,
     At,

@@ -7,7 +7,7 @@ use crate::expr::{Agg, Binary, NodeName, Unary, Width};
 use fri_bytes::Bytes;
 
 /// The word that says which place of a node.
-#[derive(Clone, Copy, Debug, PartialEq, Eq)]
+#[derive(Clone, Copy)]
 pub(crate) enum PlaceWord {
     Load(Width),
     Global,
