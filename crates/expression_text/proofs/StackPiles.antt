@@ -80,7 +80,7 @@ alone_none [] x h = absurd (h refl)
 alone_none (f ∷ fs) x h = alone_pile (pending f) [] fs x
 
 -- what an opening last and a token give
-pub closed_step : (t : List ℕ) (s v u : List PendingOperator) (x y : Expression) (o : Opening) (fs : List Frame) (r : Step) → settle_operators 0 s x ≡ (u, y) → u ≡ Inside o ∷ v → Closes o y t v fs r → GivesStep (close t (settle_operators 0 s x)) (Have s x) fs r
+pub closed_step : (t : List ℕ) (s v u : List PendingOperator) (x y : Expression) (o : Opening) (fs : List Frame) (r : Step) → settle_operators 0 s x ≡ (u, y) → u ≡ Inside o ∷ v → Closes (record { opening = o; inner = y; below = v }) t fs r → GivesStep (close t (settle_operators 0 s x)) (Have s x) fs r
 closed_step t s v u x y o fs (stepped.Next m) e top h =
     ap (close t) (e ∙ ap (λ (w : List PendingOperator). (w, y)) top) ∙ rw h.0 (ap (λ (st : MachineState). Some st) (sym h.1))
 closed_step t s v u x y o fs (stepped.Refused m) e top h =

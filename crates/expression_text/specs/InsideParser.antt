@@ -62,7 +62,13 @@ abbrev pub Led : Option MachineState → MachineState → List Frame → Step �
 Led next old frames (stepped.Next m) = next ≡ Some (state frames m)
 Led next old frames (stepped.Refused m) = (next ≡ None) × (state frames m ≡ old)
 
--- what was opened is closed, or stays
-abbrev pub Closes : Opening → Expression → List ℕ → List PendingOperator → List Frame → Step → Type 0
-Closes o x t s frames (stepped.Next m) = (is_closed_with o t ≡ true) × (state frames m ≡ Have s (enclose o x))
-Closes o x t s frames (stepped.Refused m) = (is_closed_with o t ≡ false) × (state frames m ≡ Have (Inside o ∷ s) x)
+-- an opening with the whole expression that stands in it, and what waits below
+pub record Opened : Type 0 where
+  pub opening : Opening
+  pub inner : Expression
+  pub below : List PendingOperator
+
+-- what was opened is closed by the token, or stays
+abbrev pub Closes : Opened → List ℕ → List Frame → Step → Type 0
+Closes o t frames (stepped.Next m) = (is_closed_with o.opening t ≡ true) × (state frames m ≡ Have o.below (enclose o.opening o.inner))
+Closes o t frames (stepped.Refused m) = (is_closed_with o.opening t ≡ false) × (state frames m ≡ Have (Inside o.opening ∷ o.below) o.inner)

@@ -295,7 +295,8 @@ fn closed(
     opening: Opening,
     text: &[u8],
 ) -> Result<Step, AllocError>
-    ensures { IfOk result (λ s. Closes opening (expression_of inner) text.now (pile [] frames.old.items) frames.new.items s) }
+    ensures { IfOk result (λ s. Closes (record { opening = opening; inner = expression_of inner; below = pile [] frames.old.items })
+        text.now frames.new.items s) }
 {
     if !is_closed_by(opening, text) {
         frames.push(Frame::Inside(opening))?;
