@@ -14,8 +14,10 @@ mod steps;
 mod value;
 mod view;
 
-pub use expression_text::{Agg, Binary, Expr, ExprError, Faults, MOST_NUMBER, NodeName, Tokens, Unary, Width};
-pub use expression_text::{find_faults, find_name, is_blank, is_word, lex, parse};
+pub use expression_text::{
+    Agg, Binary, Expr, ExprError, Faults, MOST_NUMBER, NodeName, Tokens, Unary, Width, find_faults,
+    find_name, is_blank, is_word, lex, parse,
+};
 pub use reads::{Place, Reading, eval_reads};
 pub use steps::Steps;
 pub use value::eval;
