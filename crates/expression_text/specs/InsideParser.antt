@@ -63,12 +63,12 @@ Led next old frames (stepped.Next m) = next ≡ Some (state frames m)
 Led next old frames (stepped.Refused m) = (next ≡ None) × (state frames m ≡ old)
 
 -- an opening with the whole expression that stands in it, and what waits below
-pub record Opened : Type 0 where
+pub record Enclosure : Type 0 where
   pub opening : Opening
   pub inner : Expression
   pub below : List PendingOperator
 
 -- what was opened is closed by the token, or stays
-abbrev pub Closes : Opened → List ℕ → List Frame → Step → Type 0
+abbrev pub Closes : Enclosure → List ℕ → List Frame → Step → Type 0
 Closes o t frames (stepped.Next m) = (is_closed_with o.opening t ≡ true) × (state frames m ≡ Have o.below (enclose o.opening o.inner))
 Closes o t frames (stepped.Refused m) = (is_closed_with o.opening t ≡ false) × (state frames m ≡ Have (Inside o.opening ∷ o.below) o.inner)
