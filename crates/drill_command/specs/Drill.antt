@@ -11,9 +11,9 @@ use Rattle.proc_replay.specs.Replaying.{Replaying}
 use Rattle.group_state.specs.Place.{events}
 use Rattle.group_record.specs.Answer.{first_states_from}
 use Rattle.group_record.specs.Run.{GroupStart, Progress, Step, head_of_log, log_of, run}
-use Rattle.watch_expr.specs.declared.expr.Agg.TheVariants.{Sum}
-use Rattle.watch_expr.specs.declared.expr.NodeName.TheVariants.{Each}
-use Rattle.watch_expr.specs.declared.expr.Width.TheVariants.{I64}
+use Rattle.expression_text.specs.declared.expr.Agg.TheVariants.{Sum}
+use Rattle.expression_text.specs.declared.expr.NodeName.TheVariants.{Each}
+use Rattle.expression_text.specs.declared.expr.Width.TheVariants.{I64}
 use Rattle.watch_expr.specs.Expression.{Expression, Number, Over, Load}
 use Rattle.embed_cmds.specs.Running.{value_word}
 use Rattle.shell_points.specs.Firing.{fires, value_at_position}

@@ -1,7 +1,7 @@
 -- What may be wrong with a choice.
 use Rattle.std.proofs.Common.{◌≡◌, ◌||◌, Bool, false, ap, ◌∙◌, sym}
 use Rattle.std.specs.Global.{Vec}
-use Rattle.watch_expr.specs.declared.expr.Expr.{Expr}
+use Rattle.expression_text.specs.declared.expr.Expr.{Expr}
 use Rattle.watch_expr.specs.Faulty.{is_nested, lacks_node}
 use Rattle.watch_expr.specs.Expression.{expression_of}
 use Rattle.embed_cmds.specs.declared.program.Stmt.{Stmt}

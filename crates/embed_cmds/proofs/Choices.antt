@@ -3,7 +3,7 @@ use Rattle.std.proofs.Common.{◌≡◌, List, Bool, true, false, cond, ap, sym,
 use Rattle.std.specs.Global.{Vec}
 use Rattle.watch_expr.specs.Expression.{expression_of}
 use Rattle.watch_expr.specs.View.{Node}
-use Rattle.watch_expr.specs.declared.expr.Expr.{Expr}
+use Rattle.expression_text.specs.declared.expr.Expr.{Expr}
 use Rattle.embed_cmds.proofs.MentionOrder.{mention_all_append}
 use Rattle.embed_cmds.specs.Faulty.{set_by, set_names}
 use Rattle.embed_cmds.specs.Running.{ProgramState, after_statement, after_statements, is_nonzero, value_in}

@@ -2,7 +2,7 @@
 use Rattle.std.proofs.Common.{◌≡◌, ◌+◌, ◌*◌, ◌<◌, List, max, arith, ap}
 use Rattle.std.specs.Global.{Vec}
 use denote.Param.Weighed.{most}
-use Rattle.watch_expr.specs.declared.expr.Expr.{Expr}
+use Rattle.expression_text.specs.declared.expr.Expr.{Expr}
 use Rattle.embed_cmds.proofs.program.Stmt.TheLaws.{the_size}
 use Rattle.embed_cmds.specs.declared.program.Stmt.{Stmt}
 use Rattle.embed_cmds.specs.declared.program.Stmt.TheVariants as stmt

@@ -2,8 +2,8 @@
 use Rattle.std.proofs.Common.{◌≡◌, ℕ, zero, suc, ◌+◌, ◌<◌, ◌≤◌, if◌then◌else◌, Bool, true, false, List, [], ◌∷◌, ◌++◌, length, drop, map, Ok, Err, refl, sym, ap, ◌∙◌, arith, subst, append_assoc, length-drop}
 use Rattle.std.proofs.lemmas.List.{map-append}
 use Rattle.std.specs.Result.{is_ok}
-use Rattle.watch_expr.specs.declared.error.ExprError.{ExprError}
-use Rattle.watch_expr.specs.declared.error.ExprError.TheVariants.{Syntax, NoNode, TooDeep, Nested, NoMemory}
+use Rattle.expression_text.specs.declared.error.ExprError.{ExprError}
+use Rattle.expression_text.specs.declared.error.ExprError.TheVariants.{Syntax, NoNode, TooDeep, Nested, NoMemory}
 use Rattle.watch_expr.specs.Lexing.{Lexed}
 use Rattle.embed_cmds.specs.Parsing.{ReadAs}
 use Rattle.embed_cmds.specs.Reading.{Left, Read, after_token, separated, separated_in, then_more, then_reads}

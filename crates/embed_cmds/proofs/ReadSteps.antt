@@ -2,12 +2,12 @@
 use Rattle.std.proofs.Common.{◌≡◌, ℕ, suc, zero, ◌+◌, ◌-◌, List, [], ◌∷◌, codes, drop, map, slice_get, Option, Some, None, Result, Ok, Err, Bool, true, if◌then◌else◌, refl, sym, ap, ◌∙◌, arith}
 use Rattle.std.specs.Global.{Vec}
 use Rattle.std.specs.Option.{option_and_then}
-use Rattle.watch_expr.specs.declared.error.ExprError.{ExprError}
-use Rattle.watch_expr.specs.declared.error.ExprError.TheVariants.{Syntax, NoNode, TooDeep, Nested, NoMemory}
+use Rattle.expression_text.specs.declared.error.ExprError.{ExprError}
+use Rattle.expression_text.specs.declared.error.ExprError.TheVariants.{Syntax, NoNode, TooDeep, Nested, NoMemory}
 use Rattle.watch_expr.specs.Computed.{expression_spelled}
 use Rattle.watch_expr.specs.Lexing.{Lexed, texts}
 use Rattle.watch_expr.specs.Expression.{Expression, expression_of}
-use Rattle.watch_expr.specs.declared.expr.Expr.{Expr}
+use Rattle.expression_text.specs.declared.expr.Expr.{Expr}
 use Rattle.std.specs.Result.{is_ok}
 use Rattle.embed_cmds.specs.declared.program.Stmt.TheVariants as stmt
 use Rattle.embed_cmds.specs.TreeLaws.{statement_of-if}

@@ -1,7 +1,7 @@
 -- What a program is refused for, as part of a command.
 use Rattle.std.proofs.Common.{◌≡◌, ℕ, ◌-◌, List, length, Result, Ok, Err, ap, subst, sym}
-use Rattle.watch_expr.specs.declared.error.ExprError.{ExprError}
-use Rattle.watch_expr.specs.declared.error.ExprError.TheVariants.{Syntax, NoNode, TooDeep, Nested, NoMemory}
+use Rattle.expression_text.specs.declared.error.ExprError.{ExprError}
+use Rattle.expression_text.specs.declared.error.ExprError.TheVariants.{Syntax, NoNode, TooDeep, Nested, NoMemory}
 use Rattle.watch_expr.specs.Lexing.{Lexed, texts}
 use Rattle.embed_cmds.specs.Parsing.{ParsedProgram}
 use Rattle.embed_cmds.specs.Tree.{Statements}

@@ -11,7 +11,7 @@ use Rattle.group_state.specs.Place.{GroupPlace}
 use Rattle.group_state.specs.Seen.{nodes_at}
 use Rattle.group_state.specs.Touch.{is_met, mark, ticks, is_touched_at}
 use Rattle.watch_expr.specs.declared.reads.Place.{Place as Location}
-use Rattle.watch_expr.specs.declared.expr.Expr.{Expr}
+use Rattle.expression_text.specs.declared.expr.Expr.{Expr}
 use Rattle.watch_expr.specs.Expression.{Expression, expression_of}
 use Rattle.watch_expr.specs.Reads.{no_variables, reads}
 use Rattle.watch_expr.specs.Value.{value}

@@ -6,7 +6,7 @@ use Rattle.std.specs.List.{flat_map, list_all, range_with_len}
 use Rattle.guest_memory.specs.Memory.{is_inside}
 use Rattle.watch_expr.specs.declared.reads.Place.{Place}
 use Rattle.watch_expr.specs.declared.reads.Place.TheVariants as place
-use Rattle.watch_expr.specs.Expression.{Clock, Events, Expression, Global, Load, Number, One, Over, Size, Two, Var}
+use Rattle.expression_text.specs.Expression.{Clock, Events, Expression, Global, Load, Number, One, Over, Size, Two, Var}
 use Rattle.watch_expr.specs.Reads.{ReadsLow, at_node, evaluates_right, is_low, load_places, no_variables, reads_at}
 use Rattle.watch_expr.specs.Value.{Setting, byte_count, resolved_node, setting, value_at}
 use Rattle.watch_expr.specs.View.{Node}

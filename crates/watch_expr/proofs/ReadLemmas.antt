@@ -7,10 +7,10 @@ use Rattle.std.proofs.lemmas.Option.{same_Some}
 use Rattle.std.specs.Prelude.{◌^◌, is_none, nat_eq, nat_le, nat_lt, option_map, slice_get}
 use Rattle.std.specs.List.{AllByRecursion, flat_map, range_with_len}
 use Rattle.guest_memory.specs.Memory.{IsMemory, Memory, bytes_from, size_of}
-use Rattle.watch_expr.specs.declared.expr.Binary.{Binary}
-use Rattle.watch_expr.specs.declared.expr.Width.{Width}
-use Rattle.watch_expr.specs.declared.expr.Width.TheVariants as width
-use Rattle.watch_expr.specs.Expression.{Clock, Events, Expression, Global, Load, Number, One, Over, Size, Two, Var}
+use Rattle.expression_text.specs.declared.expr.Binary.{Binary}
+use Rattle.expression_text.specs.declared.expr.Width.{Width}
+use Rattle.expression_text.specs.declared.expr.Width.TheVariants as width
+use Rattle.expression_text.specs.Expression.{Clock, Events, Expression, Global, Load, Number, One, Over, Size, Two, Var}
 use Rattle.watch_expr.specs.declared.reads.Place.{Place}
 use Rattle.watch_expr.specs.declared.reads.Place.TheVariants as place
 use Rattle.watch_expr.specs.Reads.{AreMemories, ReadsTell, SameAt, SamePage, at_node, evaluates_right, load_places, no_variables, pages_of, reads_at, two_pages}

@@ -3,13 +3,13 @@ use Rattle.std.proofs.Common.{◌≡◌, ℕ, ◌+◌, ◌-◌, ◌<◌, ◌≤�
 use Rattle.std.proofs.lemmas.List.{append-nil}
 use Rattle.std.specs.Prelude.{IfSome}
 use Rattle.std.specs.List.{flat_map, range_with_len}
-use Rattle.watch_expr.specs.declared.expr.Agg.{Agg}
+use Rattle.expression_text.specs.declared.expr.Agg.{Agg}
 use Rattle.watch_expr.specs.declared.reads.Place.{Place}
 use Rattle.watch_expr.specs.declared.value.tally.Tally.{Tally}
-use Rattle.watch_expr.specs.Expression.{Expression, Over}
+use Rattle.expression_text.specs.Expression.{Expression, Over}
 use Rattle.watch_expr.specs.Reads.{reads_at}
 use Rattle.watch_expr.specs.Value.{Setting, value_at}
-use Rattle.watch_expr.specs.ValueTally.{IsWithin, added_if, empty_tally, total}
+use Rattle.watch_expr.specs.InsideTally.{IsWithin, added_if, empty_tally, total}
 use Rattle.watch_expr.specs.View.{◌>>=◌}
 use Rattle.watch_expr.proofs.ValueTallies.{ending, ending_all, ending_first, ending_none, ending_some, range_next, within_more}
 
@@ -22,11 +22,19 @@ ending_if s x (Some tally) k n = ending s x tally k n
 abbrev places_from : Setting → Expression → ℕ → ℕ → List Place
 places_from s x k n = flat_map (λ node. reads_at s (Some node) x) (range_with_len k (n - k))
 
--- the tally and the places at node k come to those of the aggregate
-pub record IsReadOnTheWay (s : Setting) (x : Expression) (first tally : Option Tally) (before places : List Place) (k : ℕ) : Type 0 where
-  pub within : IfSome tally (λ t. IsWithin t k)
-  pub so_far : ending_if s x tally k (length s.nodes) ≡ ending_if s x first 0 (length s.nodes)
-  pub read : places ++ places_from s x k (length s.nodes) ≡ before ++ places_from s x 0 (length s.nodes)
+-- what an aggregate has come to at some node: its tally, and the places that were read
+pub record ReadSoFar : Type 0 where
+  pub tally : Option Tally
+  pub places : List Place
+
+abbrev pub so_far : Option Tally → List Place → ReadSoFar
+so_far tally places = record { tally = tally; places = places }
+
+-- what was come to at node k comes to what the aggregate is and reads
+pub record IsReadOnTheWay (s : Setting) (x : Expression) (first now : ReadSoFar) (k : ℕ) : Type 0 where
+  pub within : IfSome now.tally (λ t. IsWithin t k)
+  pub values : ending_if s x now.tally k (length s.nodes) ≡ ending_if s x first.tally 0 (length s.nodes)
+  pub read : now.places ++ places_from s x k (length s.nodes) ≡ first.places ++ places_from s x 0 (length s.nodes)
 
 ending_next : (s : Setting) (x : Expression) (tally : Option Tally) (k n : ℕ) (o : Option ℤ) → k < n → value_at s (Some k) x ≡ o
     → ending_if s x (added_if tally o) (k + 1) n ≡ ending_if s x tally k n
@@ -44,37 +52,38 @@ places_next : (s : Setting) (x : Expression) (k n : ℕ) → k < n → places_fr
 places_next s x k n lt = ap (flat_map (λ node. reads_at s (Some node) x)) (range_next k n lt)
 
 pub reads_on : (s : Setting) (x y : Expression) (first tally next : Option Tally) (before places after : List Place) (k : ℕ) (o : Option ℤ)
-    → IsReadOnTheWay s x first tally before places k → k < length s.nodes → IfSome o (FitsSigned w64) → y ≡ x → o ≡ value_at s (Some k) y
+    → IsReadOnTheWay s x (so_far first before) (so_far tally places) k → k < length s.nodes → IfSome o (FitsSigned w64) → y ≡ x → o ≡ value_at s (Some k) y
     → after ≡ places ++ reads_at s (Some k) y → next ≡ added_if tally o
-    → IsReadOnTheWay s x first next before after (k + 1)
+    → IsReadOnTheWay s x (so_far first before) (so_far next after) (k + 1)
 reads_on s x y first tally next before places after k o way lt fits at is reads adds =
     let here : value_at s (Some k) x ≡ o = ap (value_at s (Some k)) (sym at) ∙ sym is in
     let read : after ≡ places ++ reads_at s (Some k) x = reads ∙ ap (λ (t : Expression). places ++ reads_at s (Some k) t) at in
     let rest = places_from s x (k + 1) (length s.nodes) in
     record {
       within = rw adds (within_next tally k o fits way.within);
-      so_far = ap (λ (t : Option Tally). ending_if s x t (k + 1) (length s.nodes)) adds ∙ ending_next s x tally k (length s.nodes) o lt here ∙ way.so_far;
+      values = ap (λ (t : Option Tally). ending_if s x t (k + 1) (length s.nodes)) adds ∙ ending_next s x tally k (length s.nodes) o lt here ∙ way.values;
       read =
           ap (λ (l : List Place). l ++ rest) read ∙ append_assoc places (reads_at s (Some k) x) rest
           ∙ ap (λ (l : List Place). places ++ l) (sym (places_next s x k (length s.nodes) lt)) ∙ way.read;
     }
 
-pub record IsReadWhole (s : Setting) (x : Expression) (a : Agg) (each : Option ℕ) (tally : Option Tally) (before places : List Place) : Type 0 where
-  pub value : (tally >>= total) ≡ value_at s each (Over a x)
-  pub read : places ≡ before ++ reads_at s each (Over a x)
+-- what was come to at the end is the value of the aggregate x, and what it reads after the places of before
+pub record IsReadWhole (s : Setting) (x : Expression) (each : Option ℕ) (before : List Place) (now : ReadSoFar) : Type 0 where
+  pub value : (now.tally >>= total) ≡ value_at s each x
+  pub read : now.places ≡ before ++ reads_at s each x
 
 total_if : (s : Setting) (x : Expression) (tally : Option Tally) (k n : ℕ) → n ≤ k → ending_if s x tally k n ≡ (tally >>= total)
 total_if s x None k n le = refl
 total_if s x (Some t) k n le = ending_all s x t k n le
 
 pub reads_whole : (s : Setting) (x : Expression) (a : Agg) (each : Option ℕ) (first tally : Option Tally) (before places : List Place) (k : ℕ)
-    → first ≡ Some (empty_tally a) → IsReadOnTheWay s x first tally before places k → length s.nodes ≤ k → IsReadWhole s x a each tally before places
+    → first ≡ Some (empty_tally a) → IsReadOnTheWay s x (so_far first before) (so_far tally places) k → length s.nodes ≤ k → IsReadWhole s (Over a x) each before (so_far tally places)
 reads_whole s x a each first tally before places k begins way le =
     let none : length s.nodes - k ≡ 0 = omega arith in
     let all : length s.nodes - 0 ≡ length s.nodes = omega arith in
     record {
       value =
-          sym (total_if s x tally k (length s.nodes) le) ∙ way.so_far
+          sym (total_if s x tally k (length s.nodes) le) ∙ way.values
           ∙ ap (λ (t : Option Tally). ending_if s x t 0 (length s.nodes)) begins ∙ ending_first s x a each;
       read =
           sym (append-nil places)

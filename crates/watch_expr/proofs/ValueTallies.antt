@@ -4,13 +4,13 @@ use Rattle.std.proofs.lemmas.Int.{ints, to_z-of_z}
 use Rattle.std.specs.Prelude.{not}
 use Rattle.std.specs.Int.{int_max, int_min}
 use Rattle.std.specs.List.{range_with_len}
-use Rattle.watch_expr.specs.declared.expr.Agg.{Agg}
-use Rattle.watch_expr.specs.declared.expr.Agg.TheVariants as agg
+use Rattle.expression_text.specs.declared.expr.Agg.{Agg}
+use Rattle.expression_text.specs.declared.expr.Agg.TheVariants as agg
 use Rattle.watch_expr.specs.declared.value.tally.Tally.{Tally}
 use Rattle.watch_expr.specs.declared.value.tally.Tally.TheVariants.{Sum, Min, Max, Count}
-use Rattle.watch_expr.specs.Expression.{Expression, Over}
+use Rattle.expression_text.specs.Expression.{Expression, Over}
 use Rattle.watch_expr.specs.Value.{Setting, all_numbers, is_zero, over, value_at}
-use Rattle.watch_expr.specs.ValueTally.{IsWithin, added, empty_tally, total}
+use Rattle.watch_expr.specs.InsideTally.{IsWithin, added, empty_tally, total}
 use Rattle.watch_expr.specs.View.{◌>>=◌}
 
 -- ---- a whole list of values

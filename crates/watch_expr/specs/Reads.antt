@@ -2,11 +2,11 @@
 use Rattle.std.specs.Prelude.{◌≡◌, ℕ, ◌+◌, ◌-◌, ◌*◌, ◌/◌, ◌^◌, ◌≤◌, ◌==◌, Bool, true, false, not, nat_lt, is_none, List, [], ◌∷◌, ◌++◌, length, slice_get, Option, Some, None, if◌then◌else◌, ℤ, pos, negsuc}
 use Rattle.std.specs.List.{AllByRecursion, flat_map, list_all, range_with_len}
 use Rattle.guest_memory.specs.Memory.{Memory, IsMemory, bytes_from, is_inside}
-use Rattle.watch_expr.specs.declared.expr.Binary.{Binary}
-use Rattle.watch_expr.specs.declared.expr.Binary.TheVariants as binary
+use Rattle.expression_text.specs.declared.expr.Binary.{Binary}
+use Rattle.expression_text.specs.declared.expr.Binary.TheVariants as binary
 use Rattle.watch_expr.specs.declared.reads.Place.{Place}
 use Rattle.watch_expr.specs.declared.reads.Place.TheVariants as place
-use Rattle.watch_expr.specs.Expression.{Expression, Number, Var, One, Two, Over, Load, Global, Clock, Events, Size}
+use Rattle.expression_text.specs.Expression.{Expression, Number, Var, One, Two, Over, Load, Global, Clock, Events, Size}
 use Rattle.watch_expr.specs.Value.{Setting, byte_count, decided, resolved_node, setting, value, value_at}
 use Rattle.watch_expr.specs.View.{Node, node_clock, events_at, global_at, size_at}
 

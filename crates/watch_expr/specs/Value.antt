@@ -3,17 +3,17 @@ use Rattle.std.specs.Prelude.{ℕ, ◌+◌, ◌^◌, List, [], ◌∷◌, length
 use Rattle.std.specs.Int.{w8, w16, w32, w64, int_max, int_min, cast_signed}
 use Rattle.std.specs.List.{range_with_len, reduce}
 use Rattle.guest_memory.specs.LittleEndian.{little_endian}
-use Rattle.watch_expr.specs.declared.expr.Agg.{Agg}
-use Rattle.watch_expr.specs.declared.expr.Agg.TheVariants as agg
-use Rattle.watch_expr.specs.declared.expr.Binary.{Binary}
-use Rattle.watch_expr.specs.declared.expr.Binary.TheVariants as binary
-use Rattle.watch_expr.specs.declared.expr.NodeName.{NodeName}
-use Rattle.watch_expr.specs.declared.expr.NodeName.TheVariants.{Named, Each}
-use Rattle.watch_expr.specs.declared.expr.Unary.{Unary}
-use Rattle.watch_expr.specs.declared.expr.Unary.TheVariants as unary
-use Rattle.watch_expr.specs.declared.expr.Width.{Width}
-use Rattle.watch_expr.specs.declared.expr.Width.TheVariants as width
-use Rattle.watch_expr.specs.Expression.{Expression, Number, Var, One, Two, Over, Load, Global, Clock, Events, Size}
+use Rattle.expression_text.specs.declared.expr.Agg.{Agg}
+use Rattle.expression_text.specs.declared.expr.Agg.TheVariants as agg
+use Rattle.expression_text.specs.declared.expr.Binary.{Binary}
+use Rattle.expression_text.specs.declared.expr.Binary.TheVariants as binary
+use Rattle.expression_text.specs.declared.expr.NodeName.{NodeName}
+use Rattle.expression_text.specs.declared.expr.NodeName.TheVariants.{Named, Each}
+use Rattle.expression_text.specs.declared.expr.Unary.{Unary}
+use Rattle.expression_text.specs.declared.expr.Unary.TheVariants as unary
+use Rattle.expression_text.specs.declared.expr.Width.{Width}
+use Rattle.expression_text.specs.declared.expr.Width.TheVariants as width
+use Rattle.expression_text.specs.Expression.{Expression, Number, Var, One, Two, Over, Load, Global, Clock, Events, Size}
 use Rattle.watch_expr.specs.View.{Node, ◌>>=◌, node_clock, events_at, global_at, bytes_of_node, size_at}
 
 -- what an expression is about: the states of the nodes, and the variables by their names, None for undef

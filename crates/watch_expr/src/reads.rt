@@ -1,13 +1,12 @@
 // The value of an expression together with what it is read from.
 ghost use Rattle.std.specs.Prelude.{◌≡◌, ◌+◌, ◌++◌, IfOk, OnOk, option_and_then};
-ghost use Rattle.watch_expr.specs.Expression.{expression_of};
+ghost use Rattle.expression_text.specs.Expression.{expression_of};
 ghost use Rattle.watch_expr.specs.Reads.{no_variables, reads, reads_at};
 ghost use Rattle.watch_expr.specs.Value.{setting, value, value_at};
 
 mod leaves;
 mod operands;
 
-use crate::expr::Expr;
 use crate::reads::leaves::{push_global, push_load, push_motion, push_size};
 use crate::reads::operands::{add_if, evaluates_right, load_of, one_of, total_of, two_of};
 use crate::steps::Steps;
@@ -16,6 +15,7 @@ use crate::value::operators::number;
 use crate::value::places::{clock, events, global, node_of, size};
 use crate::value::tally::Tally;
 use crate::view::View;
+use expression_text::Expr;
 use std::alloc::{AllocError, Global};
 use std::sync::ledger::Ledger;
 

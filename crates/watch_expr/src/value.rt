@@ -1,6 +1,6 @@
 // The value of an expression.
 ghost use Rattle.std.specs.Prelude.{◌≡◌};
-ghost use Rattle.watch_expr.specs.Expression.{expression_of};
+ghost use Rattle.expression_text.specs.Expression.{expression_of};
 ghost use Rattle.watch_expr.specs.Value.{setting, value, value_at};
 
 pub(crate) mod loads;
@@ -8,12 +8,12 @@ pub(crate) mod operators;
 pub(crate) mod places;
 pub(crate) mod tally;
 
-use crate::expr::Expr;
 use crate::value::loads::load;
 use crate::value::operators::{decided, number, one, two};
 use crate::value::places::{clock, events, global, node_of, size};
 use crate::value::tally::Tally;
 use crate::view::{Scope, View};
+use expression_text::Expr;
 
 /// The value of an expression over the nodes of the view and the variables of the scope; `None` stands
 /// for undef. It takes no memory.

@@ -2,13 +2,13 @@
 ghost use Rattle.std.specs.Prelude.{◌≡◌, option_and_then, IfSome};
 ghost use Rattle.watch_expr.specs.Reads.{evaluates_right};
 ghost use Rattle.watch_expr.specs.Value.{decided, loaded_at, one, with_right};
-ghost use Rattle.watch_expr.specs.ValueTally.{HasRoom, added_if, total};
+ghost use Rattle.watch_expr.specs.InsideTally.{HasRoom, added_if, total};
 
-use crate::expr::{Binary, Unary, Width};
 use crate::value::loads::load;
 use crate::value::operators::{decided, one, two};
 use crate::value::tally::Tally;
 use crate::view::View;
+use expression_text::{Binary, Unary, Width};
 
 pub(crate) fn one_of(op: Unary, a: Option<i64>) -> Option<i64>
     ensures { result ≡ option_and_then (one op) a }

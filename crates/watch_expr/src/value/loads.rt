@@ -4,9 +4,9 @@ ghost use Rattle.guest_memory.specs.Memory.{put_piece};
 ghost use Rattle.watch_expr.specs.Value.{byte_count, loaded_at, value_of_bytes};
 ghost use Rattle.watch_expr.specs.View.{bytes_of_node};
 
-use crate::expr::Width;
 use crate::value::places::within;
 use crate::view::View;
+use expression_text::Width;
 
 pub(crate) fn load<V: View>(v: &V, node: Option<u32>, width: Width, addr: i64) -> Option<i64>
     ensures { result ≡ option_and_then (λ k. loaded_at (V.nodes v.now) k width addr) node }

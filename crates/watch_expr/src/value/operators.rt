@@ -2,7 +2,7 @@
 ghost use Rattle.std.specs.Prelude.{◌≡◌, pos};
 ghost use Rattle.watch_expr.specs.Value.{decided, fit, is_zero, one, truth_value, two};
 
-use crate::expr::{Binary, Unary};
+use expression_text::{Binary, Unary};
 
 pub(crate) fn number(n: u64) -> Option<i64>
     ensures { result ≡ fit (pos n) }

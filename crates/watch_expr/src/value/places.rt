@@ -3,8 +3,8 @@ ghost use Rattle.std.specs.Prelude.{◌≡◌, ◌<◌, None, Some, pos, length,
 ghost use Rattle.watch_expr.specs.Value.{global_value, resolved_node};
 ghost use Rattle.watch_expr.specs.View.{node_clock, events_at, size_at};
 
-use crate::expr::NodeName;
 use crate::view::View;
+use expression_text::NodeName;
 
 // The node with this name, where `each` is the node of the aggregate around it.
 pub(crate) fn node_of(each: Option<u32>, name: NodeName) -> Option<u32>

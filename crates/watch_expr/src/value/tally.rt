@@ -1,10 +1,10 @@
 // What an aggregate has made of the values at the nodes so far.
 ghost use Rattle.std.specs.Prelude.{◌≡◌};
 ghost use Rattle.std.specs.Int.{int_max, int_min};
-ghost use Rattle.watch_expr.specs.ValueTally.{HasRoom, added, best, empty_tally, total};
+ghost use Rattle.watch_expr.specs.InsideTally.{HasRoom, added, best, empty_tally, total};
 
-use crate::expr::Agg;
 use crate::value::operators::is_zero;
+use expression_text::Agg;
 
 // The sum is exact: 128 bits hold that of as many values as there can be nodes.
 #[derive(Clone, Copy)]

@@ -1,7 +1,7 @@
 use Rattle.std.proofs.Common.{rules, ◌<◌, ◌≤◌, length, sym, ap, ◌∙◌, arith, Some, FitsSigned, w64}
 use Rattle.std.specs.Prelude.{IfSome}
-use Rattle.watch_expr.specs.declared.expr.Expr.{Expr}
-use Rattle.watch_expr.specs.Expression.{expression_of}
+use Rattle.expression_text.specs.declared.expr.Expr.{Expr}
+use Rattle.expression_text.specs.Expression.{expression_of}
 use Rattle.watch_expr.specs.Reads.{no_variables}
 use Rattle.watch_expr.specs.Value.{setting, value_at}
 use Rattle.watch_expr.proofs.ReadTallies.{reads_on, reads_whole}

@@ -1,6 +1,6 @@
 use Rattle.std.proofs.Common.{◌≤◌, ◌<◌, length, sym, ap, ◌∙◌, arith, rules, FitsSigned, w64}
-use Rattle.watch_expr.specs.declared.expr.Expr.{Expr}
-use Rattle.watch_expr.specs.Expression.{expression_of}
+use Rattle.expression_text.specs.declared.expr.Expr.{Expr}
+use Rattle.expression_text.specs.Expression.{expression_of}
 use Rattle.watch_expr.specs.Value.{setting, value_at}
 use Rattle.watch_expr.proofs.ValueTallies.{ends_all, ends_none, goes_on}
 use Rattle.watch_expr.proofs.value.+eval.Goals as goal

@@ -1,4 +1,4 @@
-use Rattle.watch_expr.specs.Expression.{expression_of}
+use Rattle.expression_text.specs.Expression.{expression_of}
 use Rattle.watch_expr.specs.Value.{setting}
 use Rattle.watch_expr.proofs.ValueTallies.{IsOnTheWay}
 use Rattle.watch_expr.proofs.value.+eval.Given as goal

@@ -1,0 +1,11 @@
+pub mod ApartLemmas
+pub mod CutLemmas
+pub mod KnownWords
+pub mod LongestToken
+pub mod MachineReads
+pub mod OneCut
+pub mod ParseResults
+pub mod ReadingLemmas
+pub mod SettledOperators
+pub mod StackPiles
+pub mod WordNumbers

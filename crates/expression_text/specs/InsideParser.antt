@@ -1,0 +1,74 @@
+-- What the parser holds: the machine's state that its stack and mode stand for, and what its functions answer.
+use Rattle.std.specs.Prelude.{◌≡◌, ℕ, List, [], ◌∷◌, Option, Some, None, true, false, Result, Ok, Err}
+use Rattle.expression_text.specs.declared.error.ExprError.{ExprError}
+use Rattle.expression_text.specs.declared.error.ExprError.TheVariants.{Syntax, NoNode, TooDeep, Nested, NoMemory}
+use Rattle.expression_text.specs.declared.expr.Expr.{Expr}
+use Rattle.expression_text.specs.declared.stack.Went.{Went as RustWent}
+use Rattle.expression_text.specs.declared.stack.Went.TheVariants as went
+use Rattle.expression_text.specs.declared.stack.Opening.{Opening}
+use Rattle.expression_text.specs.declared.stack.Frame.{Frame}
+use Rattle.expression_text.specs.declared.stack.Frame.TheVariants as frame
+use Rattle.expression_text.specs.declared.stack.Mode.{Mode}
+use Rattle.expression_text.specs.declared.stack.Mode.TheVariants as mode
+use Rattle.expression_text.specs.declared.stack.Step.{Step}
+use Rattle.expression_text.specs.declared.stack.Step.TheVariants as stepped
+use Rattle.expression_text.specs.Expression.{Expression, expression_of}
+use Rattle.expression_text.specs.Lexing.{Lexed, column_at}
+use Rattle.expression_text.specs.Machine.{PendingOperator, Left, Front, Inside, MachineState, Want, Have, Part, Went, More, Whole, Opens, step, whole, is_closed_with, enclose}
+
+abbrev pub pending : Frame → PendingOperator
+pending (frame.Left op x) = Left op (expression_of x)
+pending (frame.Front op) = Front op
+pending (frame.Inside o) = Inside o
+
+abbrev pub went_of : RustWent → Went
+went_of (went.More h) = More h
+went_of (went.Whole x) = Whole (expression_of x)
+went_of (went.Opens o) = Opens o
+
+abbrev pub went_if : Option RustWent → Option Went
+went_if None = None
+went_if (Some w) = Some (went_of w)
+
+-- the last frame comes first
+abbrev pub pile : List PendingOperator → List Frame → List PendingOperator
+pile under [] = under
+pile under (f ∷ fs) = pile (pending f ∷ under) fs
+
+abbrev pub state : List Frame → Mode → MachineState
+state frames mode.Want = Want (pile [] frames)
+state frames (mode.Have x) = Have (pile [] frames) (expression_of x)
+state frames (mode.Part h) = Part (pile [] frames) h
+
+-- the token is taken, or refused in a state that is as whole as it was
+abbrev pub GivesStep : Option MachineState → MachineState → List Frame → Step → Type 0
+GivesStep next old frames (stepped.Next m) = next ≡ Some (state frames m)
+GivesStep next old frames (stepped.Refused m) = (next ≡ None) × (whole (state frames m) ≡ whole old)
+
+abbrev pub TakesToken : List (List ℕ) → MachineState → List ℕ → List Frame → Step → Type 0
+TakesToken names old t frames s = GivesStep (step names old t) old frames s
+
+-- what is answered where all tokens below this one led to the state
+abbrev pub Finishes : Lexed → MachineState → ℕ → Result (Expr × ℕ) ExprError → Type 0
+Finishes line st at (Ok r) = (whole st ≡ Some (expression_of r.0)) × (r.1 ≡ at)
+Finishes line st at (Err (Syntax column)) = (whole st ≡ None) × (column ≡ column_at line at)
+Finishes line st at (Err NoNode) = ⊥
+Finishes line st at (Err TooDeep) = ⊥
+Finishes line st at (Err Nested) = ⊥
+Finishes line st at (Err NoMemory) = Unit {0}
+
+-- the same for what the token gives
+abbrev pub Led : Option MachineState → MachineState → List Frame → Step → Type 0
+Led next old frames (stepped.Next m) = next ≡ Some (state frames m)
+Led next old frames (stepped.Refused m) = (next ≡ None) × (state frames m ≡ old)
+
+-- an opening with the whole expression that stands in it, and what waits below
+pub record Enclosure : Type 0 where
+  pub opening : Opening
+  pub inner : Expression
+  pub below : List PendingOperator
+
+-- what was opened is closed by the token, or stays
+abbrev pub Closes : Enclosure → List ℕ → List Frame → Step → Type 0
+Closes o t frames (stepped.Next m) = (is_closed_with o.opening t ≡ true) × (state frames m ≡ Have o.below (enclose o.opening o.inner))
+Closes o t frames (stepped.Refused m) = (is_closed_with o.opening t ≡ false) × (state frames m ≡ Have (Inside o.opening ∷ o.below) o.inner)

@@ -1,0 +1,11 @@
+pub mod Coding
+pub mod Computed
+pub mod Expression
+pub mod Faulty
+pub mod Front
+pub mod Grammar
+pub mod InsideParser
+pub mod Laws
+pub mod Lexing
+pub mod Machine
+pub mod Spelling

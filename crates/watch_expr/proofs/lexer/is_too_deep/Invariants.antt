@@ -1,9 +1,0 @@
-use Rattle.std.proofs.Common.{◌≡◌, ◌≤◌, map, drop}
-use Rattle.watch_expr.specs.Lexing.{goes_deep}
-use Rattle.watch_expr.proofs.lexer.is_too_deep.Given as goal
-
-abbrev pub invariant-loop-token : goal.invariant-loop-token
-invariant-loop-token l = record {
-  small : l.depth ≤ 64;
-  same : goes_deep l.depth (map (λ t. t.text) (drop l.token-index l.tokens)) ≡ goes_deep 0 (map (λ t. t.text) l.tokens);
-}
