@@ -34,6 +34,7 @@ use Rattle.group_record.specs.declared.error.RecordError.TheVariants as errors
 use Rattle.group_record.specs.declared.member.Member.{Member}
 use Rattle.group_record.specs.declared.recorder.Recorder.{Recorder}
 use Rattle.group_record.specs.Run.{GroupStart, Progress, Step, Had, Did, with_step, with_step_if, after_item, world_around, attempt, can_be_killed, done_by_item, entries, entry_bytes, event_of_try, with_full_log, had, has_sent, head_of_log, history, idled, log_of, is_running_process, size, process_after, spelled_next, unless_full}
+use Rattle.group_record.specs.RunLaws.{after_had}
 use Rattle.group_record.specs.Logs.{logs}
 use Rattle.group_record.specs.Files.{IsStopped, Between, InEntry}
 use Rattle.group_record.specs.Around.{env_of}
@@ -138,7 +139,7 @@ other_member group steps p q e m apart k =
     record {
       state = k.state;
       process = k.process;
-      after = ap (λ b. cond b (Some e.state) (process_after group steps q)) other ∙ k.after;
+      after = after_had group steps p q e ∙ ap (λ b. cond b (Some e.state) (process_after group steps q)) other ∙ k.after;
       events = k.events ∙ ap length (sym same);
       count = k.count;
       log = k.log;
@@ -164,7 +165,7 @@ own_member group steps p thread env m entry k t room =
     record {
       state = t.event.state;
       process = ap (option_map (λ S. next S entry)) k.process ∙ ap (λ e. Some (next k.state e)) t.same ∙ ap Some t.told.same;
-      after = ap (λ b. cond b (Some t.event.state) (process_after group steps p)) here;
+      after = after_had group steps p p t.event ∙ ap (λ b. cond b (Some t.event.state) (process_after group steps p)) here;
       events = t.events ∙ ap (λ n. n + 1) k.events ∙ sym (ap length more ∙ length-append (entries steps p) (t.event.entry ∷ []));
       count = t.count ∙ k.count;
       log = k.log;

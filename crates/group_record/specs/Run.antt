@@ -1,7 +1,8 @@
 -- The run of a schedule: what each item does to a group, from its first states on.
 use Rattle.std.specs.Prelude.{◌≡◌, ℕ, zero, suc, Bool, false, ◌&&◌, ◌==◌, not, is_some, nat_le, List, [], ◌∷◌, ◌++◌, length, drop, map, slice_get, Option, Some, None, option_and_then, if◌then◌else◌}
 use Rattle.std.specs.Int.{w64, cast_unsigned}
-use Rattle.std.specs.List.{slice_index_or}
+use Rattle.std.specs.List.{last_or, slice_index_or}
+use Rattle.std.specs.Option.{option_to_list}
 use Rattle.lib_calls.specs.declared.entry.Entry.{Entry}
 use Rattle.call_log.specs.Entry.{clock_after, encoding, encodings}
 use Rattle.call_log.specs.Head.{Head, head_bytes}
@@ -50,11 +51,13 @@ process_states [] p = []
 process_states (Had q e ∷ steps) p = put_last_if (q == p) (process_states steps p) e.state
 process_states (Did act ∷ steps) p = process_states steps p
 
--- the state of a process after some steps
+-- all states of a process: its first one, where it is of the group, and those after its events
+abbrev pub recorded_states : GroupStart → List Step → ℕ → List State
+recorded_states group steps p = option_to_list (slice_get group.first p) ++ process_states steps p
+
+-- the last of them
 abbrev pub process_after : GroupStart → List Step → ℕ → Option State
-process_after group [] p = slice_get group.first p
-process_after group (Had q e ∷ steps) p = if q == p then Some e.state else process_after group steps p
-process_after group (Did act ∷ steps) p = process_after group steps p
+process_after group steps p = last_or None (recorded_states group steps p)
 
 -- the world around a process after some steps, by counting
 abbrev pub world_around : ℕ → List Step → ℕ → Env

@@ -14,7 +14,7 @@ use Rattle.guest_process.specs.Replay.{accepted, last_state, left_over, reach, r
 use Rattle.guest_process.specs.State.{State}
 use Rattle.proc_replay.specs.Replaying.{Replaying}
 use Rattle.group_record.specs.Logs.{TellsBefore}
-use Rattle.group_record.specs.Run.{GroupStart, Step, entries, head_of_log, process_after, process_states, size}
+use Rattle.group_record.specs.Run.{GroupStart, Step, entries, head_of_log, process_after, process_states, recorded_states, size}
 use Rattle.group_record.specs.Standing.{RunIs, StandsReplayed}
 use Rattle.group_state.specs.Image.{left_memory, left_print}
 use Rattle.group_record.specs.Images.{memory_in}
@@ -22,7 +22,7 @@ use Rattle.group_record.specs.Answer.{end_after}
 use Rattle.group_state.specs.Place.{after_entries}
 use Rattle.group_state.specs.declared.report.ReportLine.{ReportLine}
 use Rattle.group_state.specs.Report.{report_line}
-use Rattle.headline.specs.Shown.{ShowsProcess, recorded_line, recorded_states}
+use Rattle.headline.specs.Shown.{ShowsProcess, recorded_line}
 use Rattle.headline.proofs.RecordedCourse.{states_count}
 
 -- the replay of a log
