@@ -31,7 +31,7 @@ use Rattle.guest_process.specs.Replay.{accepted, reach, reach_then, replayed}
 use Rattle.guest_process.specs.State.{State, thread_at}
 use Rattle.group_world.specs.History.{Act, put_last_if, time}
 use Rattle.group_world.specs.History as world
-use Rattle.group_record.specs.Run.{GroupStart, Step, Had, Did, world_around, entries, log_has_room, head_of_log, history, log_of, name_of_process, size, spelled_next, process_after, process_states}
+use Rattle.group_record.specs.Run.{GroupStart, Step, Had, Did, world_around, entries, log_has_room, head_of_log, history, log_of, name_of_process, size, spelled_next, process_after, process_states, recorded_states}
 use Rattle.group_record.specs.Laws.{Agreement, CutAgreement, IsBegun}
 use Rattle.group_record.specs.Logs.{IsLogOfRun, TellsBefore}
 use Rattle.group_record.specs.Standing.{IsDone, IsHad, IsRun}
@@ -131,11 +131,14 @@ pub record Keeps (group : GroupStart) (p : ℕ) (es : List Entry) (after : List 
 abbrev pub KeepsAfter : GroupStart → List Step → ℕ → Type 0
 KeepsAfter group steps p = Keeps group p (entries steps p) (process_states steps p)
 
--- so it stands in the last of its states
+-- its states are those of the replay
+states_known : (group : GroupStart) (steps : List Step) (p : ℕ) → (k : KeepsAfter group steps p) → recorded_states group steps p ≡ k.first ∷ replays k.first (entries steps p)
+states_known group steps p k =
+    ap (λ (o : Option State). option_to_list o ++ process_states steps p) k.begun ∙ ap (λ (xs : List State). k.first ∷ xs) (sym k.same)
+
+-- so it stands in the last of them
 pub stands_last : (group : GroupStart) (steps : List Step) (p : ℕ) → (k : KeepsAfter group steps p) → process_after group steps p ≡ Some k.last
-stands_last group steps p k =
-    ap (λ (o : Option State). last_or None (option_to_list o ++ process_states steps p)) k.begun
-    ∙ ap (last_or (Some k.first)) (sym k.same) ∙ last_replay k.first (entries steps p) ∙ ap Some k.reached
+stands_last group steps p k = ap (last_or None) (states_known group steps p k) ∙ last_replay k.first (entries steps p) ∙ ap Some k.reached
 
 -- what is known of processes
 pub record Laws : Type 0 where
@@ -287,7 +290,7 @@ log_within group begun (Did act ∷ early) run p within = act_within group early
 
 -- whose bytes after the head hold its entries, and this much of one more
 log_tells : ExactLogs → (group : GroupStart) → IsBegun group → (steps : List Step) (p : ℕ) (bytes left cut : List ℕ) → p < size group → KeepsAfter group steps p → bytes ≡ head_bytes (head_of_log group p) ++ left
-    → Holds (unread_after_head (head_of_log group p) left) (entries steps p) cut → length bytes ≤ most_log → IsLogOfRun group p bytes (entries steps p) (process_states steps p) cut
+    → Holds (unread_after_head (head_of_log group p) left) (entries steps p) cut → length bytes ≤ most_log → IsLogOfRun group steps p bytes cut
 log_tells logs group begun steps p bytes left cut inside k is holds fits =
     let es = entries steps p in
     let held = (logs.all (unread_after_head (head_of_log group p) left) es cut).0 holds in
@@ -301,7 +304,7 @@ log_tells logs group begun steps p bytes left cut inside k is holds fits =
       entries = held.0;
       rest = held.1;
       accepted = k.all;
-      states = λ n S at. state-at es k.first n S (subst (λ (xs : List State). slice_get (k.first ∷ xs) n ≡ Some S) (sym k.same) at);
+      states = λ n S at. state-at es k.first n S (sym (ap (λ (xs : List State). slice_get xs n) (states_known group steps p k)) ∙ at);
     }
 
 pub agrees : ExactLogs → Laws → Agreement

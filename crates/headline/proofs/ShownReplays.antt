@@ -43,13 +43,13 @@ shows group steps cut p run t = record {
   accepted = ap (λ (es : List Entry). take (accepted t.first es) es) t.entries ∙ ap (λ (n : ℕ). take n (entries steps p)) t.accepted ∙ take-length (entries steps p);
   moments = λ n within. moment n within;
 } where
-  course : recorded_states group steps p ≡ t.first ∷ process_states steps p
-  course = ap (λ (o : Option State). option_to_list o ++ process_states steps p) t.begun
+  one_more : length (recorded_states group steps p) ≡ suc (length (process_states steps p))
+  one_more = ap (λ (o : Option State). length (option_to_list o ++ process_states steps p)) t.begun
 
   moment : (n : ℕ) → n ≤ length (entries steps p) → slice_get (recorded_states group steps p) n ≡ Some (after_entries (replay_of group steps cut p t) n)
   moment n within =
-      let some = some_state (t.first ∷ process_states steps p) n (omega (arith, within, states_count group steps p run.steps)) in
-      ap (λ (xs : List State). slice_get xs n) course ∙ some.1
+      let some = some_state (recorded_states group steps p) n (omega (arith, within, one_more, states_count group steps p run.steps)) in
+      some.1
       ∙ ap (λ (S : State). Some S) (sym (t.states n some.0 some.1) ∙ ap (λ (es : List Entry). replayed t.first (take n es)) (sym t.entries))
 
 -- ---- all of it is accepted
