@@ -31,12 +31,12 @@ use Rattle.guest_process.specs.Replay.{accepted, reach, reach_then, replayed}
 use Rattle.guest_process.specs.State.{State, thread_at}
 use Rattle.group_world.specs.History.{Act, put_last_if, time}
 use Rattle.group_world.specs.History as world
-use Rattle.group_record.specs.Run.{GroupStart, Step, Had, Did, world_around, entries, log_has_room, head_of_log, history, log_of, name_of_process, size, spelled_next, process_after, process_states, recorded_states}
+use Rattle.group_record.specs.Run.{GroupStart, Step, Had, Did, world_around, entries, log_has_room, head_of_log, history, log_of, name_of_process, size, process_after, process_states, recorded_states}
 use Rattle.group_record.specs.Laws.{Agreement, CutAgreement, IsBegun}
 use Rattle.group_record.specs.Logs.{IsLogOfRun, TellsBefore}
 use Rattle.group_record.specs.Standing.{IsDone, IsHad, IsRun}
 use Rattle.group_record.proofs.FirstRecorder.{head_size, short_name}
-use Rattle.group_record.proofs.LogGrowth.{entries_few, entry_added, entry_there, log_longer}
+use Rattle.group_record.proofs.LogGrowth.{entries_few, entry_added, entry_there, log_longer, spelled_next}
 use Rattle.group_record.proofs.RunSteps.{is_run}
 
 -- ---- one entry more

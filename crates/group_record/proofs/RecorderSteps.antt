@@ -33,7 +33,7 @@ use Rattle.group_record.specs.declared.error.RecordError.{RecordError}
 use Rattle.group_record.specs.declared.error.RecordError.TheVariants as errors
 use Rattle.group_record.specs.declared.member.Member.{Member}
 use Rattle.group_record.specs.declared.recorder.Recorder.{Recorder}
-use Rattle.group_record.specs.Run.{GroupStart, Progress, Step, Had, Did, with_step, with_step_if, after_item, world_around, attempt, can_be_killed, done_by_item, entries, entry_bytes, event_of_try, with_full_log, had, has_sent, head_of_log, history, idled, log_of, is_running_process, size, process_after, spelled_next, unless_full}
+use Rattle.group_record.specs.Run.{GroupStart, Progress, Step, Had, Did, with_step, with_step_if, after_item, world_around, attempt, can_be_killed, done_by_item, entries, entry_bytes, event_of_try, with_full_log, had, has_sent, head_of_log, history, idled, log_of, is_running_process, size, process_after, unless_full}
 use Rattle.group_record.specs.RunLaws.{after_had}
 use Rattle.group_record.specs.Logs.{logs}
 use Rattle.group_record.specs.Files.{IsStopped, Between, InEntry, change}
@@ -42,7 +42,7 @@ use Rattle.group_record.specs.Members.{CanKeep, IsAppendedInPart, LogHasRoom, Wr
 use Rattle.group_record.specs.Recorded.{Comes, FilesOf, IsMember, IsLogged, KeepsUp, IsLiveEntry, acted_on, acts, after_act, counted_of, is_spared}
 use Rattle.group_record.proofs.ReadySignals.{live_same, with_signals}
 use Rattle.group_record.proofs.GroupRunStops.{LeadsTo, attempt_leads}
-use Rattle.group_record.proofs.LogGrowth.{clock_last, entries_few, entry_added, log_longer, logs_grown, piece_written}
+use Rattle.group_record.proofs.LogGrowth.{clock_last, entries_few, entry_added, log_longer, logs_grown, piece_written, spelled_next}
 use Rattle.group_record.proofs.KeptPrints.{event_printed}
 use Rattle.group_record.proofs.SharedLemmas.{length_set, set_each}
 

@@ -4,7 +4,7 @@ use Rattle.std.specs.Int.{w64, cast_unsigned}
 use Rattle.std.specs.List.{last_or, slice_index_or}
 use Rattle.std.specs.Option.{option_to_list}
 use Rattle.lib_calls.specs.declared.entry.Entry.{Entry}
-use Rattle.call_log.specs.Entry.{clock_after, encoding, encodings}
+use Rattle.call_log.specs.Entry.{encodings}
 use Rattle.call_log.specs.Head.{Head, head_bytes}
 use Rattle.call_log.specs.Limits.{most_log}
 use Rattle.call_log.specs.declared.version.Version.TheVariants.{Two}
@@ -80,10 +80,6 @@ head_of_log group p = record { version = Two; count = size group; process = p; n
 -- the log of a process: its head, and its events' entries
 abbrev pub log_of : GroupStart → List Step → ℕ → List ℕ
 log_of group steps p = head_bytes (head_of_log group p) ++ encodings Two 0 (entries steps p)
-
--- an entry as it is spelled after those of a process
-abbrev pub spelled_next : List Step → ℕ → Entry → List ℕ
-spelled_next steps p e = encoding Two (clock_after 0 (entries steps p)) e
 
 -- what the log has more with this event
 abbrev pub entry_bytes : GroupStart → List Step → ℕ → Event → List ℕ
