@@ -21,6 +21,7 @@ use Rattle.group_record.specs.declared.summary.Summary.{Summary}
 use Rattle.group_record.specs.Answer.{IsRecordedWhole, IsFull, RecordAnswers, first_states, first_states_from, group_of}
 use Rattle.group_record.specs.Laws.{Agreement, Beginning, IsBegun}
 use Rattle.group_record.specs.Logs.{TellsEvents, log_name, logs}
+use Rattle.group_record.specs.Files.{change}
 use Rattle.group_record.specs.Run.{Step, log_of, name_of_process, run, size}
 use Rattle.command_run.specs.declared.refusal.Reason.TheVariants as reason
 use Rattle.command_run.specs.declared.refusal.StopCause.{StopCause}
@@ -108,13 +109,13 @@ logs_tell exact beginning agreement rounds schedule p below =
 -- ---- the answers
 
 pub recorded : KeepsFiles → ExactFault → Beginning → Agreement → (rounds : ℕ) → IsSchedule (drill_schedule rounds) → (ms : List Module) → ms ≡ drill_modules
-    → (summary : Summary) (files : FilesInMemory) → RecordAnswers (drill_schedule rounds) false (first_states (drill_schedule rounds) ms) (Ok summary) (Some empty) (Some files.folder)
+    → (summary : Summary) (files : FilesInMemory) → RecordAnswers (drill_schedule rounds) false (first_states (drill_schedule rounds) ms) (Ok summary) (change (Some empty) (Some files.folder))
     → HasAllRounds rounds (record { files = files; idle = summary.idle })
 unfolding drill_run
 recorded keeps exact beginning agreement rounds schedule ms are summary files (first, begun, done) =
     let same : first ≡ drill_states = same_Ok (first_states_from 4 0 ms) first drill_states begun (ap (first_states_from 4 0) are ∙ all_begin) in
-    let is : IsRecordedWhole false drill_group (drill_run rounds) summary (Some empty) (Some files.folder) =
-    subst (λ (states : List State). IsRecordedWhole false (group_of (drill_schedule rounds) states) (run (group_of (drill_schedule rounds) states) (drill_schedule rounds).items) summary (Some empty) (Some files.folder)) same done in
+    let is : IsRecordedWhole false drill_group (drill_run rounds) summary (change (Some empty) (Some files.folder)) =
+    subst (λ (states : List State). IsRecordedWhole false (group_of (drill_schedule rounds) states) (run (group_of (drill_schedule rounds) states) (drill_schedule rounds).items) summary (change (Some empty) (Some files.folder))) same done in
     record {
       room = is.room;
       idle = is.summary.idle;
@@ -127,22 +128,22 @@ recorded keeps exact beginning agreement rounds schedule ms are summary files (f
 -- the same of a schedule and a folder that are these
 pub recorded_by : KeepsFiles → ExactFault → Beginning → Agreement → (rounds : ℕ) → IsSchedule (drill_schedule rounds) → (ms : List Module) → ms ≡ drill_modules
     → (s : Schedule) → s ≡ drill_schedule rounds → (before : Folder) → before ≡ empty
-    → (summary : Summary) (files : FilesInMemory) → RecordAnswers s false (first_states s ms) (Ok summary) (Some before) (Some files.folder)
+    → (summary : Summary) (files : FilesInMemory) → RecordAnswers s false (first_states s ms) (Ok summary) (change (Some before) (Some files.folder))
     → HasAllRounds rounds (record { files = files; idle = summary.idle })
 recorded_by keeps exact beginning agreement rounds schedule ms are s is before fresh summary files answers =
     recorded keeps exact beginning agreement rounds schedule ms are summary files
-    (subst (λ (f : Folder). RecordAnswers (drill_schedule rounds) false (first_states (drill_schedule rounds) ms) (Ok summary) (Some f) (Some files.folder)) fresh
-    (subst (λ (x : Schedule). RecordAnswers x false (first_states x ms) (Ok summary) (Some before) (Some files.folder)) is answers))
+    (subst (λ (f : Folder). RecordAnswers (drill_schedule rounds) false (first_states (drill_schedule rounds) ms) (Ok summary) (change (Some f) (Some files.folder))) fresh
+    (subst (λ (x : Schedule). RecordAnswers x false (first_states x ms) (Ok summary) (change (Some before) (Some files.folder))) is answers))
 
 pub never_bad : (rounds : ℕ) (ms : List Module) → ms ≡ drill_modules → (p : ℕ) (before after : Option Folder)
-    → RecordAnswers (drill_schedule rounds) false (first_states (drill_schedule rounds) ms) (Err (errors.BadSegment p)) before after → ⊥
+    → RecordAnswers (drill_schedule rounds) false (first_states (drill_schedule rounds) ms) (Err (errors.BadSegment p)) (change before after) → ⊥
 never_bad rounds ms are p before after answers = refuted (sym answers.0 ∙ ap (first_states_from 4 0) are ∙ all_begin)
   where
     refuted : Err p ≡ Ok drill_states → ⊥
     refuted e = cc
 
 pub full_stops : (rounds : ℕ) (ms : List Module) → ms ≡ drill_modules → (item : ℕ) (before after : Option Folder)
-    → RecordAnswers (drill_schedule rounds) false (first_states (drill_schedule rounds) ms) (Err (errors.LogFull item)) before after
+    → RecordAnswers (drill_schedule rounds) false (first_states (drill_schedule rounds) ms) (Err (errors.LogFull item)) (change before after)
     → (e : StopCause) → RefusesFile (codes "drill") (reason.LogFull item) e → StopsDrill rounds e
 unfolding drill_run
 full_stops rounds ms are item before after (first, begun, full) e refuses = stops e refuses
@@ -160,9 +161,9 @@ full_stops rounds ms are item before after (first, begun, full) e refuses = stop
 
 -- the same of a schedule and an answer that are these
 pub full_stops_by : (rounds : ℕ) (ms : List Module) → ms ≡ drill_modules → (s : Schedule) → s ≡ drill_schedule rounds → (item : ℕ) (error : RecordError) → error ≡ errors.LogFull item
-    → (before after : Option Folder) → RecordAnswers s false (first_states s ms) (Err error) before after
+    → (before after : Option Folder) → RecordAnswers s false (first_states s ms) (Err error) (change before after)
     → (e : StopCause) → RefusesFile (codes "drill") (reason.LogFull item) e → StopsDrill rounds e
 full_stops_by rounds ms are s is item error full before after answers =
     full_stops rounds ms are item before after
-    (subst (λ (x : RecordError). RecordAnswers (drill_schedule rounds) false (first_states (drill_schedule rounds) ms) (Err x) before after) full
-    (subst (λ (x : Schedule). RecordAnswers x false (first_states x ms) (Err error) before after) is answers))
+    (subst (λ (x : RecordError). RecordAnswers (drill_schedule rounds) false (first_states (drill_schedule rounds) ms) (Err x) (change before after)) full
+    (subst (λ (x : Schedule). RecordAnswers x false (first_states x ms) (Err error) (change before after)) is answers))

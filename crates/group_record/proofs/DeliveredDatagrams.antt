@@ -16,7 +16,8 @@ use Rattle.guest_process.specs.Answers.{need, replies}
 use Rattle.guest_process.specs.Answers as needs
 use Rattle.guest_process.specs.Live.{Answered, Env, Event, answered_now, as_given, cut_datagram, from_world, live, taken_of}
 use Rattle.guest_process.specs.State.{State}
-use Rattle.group_world.specs.History.{Deliver, History, mailbox, taken_count}
+use Rattle.lossy_net.specs.Network.{nth_of}
+use Rattle.group_world.specs.History.{Deliver, History, mailbox, sends, taken_count}
 use Rattle.group_world.specs.Laws.{Giver, HasOrigin, InTurn, NamesSend}
 use Rattle.group_record.specs.Run.{GroupStart, Step, Had, world_around, history, size}
 use Rattle.group_record.specs.Laws.{Delivery, IsSend, TakesDatagram}
@@ -98,7 +99,7 @@ event_takes laws group early p e few run k thread comes takes =
     let tag : e.entry.tag ≡ (read_datagram (size group) t.bytes).0 = ap (λ (e : Event). e.entry.tag) in_it.is ∙ ap (λ (a : Answer). a.tag) answer in
     let payload : e.entry.incoming ≡ take e.entry.call.a1 (read_datagram (size group) t.bytes).1 = ap (λ (e : Event). e.entry.incoming) in_it.is ∙ ap (λ (a : Answer). a.incoming) answer in
     let giver = turn_of laws.turn (size group) (history early) p t.bytes t.later t.first in
-    let sent : (q n : ℕ) → giver.act ≡ Deliver q n → IsSend (size group) giver.earlier q n p e.entry = is_send laws.named (size group) (history early) p (taken_count (history early) p) t.bytes e.entry (omega (arith, few)) (events_fit group early run) giver tag payload in
+    let sent : (q n : ℕ) → giver.act ≡ Deliver q n → IsSend (nth_of (sends (size group) giver.earlier q) n) q p e.entry = is_send laws.named (size group) (history early) p (taken_count (history early) p) t.bytes e.entry (omega (arith, few)) (events_fit group early run) giver tag payload in
     record {
       bytes = t.bytes;
       later = t.later;

@@ -96,7 +96,7 @@ is_of q p (Some e) bytes is = by_receiver (e.call.a0 == p) refl is where
 
 -- the entry that takes the datagram names the send
 pub is_send : NamesSend → (count : ℕ) (h : History) (p number : ℕ) (bytes : List ℕ) (e : Entry) → count ≤ 2 ^ 32 → EventsFit count h → (giver : Giver count h p number bytes)
-    → e.tag ≡ (read_datagram count bytes).0 → e.incoming ≡ take e.call.a1 (read_datagram count bytes).1 → (q n : ℕ) → giver.act ≡ world.Deliver q n → IsSend count giver.earlier q n p e
+    → e.tag ≡ (read_datagram count bytes).0 → e.incoming ≡ take e.call.a1 (read_datagram count bytes).1 → (q n : ℕ) → giver.act ≡ world.Deliver q n → IsSend (nth_of (sends count giver.earlier q) n) q p e
 is_send named count h p number bytes e few fits giver tag payload q n is =
     let gives_it : addressed q p (nth_of (sends count giver.earlier q) n) ≡ bytes ∷ [] =
     subst (λ (act : Act). gives count giver.earlier act p ≡ bytes ∷ []) is giver.gives_it in
@@ -145,7 +145,7 @@ entries_grow (a ∷ later) earlier h act is q x here =
     subst (λ (h : History). Contains (world.process_entries h q) x) (sym is)
     (one_act a (later ++ act ∷ earlier) q x (entries_grow later earlier (later ++ act ∷ earlier) act refl q x here))
 
-pub is_told : (count : ℕ) (h : History) (p number : ℕ) (bytes : List ℕ) (e : Entry) (giver : Giver count h p number bytes) (q n : ℕ) (s : IsSend count giver.earlier q n p e) → Contains (world.process_entries h q) s.sent
+pub is_told : (count : ℕ) (h : History) (p number : ℕ) (bytes : List ℕ) (e : Entry) (giver : Giver count h p number bytes) (q n : ℕ) (s : IsSend (nth_of (sends count giver.earlier q) n) q p e) → Contains (world.process_entries h q) s.sent
 is_told count h p number bytes e giver q n s =
     entries_grow giver.later giver.earlier h giver.act giver.split q s.sent
     (sends_told count giver.earlier q s.sent (contains_nth n (sends count giver.earlier q) s.sent s.is))

@@ -23,7 +23,7 @@ use Rattle.group_record.specs.Run.{GroupStart, Step, Had, world_around, size, pr
 use Rattle.group_record.specs.Laws.{DrawsIf, TakesDrawn, TakesWaiting, takes_datagrams}
 use Rattle.group_record.specs.Standing.{IsHad, IsRun}
 use Rattle.group_record.proofs.RunSteps.{is_run}
-use Rattle.group_record.proofs.LogsAgree.{ComesIn, KeepsAfter, Laws, came_in, comes_in, is_of_kind, keeps}
+use Rattle.group_record.proofs.LogsAgree.{ComesIn, KeepsAfter, Laws, came_in, comes_in, is_of_kind, keeps, stands_last}
 
 -- ---- good arguments name at most 60,000 bytes
 
@@ -107,7 +107,7 @@ came_by group early p e k had =
 
 came : (laws : Laws) (group : GroupStart) (early : List Step) (p : ℕ) (e : Event) (S : State) → IsRun group (Had p e ∷ early) → KeepsAfter group early p → process_after group early p ≡ Some S → Came group early p e S
 came laws group early p e S run k stands =
-    subst (λ (S : State). Came group early p e S) (same_Some k.last S (sym k.stands ∙ stands)) (came_by group early p e k run.0)
+    subst (λ (S : State). Came group early p e S) (same_Some k.last S (sym (stands_last group early p k) ∙ stands)) (came_by group early p e k run.0)
 
 pub takes_waiting : Laws → TakesWaiting
 takes_waiting laws group items begun fits later early p e is S stands receive good bytes others waits =

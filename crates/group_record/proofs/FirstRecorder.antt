@@ -24,6 +24,7 @@ use Rattle.group_record.specs.Begun.{AreStarted, BeginsAll, GroupBegins, HaveHea
 use Rattle.group_record.specs.Files.{InHeads}
 use Rattle.group_record.specs.Recorded.{FilesOf, IsMember, KeepsUp, kept_for}
 use Rattle.group_record.specs.Run.{head_of_log, name_of_process, nothing_yet}
+use Rattle.group_record.specs.RunLaws.{before_steps}
 use Rattle.group_record.proofs.LogHeads.{heads_are_logs}
 use Rattle.group_record.proofs.KeptPrints.{none_printed}
 use Rattle.group_record.proofs.RecorderSteps.{some_there}
@@ -112,7 +113,7 @@ begun_member schedule first members p m fits started at =
     record {
       state = e.0;
       process = e.2.process;
-      after = e.1;
+      after = before_steps group p ∙ e.1;
       events = e.2.events;
       count = e.2.group;
       log = e.2.log;

@@ -11,7 +11,7 @@ use Rattle.group_world.specs.History as world
 use Rattle.group_record.specs.declared.error.RecordError.{RecordError}
 use Rattle.group_record.specs.declared.error.RecordError.TheVariants as errors
 use Rattle.group_record.specs.declared.recorder.Recorder.{Recorder}
-use Rattle.group_record.specs.Files.{IsStopped, InHeads, Between, InEntry, InImages}
+use Rattle.group_record.specs.Files.{IsStopped, InHeads, Between, InEntry, InImages, change}
 use Rattle.process_files.specs.Parts.{AreMadeInPart, made_in_part}
 use Rattle.group_record.specs.Logs.{logs}
 use Rattle.group_record.specs.Recorded.{Comes, FilesOf}
@@ -111,7 +111,7 @@ stopped_in group steps images before now after written (inr (n, m, is)) =
 
 -- what is answered at one moment is answered of the whole
 pub comes_on : (group : GroupStart) (early late : Progress) (error : RecordError) (r : Recorder) (before after : Option Folder) → LeadsTo early late
-    → Comes group early (Err error) r before after → Comes group late (Err error) r before after
+    → Comes group early (Err error) r (change before after) → Comes group late (Err error) r (change before after)
 comes_on group early late (errors.BadSegment p) r before after leads h = h
 comes_on group early late (errors.LogFull number) r before after leads h =
     subst (λ (d : Progress). (d.full ≡ Some number) × FilesOf group d before after) (sym (leads.full number h.0)) h

@@ -17,7 +17,7 @@ use Rattle.std.specs.Int.{w16, w32}
 use Rattle.call_log.specs.Head.{head_bytes}
 use Rattle.guest_process.specs.Live.{Event}
 use Rattle.group_world.specs.History.{put_last_if}
-use Rattle.group_record.specs.Run.{GroupStart, Step, Had, entries, entry_bytes, head_of_log, log_of, name_of_process, size, spelled_next}
+use Rattle.group_record.specs.Run.{GroupStart, Step, Had, entries, entry_bytes, head_of_log, log_of, name_of_process, size}
 use Rattle.group_record.specs.Logs.{files_from, files_of, log_name, logs}
 
 -- the bytes at each place, with a piece after those at this one
@@ -117,6 +117,10 @@ log_last : (test : Bool) (head : List ℕ) (es : List Entry) (e : Entry) (piece 
 log_last true head es e piece is =
     append_assoc head (encodings Two 0 es) piece ∙ ap (λ t. head ++ (encodings Two 0 es ++ t)) (is refl) ∙ ap (λ t. head ++ t) (sym (encodings-last Two 0 es e))
 log_last false head es e piece is = refl
+
+-- an entry as it is spelled after those of a process
+abbrev pub spelled_next : List Step → ℕ → Entry → List ℕ
+spelled_next steps p e = encoding Two (clock_after 0 (entries steps p)) e
 
 -- the logs with the entry of an event more
 pub logs_grown : (group : GroupStart) (steps : List Step) (p : ℕ) (e : Event) → grown (logs group steps) p (spelled_next steps p e.entry) ≡ logs group (Had p e ∷ steps)

@@ -1,7 +1,8 @@
 -- Each event of a run is accepted where it comes in the replay of its process's log, which makes the same states.
 use Rattle.std.proofs.Common.{◌≡◌, ℕ, zero, suc, ◌+◌, ◌<◌, ◌≤◌, ◌^◌, ◌++◌, Bool, true, false, cond, List, [], ◌∷◌, length, take, Option, Some, None, refl, ap, sym, subst, ◌∙◌, arith, length-append, append_assoc, eqb-true}
 use Rattle.std.specs.Prelude.{All, IsTrue, slice_get, ◌==◌, option_and_then, option_map}
-use Rattle.std.specs.List.{slice_index_or}
+use Rattle.std.specs.List.{last_or, slice_index_or}
+use Rattle.std.specs.Option.{option_to_list}
 use Rattle.std.proofs.lemmas.Bool.{leb-true}
 use Rattle.std.proofs.lemmas.List.{length-take}
 use Rattle.std.proofs.lemmas.Option.{same_Some}
@@ -30,12 +31,12 @@ use Rattle.guest_process.specs.Replay.{accepted, reach, reach_then, replayed}
 use Rattle.guest_process.specs.State.{State, thread_at}
 use Rattle.group_world.specs.History.{Act, put_last_if, time}
 use Rattle.group_world.specs.History as world
-use Rattle.group_record.specs.Run.{GroupStart, Step, Had, Did, world_around, entries, log_has_room, head_of_log, history, log_of, name_of_process, size, spelled_next, process_after, process_states}
+use Rattle.group_record.specs.Run.{GroupStart, Step, Had, Did, world_around, entries, log_has_room, head_of_log, history, log_of, name_of_process, size, process_after, process_states, recorded_states}
 use Rattle.group_record.specs.Laws.{Agreement, CutAgreement, IsBegun}
 use Rattle.group_record.specs.Logs.{IsLogOfRun, TellsBefore}
 use Rattle.group_record.specs.Standing.{IsDone, IsHad, IsRun}
 use Rattle.group_record.proofs.FirstRecorder.{head_size, short_name}
-use Rattle.group_record.proofs.LogGrowth.{entries_few, entry_added, entry_there, log_longer}
+use Rattle.group_record.proofs.LogGrowth.{entries_few, entry_added, entry_there, log_longer, spelled_next}
 use Rattle.group_record.proofs.RunSteps.{is_run}
 
 -- ---- one entry more
@@ -52,6 +53,10 @@ replays S (e ∷ es) = next S e ∷ replays (next S e) es
 replays-last : (S : State) (es : List Entry) (e : Entry) → replays S (es ++ e ∷ []) ≡ replays S es ++ next (replayed S es) e ∷ []
 replays-last S [] e = refl
 replays-last S (x ∷ es) e = ap (λ (xs : List State). next S x ∷ xs) (replays-last (next S x) es e)
+
+last_replay : (S : State) (es : List Entry) → last_or (Some S) (replays S es) ≡ Some (replayed S es)
+last_replay S [] = refl
+last_replay S (e ∷ es) = last_replay (next S e) es
 
 accepted-last : (S : State) (es : List Entry) (e : Entry) → accepted S es ≡ length es → reason (replayed S es) e ≡ None → accepted S (es ++ e ∷ []) ≡ length (es ++ e ∷ [])
 accepted-last S [] e all legal = ap (λ (o : Option Divergence). (reach_then o (reach (next S e) [])).accepted) legal
@@ -109,12 +114,11 @@ is_of_kind S env thread e fits in_it =
 
 -- ---- what is kept of each process
 
--- of a process whose events had these entries and states, and which then stands so
-pub record Keeps (group : GroupStart) (p : ℕ) (es : List Entry) (after : List State) (now : Option State) : Type 0 where
+-- of a process whose events had these entries and states
+pub record Keeps (group : GroupStart) (p : ℕ) (es : List Entry) (after : List State) : Type 0 where
   pub first : State
   pub begun : slice_get group.first p ≡ Some first
   pub last : State
-  pub stands : now ≡ Some last
   pub fits : StateFits last
   pub group_size : last.count ≡ size group
   pub events : last.events ≡ length es
@@ -125,7 +129,16 @@ pub record Keeps (group : GroupStart) (p : ℕ) (es : List Entry) (after : List 
   pub same : replays first es ≡ after
 
 abbrev pub KeepsAfter : GroupStart → List Step → ℕ → Type 0
-KeepsAfter group steps p = Keeps group p (entries steps p) (process_states steps p) (process_after group steps p)
+KeepsAfter group steps p = Keeps group p (entries steps p) (process_states steps p)
+
+-- its states are those of the replay
+states_known : (group : GroupStart) (steps : List Step) (p : ℕ) → (k : KeepsAfter group steps p) → recorded_states group steps p ≡ k.first ∷ replays k.first (entries steps p)
+states_known group steps p k =
+    ap (λ (o : Option State). option_to_list o ++ process_states steps p) k.begun ∙ ap (λ (xs : List State). k.first ∷ xs) (sym k.same)
+
+-- so it stands in the last of them
+pub stands_last : (group : GroupStart) (steps : List Step) (p : ℕ) → (k : KeepsAfter group steps p) → process_after group steps p ≡ Some k.last
+stands_last group steps p k = ap (last_or None) (states_known group steps p k) ∙ last_replay k.first (entries steps p) ∙ ap Some k.reached
 
 -- what is known of processes
 pub record Laws : Type 0 where
@@ -141,9 +154,9 @@ record IsNext (S : State) (e : Event) (many : ℕ) : Type 0 where
   logged : IsShaped e.entry
   room : many + 1 ≤ most_log
 
-one_more : (laws : Laws) (group : GroupStart) (p : ℕ) (es : List Entry) (after : List State) (now : Option State) (e : Event) (k : Keeps group p es after now)
-    → IsNext k.last e (length es) → Keeps group p (es ++ e.entry ∷ []) (after ++ e.state ∷ []) (Some e.state)
-one_more laws group p es after now e k h =
+one_more : (laws : Laws) (group : GroupStart) (p : ℕ) (es : List Entry) (after : List State) (e : Event) (k : Keeps group p es after)
+    → IsNext k.last e (length es) → Keeps group p (es ++ e.entry ∷ []) (after ++ e.state ∷ [])
+one_more laws group p es after e k h =
     let rise : RisesTo k.last e.entry (next k.last e.entry) = laws.rises k.last e.entry k.fits h.told.legal in
     let next_is : next (replayed k.first es) e.entry ≡ e.state = ap (λ (S : State). next S e.entry) k.reached ∙ h.told.same in
     let longer : length (es ++ e.entry ∷ []) ≡ length es + 1 = length-append es (e.entry ∷ []) in
@@ -151,7 +164,6 @@ one_more laws group p es after now e k h =
       first = k.first;
       begun = k.begun;
       last = e.state;
-      stands = refl;
       fits = subst StateFits h.told.same (laws.kept k.last e.entry k.fits h.told.legal);
       group_size = sym (ap (λ (S : State). S.count) h.told.same) ∙ rise.count ∙ k.group_size;
       events = sym (ap (λ (S : State). S.events) h.told.same) ∙ rise.events ∙ ap (λ (n : ℕ). n + 1) k.events ∙ sym longer;
@@ -163,10 +175,10 @@ one_more laws group p es after now e k h =
     }
 
 -- an event of this process or of another
-one_event : (laws : Laws) (group : GroupStart) (p : ℕ) (es : List Entry) (after : List State) (now : Option State) (e : Event) (test : Bool) (k : Keeps group p es after now)
-    → (test ≡ true → IsNext k.last e (length es)) → Keeps group p (put_last_if test es e.entry) (put_last_if test after e.state) (cond test (Some e.state) now)
-one_event laws group p es after now e true k h = one_more laws group p es after now e k (h refl)
-one_event laws group p es after now e false k h = k
+one_event : (laws : Laws) (group : GroupStart) (p : ℕ) (es : List Entry) (after : List State) (e : Event) (test : Bool) (k : Keeps group p es after)
+    → (test ≡ true → IsNext k.last e (length es)) → Keeps group p (put_last_if test es e.entry) (put_last_if test after e.state)
+one_event laws group p es after e true k h = one_more laws group p es after e k (h refl)
+one_event laws group p es after e false k h = k
 
 -- ---- the world around a process is in range
 
@@ -201,7 +213,6 @@ begin_keeps laws group begun p within =
       first = first.0;
       begun = first.1;
       last = first.0;
-      stands = first.1;
       fits = (laws.started from.0 p (size group) first.0 from.1 within begun.few from.2).0;
       group_size = fresh.count;
       events = fresh.events;
@@ -214,7 +225,7 @@ begin_keeps laws group begun p within =
 
 -- the state in which an event came
 pub came_in : (group : GroupStart) (early : List Step) (p : ℕ) (e : Event) (k : KeepsAfter group early p) (had : IsHad group early p e) → live k.last had.thread (world_around (size group) early p) ≡ Some e
-came_in group early p e k had = sym (ap (λ (o : Option State). option_and_then (λ S. live S had.thread (world_around (size group) early p)) o) k.stands) ∙ had.comes
+came_in group early p e k had = sym (ap (λ (o : Option State). option_and_then (λ S. live S had.thread (world_around (size group) early p)) o) (stands_last group early p k)) ∙ had.comes
 
 is_next : (laws : Laws) (group : GroupStart) (early : List Step) (p : ℕ) (e : Event) → IsRun group early → (k : KeepsAfter group early p) → IsHad group early p e → IsNext k.last e (length (entries early p))
 is_next laws group early p e run k had =
@@ -241,7 +252,7 @@ pub keeps : (laws : Laws) (group : GroupStart) → IsBegun group → (steps : Li
 keeps laws group begun [] run p within = begin_keeps laws group begun p within
 keeps laws group begun (Had q e ∷ early) run p within =
     let k : KeepsAfter group early p = keeps laws group begun early run.1 p within in
-    one_event laws group p (entries early p) (process_states early p) (process_after group early p) e (q == p) k
+    one_event laws group p (entries early p) (process_states early p) e (q == p) k
     (λ is. is_next laws group early p e run.1 k (subst (λ (r : ℕ). IsHad group early r e) (eqb-true q p is) run.0))
 keeps laws group begun (Did act ∷ early) run p within = act_keeps group early act p run.0 (keeps laws group begun early run.1 p within)
 
@@ -279,7 +290,7 @@ log_within group begun (Did act ∷ early) run p within = act_within group early
 
 -- whose bytes after the head hold its entries, and this much of one more
 log_tells : ExactLogs → (group : GroupStart) → IsBegun group → (steps : List Step) (p : ℕ) (bytes left cut : List ℕ) → p < size group → KeepsAfter group steps p → bytes ≡ head_bytes (head_of_log group p) ++ left
-    → Holds (unread_after_head (head_of_log group p) left) (entries steps p) cut → length bytes ≤ most_log → IsLogOfRun group p bytes (entries steps p) (process_states steps p) cut
+    → Holds (unread_after_head (head_of_log group p) left) (entries steps p) cut → length bytes ≤ most_log → IsLogOfRun group steps p bytes cut
 log_tells logs group begun steps p bytes left cut inside k is holds fits =
     let es = entries steps p in
     let held = (logs.all (unread_after_head (head_of_log group p) left) es cut).0 holds in
@@ -293,7 +304,7 @@ log_tells logs group begun steps p bytes left cut inside k is holds fits =
       entries = held.0;
       rest = held.1;
       accepted = k.all;
-      states = λ n S at. state-at es k.first n S (subst (λ (xs : List State). slice_get (k.first ∷ xs) n ≡ Some S) (sym k.same) at);
+      states = λ n S at. state-at es k.first n S (sym (ap (λ (xs : List State). slice_get xs n) (states_known group steps p k)) ∙ at);
     }
 
 pub agrees : ExactLogs → Laws → Agreement

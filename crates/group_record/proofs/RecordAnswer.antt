@@ -14,7 +14,7 @@ use Rattle.group_record.specs.declared.recorder.Recorder.{Recorder}
 use Rattle.group_record.specs.declared.summary.Summary.{Summary}
 use Rattle.group_record.specs.Answer.{RecordAnswers, StoppedWhere, group_of}
 use Rattle.group_record.specs.Begun.{GroupBegins, StopsAtHead}
-use Rattle.group_record.specs.Files.{Between, IsStopped}
+use Rattle.group_record.specs.Files.{Between, IsStopped, change}
 use Rattle.group_record.specs.Images.{images_of}
 use Rattle.process_files.specs.Parts.{AreMadeInPart}
 use Rattle.group_record.specs.Logs.{logs}
@@ -38,7 +38,7 @@ stops_where asked schedule (Ok first) before after h =
     stops_in asked schedule first before after (stopped_on (group_of schedule first) [] steps before after (steps, sym (append-nil steps)) h)
 
 -- the group did not begin
-pub begin_fails : (asked : Bool) (schedule : Schedule) (begun : Result (List State) ℕ) (error : RecordError) (before after : Option Folder) → GroupBegins schedule begun (Err error) before after → RecordAnswers schedule asked begun (Err error) before after
+pub begin_fails : (asked : Bool) (schedule : Schedule) (begun : Result (List State) ℕ) (error : RecordError) (before after : Option Folder) → GroupBegins schedule begun (Err error) before after → RecordAnswers schedule asked begun (Err error) (change before after)
 begin_fails asked schedule begun (errors.BadSegment p) before after h = h
 begin_fails asked schedule begun (errors.LogFull item) before after h = absurd h
 begin_fails asked schedule begun errors.WriteFault before after h = stops_where asked schedule begun before after h
@@ -56,7 +56,7 @@ items_fit schedule begun recorder before now fits b =
 
 -- it was not done to its end
 pub run_fails : (asked : Bool) (schedule : Schedule) (begun : Result (List State) ℕ) (recorder last : Recorder) (error : RecordError) (before now after : Option Folder) → GroupBegins schedule begun (Ok recorder) before now
-    → Does (λ group. after_items group 1 schedule.items) recorder (Err error) last now after → RecordAnswers schedule asked begun (Err error) before after
+    → Does (λ group. after_items group 1 schedule.items) recorder (Err error) last (change now after) → RecordAnswers schedule asked begun (Err error) (change before after)
 run_fails asked schedule begun recorder last (errors.BadSegment p) before now after b does = absurd (does (group_of schedule b.0) nothing_yet before b.2 b.3)
 run_fails asked schedule begun recorder last (errors.LogFull item) before now after b does =
     let h = does (group_of schedule b.0) nothing_yet before b.2 b.3 in
@@ -68,14 +68,14 @@ run_fails asked schedule begun recorder last errors.NoMemory before now after b 
 
 -- all was done, and there was no memory to say so
 pub saying_fails : (asked : Bool) (schedule : Schedule) (begun : Result (List State) ℕ) (recorder last : Recorder) (before now after : Option Folder) → GroupBegins schedule begun (Ok recorder) before now
-    → Does (λ group. after_items group 1 schedule.items) recorder (Ok tt) last now after → StoppedWhere schedule asked begun before after
+    → Does (λ group. after_items group 1 schedule.items) recorder (Ok tt) last (change now after) → StoppedWhere schedule asked begun before after
 saying_fails asked schedule begun recorder last before now after b does =
     let h = does (group_of schedule b.0) nothing_yet before b.2 b.3 in
     subst (λ x. StoppedWhere schedule asked x before after) (sym b.1) (Between (run (group_of schedule b.0) schedule.items).steps ([], refl) h.1)
 
 -- the images were not all made
 pub images_fail : (asked : Bool) (schedule : Schedule) (begun : Result (List State) ℕ) (recorder last : Recorder) (error : RecordError) (before now middle after : Option Folder) → GroupBegins schedule begun (Ok recorder) before now
-    → Does (λ group. after_items group 1 schedule.items) recorder (Ok tt) last now middle → MakesImages asked schedule.processes last (Err error) middle after → RecordAnswers schedule asked begun (Err error) before after
+    → Does (λ group. after_items group 1 schedule.items) recorder (Ok tt) last (change now middle) → MakesImages asked schedule.processes last (Err error) (change middle after) → RecordAnswers schedule asked begun (Err error) (change before after)
 images_fail asked schedule begun recorder last error before now middle after b does makes = by_error error (makes group done h.0 refl)
   where
     group : GroupStart
@@ -90,7 +90,7 @@ images_fail asked schedule begun recorder last error before now middle after b d
     stopped : AreMadeInPart (images_of asked group done) middle after → StoppedWhere schedule asked begun before after
     stopped part = subst (λ x. StoppedWhere schedule asked x before after) (sym b.1) (stopped_in group done.steps (images_of asked group done) before middle after h.1 part)
 
-    by_error : (error : RecordError) → MakesFiles (images_of asked group done) (Err error) middle after → RecordAnswers schedule asked begun (Err error) before after
+    by_error : (error : RecordError) → MakesFiles (images_of asked group done) (Err error) middle after → RecordAnswers schedule asked begun (Err error) (change before after)
     by_error (errors.BadSegment p) made = absurd made
     by_error (errors.LogFull item) made = absurd made
     by_error errors.WriteFault made = stopped made
@@ -98,8 +98,8 @@ images_fail asked schedule begun recorder last error before now middle after b d
 
 -- all was done and said
 pub run_done : (asked : Bool) (schedule : Schedule) (begun : Result (List State) ℕ) (recorder last : Recorder) (said : Summary) (before now middle after : Option Folder) → GroupBegins schedule begun (Ok recorder) before now
-    → Does (λ group. after_items group 1 schedule.items) recorder (Ok tt) last now middle → Sums schedule.processes last said → MakesImages asked schedule.processes last (Ok tt) middle after
-    → RecordAnswers schedule asked begun (Ok said) before after
+    → Does (λ group. after_items group 1 schedule.items) recorder (Ok tt) last (change now middle) → Sums schedule.processes last said → MakesImages asked schedule.processes last (Ok tt) (change middle after)
+    → RecordAnswers schedule asked begun (Ok said) (change before after)
 run_done asked schedule begun recorder last said before now middle after b does sums makes =
     let group = group_of schedule b.0 in
     let done = run group schedule.items in
@@ -116,7 +116,7 @@ run_done asked schedule begun recorder last said before now middle after b does 
 -- ---- what is said of it
 
 pub last_keeps : (schedule : Schedule) (begun : Result (List State) ℕ) (recorder last : Recorder) (before now after : Option Folder) → (b : GroupBegins schedule begun (Ok recorder) before now)
-    → Does (λ group. after_items group 1 schedule.items) recorder (Ok tt) last now after → KeepsUp (group_of schedule b.0) (run (group_of schedule b.0) schedule.items) last
+    → Does (λ group. after_items group 1 schedule.items) recorder (Ok tt) last (change now after) → KeepsUp (group_of schedule b.0) (run (group_of schedule b.0) schedule.items) last
 last_keeps schedule begun recorder last before now after b does = (does (group_of schedule b.0) nothing_yet before b.2 b.3).0
 
 pub last_count : (schedule : Schedule) (first : List State) (last : Recorder) → KeepsUp (group_of schedule first) (run (group_of schedule first) schedule.items) last → length last.members.items ≡ length schedule.processes

@@ -33,15 +33,16 @@ use Rattle.group_record.specs.declared.error.RecordError.{RecordError}
 use Rattle.group_record.specs.declared.error.RecordError.TheVariants as errors
 use Rattle.group_record.specs.declared.member.Member.{Member}
 use Rattle.group_record.specs.declared.recorder.Recorder.{Recorder}
-use Rattle.group_record.specs.Run.{GroupStart, Progress, Step, Had, Did, with_step, with_step_if, after_item, world_around, attempt, can_be_killed, done_by_item, entries, entry_bytes, event_of_try, with_full_log, had, has_sent, head_of_log, history, idled, log_of, is_running_process, size, process_after, spelled_next, unless_full}
+use Rattle.group_record.specs.Run.{GroupStart, Progress, Step, Had, Did, with_step, with_step_if, after_item, world_around, attempt, can_be_killed, done_by_item, entries, entry_bytes, event_of_try, with_full_log, had, has_sent, head_of_log, history, idled, log_of, is_running_process, size, process_after, unless_full}
+use Rattle.group_record.specs.RunLaws.{after_had}
 use Rattle.group_record.specs.Logs.{logs}
-use Rattle.group_record.specs.Files.{IsStopped, Between, InEntry}
+use Rattle.group_record.specs.Files.{IsStopped, Between, InEntry, change}
 use Rattle.group_record.specs.Around.{env_of}
 use Rattle.group_record.specs.Members.{CanKeep, IsAppendedInPart, LogHasRoom, Writes, member_after, spelled}
 use Rattle.group_record.specs.Recorded.{Comes, FilesOf, IsMember, IsLogged, KeepsUp, IsLiveEntry, acted_on, acts, after_act, counted_of, is_spared}
 use Rattle.group_record.proofs.ReadySignals.{live_same, with_signals}
 use Rattle.group_record.proofs.GroupRunStops.{LeadsTo, attempt_leads}
-use Rattle.group_record.proofs.LogGrowth.{clock_last, entries_few, entry_added, log_longer, logs_grown, piece_written}
+use Rattle.group_record.proofs.LogGrowth.{clock_last, entries_few, entry_added, log_longer, logs_grown, piece_written, spelled_next}
 use Rattle.group_record.proofs.KeptPrints.{event_printed}
 use Rattle.group_record.proofs.SharedLemmas.{length_set, set_each}
 
@@ -138,7 +139,7 @@ other_member group steps p q e m apart k =
     record {
       state = k.state;
       process = k.process;
-      after = ap (λ b. cond b (Some e.state) (process_after group steps q)) other ∙ k.after;
+      after = after_had group steps p q e ∙ ap (λ b. cond b (Some e.state) (process_after group steps q)) other ∙ k.after;
       events = k.events ∙ ap length (sym same);
       count = k.count;
       log = k.log;
@@ -164,7 +165,7 @@ own_member group steps p thread env m entry k t room =
     record {
       state = t.event.state;
       process = ap (option_map (λ S. next S entry)) k.process ∙ ap (λ e. Some (next k.state e)) t.same ∙ ap Some t.told.same;
-      after = ap (λ b. cond b (Some t.event.state) (process_after group steps p)) here;
+      after = after_had group steps p p t.event ∙ ap (λ b. cond b (Some t.event.state) (process_after group steps p)) here;
       events = t.events ∙ ap (λ n. n + 1) k.events ∙ sym (ap length more ∙ length-append (entries steps p) (t.event.entry ∷ []));
       count = t.count ∙ k.count;
       log = k.log;
@@ -208,10 +209,10 @@ event_keeps counting group done old new p thread m entry keeps within k t room m
 
 -- it is idle
 pub try_idle : Counting → (group : GroupStart) (done : Progress) (before now : Option Folder) (old new : Recorder) (number p thread : ℕ) (m : Member) → KeepsUp group done old → FilesOf group done before now → p < size group
-    → (k : IsMember group done.steps p m) → live k.state thread (env_of old.world p) ≡ None → new ≡ record old { idle = old.idle + 1 } → Comes group (attempt group number p thread done) (Ok tt) new before now
+    → (k : IsMember group done.steps p m) → live k.state thread (env_of old.world p) ≡ None → new ≡ record old { idle = old.idle + 1 } → Comes group (attempt group number p thread done) (Ok tt) new (change before now)
 try_idle counting group done before now old new number p thread m keeps files within k none is =
     let next : attempt group number p thread done ≡ idled done = attempt_is counting group done old number p thread k.state keeps within k.after ∙ ap (λ o. had group number p o done) none in
-    subst (λ d. Comes group d (Ok tt) new before now) (sym next) (idle_keeps group done old new keeps is, files)
+    subst (λ d. Comes group d (Ok tt) new (change before now)) (sym next) (idle_keeps group done old new keeps is, files)
 
 -- it has an event, for which the log has room or not
 room_test : (n limit : ℕ) → n ≤ limit → nat_le n limit ≡ true
@@ -243,7 +244,7 @@ entry_written files_keep group done before now after old p m entry e keeps files
     ∙ ap (λ fs. with_files fs before) (logs_grown group done.steps p e)
 
 -- memory ran out before the files were touched
-pub memory_stops : (group : GroupStart) (done next : Progress) (r : Recorder) (before now : Option Folder) → LeadsTo done next → FilesOf group done before now → Comes group next (Err errors.NoMemory) r before now
+pub memory_stops : (group : GroupStart) (done next : Progress) (r : Recorder) (before now : Option Folder) → LeadsTo done next → FilesOf group done before now → Comes group next (Err errors.NoMemory) r (change before now)
 memory_stops group done next r before now leads files = Between done.steps leads.front files
 
 short_of : (many n : ℕ) → nat_le many n ≡ false → n < many
@@ -273,23 +274,23 @@ fault_stops files_keep group done before now after old p m entry e keeps files w
 -- what comes of a try that has an event
 pub try_event : Counting → KeepsFiles → (group : GroupStart) (done : Progress) (before now after : Option Folder) (old : Recorder) (result : Result ⊤ RecordError) (new : Recorder) (number p thread : ℕ) (m : Member) (entry : Entry)
     → KeepsUp group done old → FilesOf group done before now → p < size group → (k : IsMember group done.steps p m) → IsLiveEntry k.state thread (env_of old.world p) entry
-    → Writes m number (spelled m entry) result now after → OnOk result (IsLogged old p m entry new) → Comes group (attempt group number p thread done) result new before after
+    → Writes m number (spelled m entry) result (change now after) → OnOk result (IsLogged old p m entry new) → Comes group (attempt group number p thread done) result new (change before after)
 try_event counting files_keep group done before now after old (Ok _) new number p thread m entry keeps files within k t writes made =
-    subst (λ d. Comes group d (Ok tt) new before after) (sym (has_event counting group done old number p thread m entry keeps within k t writes.0)) (
+    subst (λ d. Comes group d (Ok tt) new (change before after)) (sym (has_event counting group done old number p thread m entry keeps within k t writes.0)) (
       event_keeps counting group done old new p thread m entry keeps within k t writes.0 made,
       entry_written files_keep group done before now after old p m entry t.event keeps files within k t.same writes.1,
     )
 try_event counting files_keep group done before now after old (Err (errors.BadSegment q)) new number p thread m entry keeps files within k t writes made = writes
 try_event counting files_keep group done before now after old (Err (errors.LogFull item)) new number p thread m entry keeps files within k t writes made =
-    subst (λ d. Comes group d (Err (errors.LogFull item)) new before after) (sym (no_room counting group done old number p thread m entry keeps within k t writes.1))
+    subst (λ d. Comes group d (Err (errors.LogFull item)) new (change before after)) (sym (no_room counting group done old number p thread m entry keeps within k t writes.1))
     (ap Some (sym writes.0), writes.2 ∙ files)
 try_event counting files_keep group done before now after old (Err errors.WriteFault) new number p thread m entry keeps files within k t writes made =
-    subst (λ d. Comes group d (Err errors.WriteFault) new before after) (sym (has_event counting group done old number p thread m entry keeps within k t writes.0))
+    subst (λ d. Comes group d (Err errors.WriteFault) new (change before after)) (sym (has_event counting group done old number p thread m entry keeps within k t writes.0))
     (fault_stops files_keep group done before now after old p m entry t.event keeps files within k t.same writes.1)
 try_event counting files_keep group done before now after old (Err errors.NoMemory) new number p thread m entry keeps files within k t (inl none) made =
     Between done.steps (attempt_leads group number p thread done).front (none ∙ files)
 try_event counting files_keep group done before now after old (Err errors.NoMemory) new number p thread m entry keeps files within k t (inr (room, is)) made =
-    subst (λ d. Comes group d (Err errors.NoMemory) new before after) (sym (has_event counting group done old number p thread m entry keeps within k t room))
+    subst (λ d. Comes group d (Err errors.NoMemory) new (change before after)) (sym (has_event counting group done old number p thread m entry keeps within k t room))
     (Between (Had p t.event ∷ done.steps) ([], refl) (entry_written files_keep group done before now after old p m entry t.event keeps files within k t.same is))
 
 -- ---- what a try may ask
@@ -448,9 +449,9 @@ does_logs group number (item.Kill p) done other = acted_logs group done (can_be_
 
 pub item_comes : Counting → (group : GroupStart) (done : Progress) (before now : Option Folder) (old new : Recorder) (number : ℕ) (i : Item) → KeepsUp group done old → FilesOf group done before now
     → IsInRange (length old.members.items) i → IsOther i → new ≡ acted_on (acts old.members.items old.world i) (after_act old.members.items old.world i) old
-    → Comes group (after_item group number i done) (Ok tt) new before now
+    → Comes group (after_item group number i done) (Ok tt) new (change before now)
 item_comes counting group done before now old new number i keeps files fits other is =
-    subst (λ d. Comes group d (Ok tt) new before now) (sym (unless_none done (done_by_item group number i done) keeps.room)) (
+    subst (λ d. Comes group d (Ok tt) new (change before now)) (sym (unless_none done (done_by_item group number i done) keeps.room)) (
       item_keeps counting group done old new number i keeps fits other is,
       logs_stay group done (done_by_item group number i done) before now (does_logs group number i done other) files,
     )
@@ -463,10 +464,10 @@ acted_prints false w old new is = ap (λ (r : Recorder). length r.prints) is
 -- ---- what a write says of the whole
 
 pub stops_of : (m other : Member) (number : ℕ) (e same : Entry) (error : RecordError) (before after : Option Folder) → m ≡ other → e ≡ same
-    → Writes m number (spelled m e) (Err error) before after → Writes other number (spelled other same) (Err error) before after
+    → Writes m number (spelled m e) (Err error) (change before after) → Writes other number (spelled other same) (Err error) (change before after)
 stops_of m other number e same error before after is told h =
-    subst (λ (m : Member). Writes m number (spelled m same) (Err error) before after) is
-    (subst (λ (e : Entry). Writes m number (spelled m e) (Err error) before after) told h)
+    subst (λ (m : Member). Writes m number (spelled m same) (Err error) (change before after)) is
+    (subst (λ (e : Entry). Writes m number (spelled m e) (Err error) (change before after)) told h)
 
 pub written_of : (m other : Member) (e same : Entry) (before after : Option Folder) → m ≡ other → e ≡ same
     → LogHasRoom m (spelled m e) × (after ≡ with_piece (string_bytes m.log) (spelled m e) before) → LogHasRoom other (spelled other same) × (after ≡ with_piece (string_bytes other.log) (spelled other same) before)

@@ -16,7 +16,7 @@ use Rattle.group_record.specs.Run.{GroupStart, Step, Had, Did, world_around, his
 use Rattle.group_record.specs.Laws.{DrawsIf, IsBegun}
 use Rattle.group_record.specs.Standing.{IsDone, IsRun, Standing, StandsReplayed}
 use Rattle.group_record.proofs.RunSteps.{is_run}
-use Rattle.group_record.proofs.LogsAgree.{KeepsAfter, Laws, keeps}
+use Rattle.group_record.proofs.LogsAgree.{KeepsAfter, Laws, keeps, stands_last}
 use Rattle.group_record.proofs.DeliveredDatagrams.{took, takes_kind}
 use Rattle.group_record.proofs.EventTakes.{Came, answers_random, came_by, draws_if}
 
@@ -77,7 +77,7 @@ process_stands group steps p k = record {
   first = k.first;
   begun = k.begun;
   last = k.last;
-  stands = k.stands;
+  stands = stands_last group steps p k;
   replay = k.reached;
   events = k.events;
   count = k.group_size;

@@ -18,7 +18,7 @@ use Rattle.group_record.specs.declared.error.RecordError.TheVariants as errors
 use Rattle.group_record.specs.Run.{GroupStart, Progress, Step, entries, history, process_after, run}
 use Rattle.group_record.specs.Logs.{logs}
 use Rattle.group_record.specs.Images.{images_of}
-use Rattle.group_record.specs.Files.{IsStopped}
+use Rattle.group_record.specs.Files.{FolderChange, IsStopped}
 
 -- ---- how a group begins
 
@@ -72,10 +72,10 @@ pub record IsSummary (group : GroupStart) (done : Progress) (summary : Summary) 
 -- ---- the answers
 
 -- the whole run was recorded, and the images that were asked for were written
-pub record IsRecordedWhole (asked : Bool) (group : GroupStart) (done : Progress) (said : Summary) (before after : Option Folder) : Type 0 where
+pub record IsRecordedWhole (asked : Bool) (group : GroupStart) (done : Progress) (said : Summary) (folder : FolderChange) : Type 0 where
   pub room : done.full ≡ None
   pub summary : IsSummary group done said
-  pub files : after ≡ with_files (logs group done.steps ++ images_of asked group done) before
+  pub files : folder.after ≡ with_files (logs group done.steps ++ images_of asked group done) folder.before
 
 -- the run was recorded up to an event of this item for which a log had no room
 pub record IsFull (group : GroupStart) (done : Progress) (item : ℕ) (before after : Option Folder) : Type 0 where
@@ -91,15 +91,16 @@ abbrev pub StoppedWhere : Schedule → Bool → Result (List State) ℕ → Opti
 StoppedWhere schedule asked (Err p) before after = after ≡ before
 StoppedWhere schedule asked (Ok first) before after = StoppedIn asked (group_of schedule first) (run (group_of schedule first) schedule.items) before after
 
--- what a recording answers, with images or without, and how it leaves the files
-abbrev pub RecordAnswers : Schedule → Bool → Result (List State) ℕ → Result Summary RecordError → Option Folder → Option Folder → Type 0
-RecordAnswers schedule asked begun (Ok summary) before after =
-    (first : List State) × (begun ≡ Ok first) × IsRecordedWhole asked (group_of schedule first) (run (group_of schedule first) schedule.items) summary before after
-RecordAnswers schedule asked begun (Err (errors.BadSegment p)) before after = (begun ≡ Err p) × (after ≡ before)
-RecordAnswers schedule asked begun (Err (errors.LogFull item)) before after =
-    (first : List State) × (begun ≡ Ok first) × IsFull (group_of schedule first) (run (group_of schedule first) schedule.items) item before after
-RecordAnswers schedule asked begun (Err errors.WriteFault) before after = StoppedWhere schedule asked begun before after
-RecordAnswers schedule asked begun (Err errors.NoMemory) before after = StoppedWhere schedule asked begun before after
+-- what a recording answers, with images or without, and how it changes the files
+abbrev pub RecordAnswers : Schedule → Bool → Result (List State) ℕ → Result Summary RecordError → FolderChange → Type 0
+RecordAnswers schedule asked begun (Ok summary) folder =
+    (first : List State) × (begun ≡ Ok first) × IsRecordedWhole asked (group_of schedule first) (run (group_of schedule first) schedule.items) summary folder
+RecordAnswers schedule asked begun (Err (errors.BadSegment p)) folder = (begun ≡ Err p) × (folder.after ≡ folder.before)
+RecordAnswers schedule asked begun (Err (errors.LogFull item)) folder =
+    (first : List State) × (begun ≡ Ok first)
+    × IsFull (group_of schedule first) (run (group_of schedule first) schedule.items) item folder.before folder.after
+RecordAnswers schedule asked begun (Err errors.WriteFault) folder = StoppedWhere schedule asked begun folder.before folder.after
+RecordAnswers schedule asked begun (Err errors.NoMemory) folder = StoppedWhere schedule asked begun folder.before folder.after
 
 -- the counts after what was written with this answer: a fault that was answered was counted once, and nothing else was
 abbrev pub after_writes : {T : Type 0} → Counts → Result T RecordError → Counts

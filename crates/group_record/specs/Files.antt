@@ -1,4 +1,4 @@
--- How the files stand where a recording was stopped.
+-- What a recording changes in the files, and how they stand where it was stopped.
 use Rattle.std.specs.Prelude.{◌≡◌, ◌<◌, ℕ, length, List, ◌∷◌, ◌++◌, take, Option}
 use Rattle.fri_outside.specs.Outside.{Folder}
 use Rattle.fri_outside.specs.Several.{grown, with_files}
@@ -7,6 +7,14 @@ use Rattle.guest_process.specs.Live.{Event}
 use Rattle.group_record.specs.Run.{GroupStart, Step, Had, IsMoment, entry_bytes, head_of_log}
 use Rattle.group_record.specs.Logs.{files_of, logs}
 use Rattle.process_files.specs.Parts.{made_in_part}
+
+-- what the files tell before something is done and after it
+pub record FolderChange : Type 0 where
+  pub before : Option Folder
+  pub after : Option Folder
+
+abbrev pub change : Option Folder → Option Folder → FolderChange
+change before after = record { before = before; after = after }
 
 -- a first part of each head
 abbrev pub heads_cut : GroupStart → (ℕ → ℕ) → ℕ → List ℕ

@@ -17,7 +17,7 @@ use Rattle.guest_process.specs.Live.{Event}
 use Rattle.guest_process.specs.Start.{start}
 use Rattle.guest_process.specs.State.{State}
 use Rattle.lossy_net.specs.Network.{nth_of}
-use Rattle.group_world.specs.History.{Deliver, History, mailbox, pool, sends, taken_count}
+use Rattle.group_world.specs.History.{Deliver, mailbox, pool, sends, taken_count}
 use Rattle.group_world.specs.Laws.{Giver, Origin}
 use Rattle.group_record.specs.Run.{GroupStart, Had, IsMoment, Step, entries, entry_bytes, history, process_after, run, size}
 use Rattle.group_record.specs.Logs.{TellsEvents, TellsBefore}
@@ -57,11 +57,11 @@ pub record TellsSend (e : Entry) (q : ℕ) (sent : Entry) : Type 0 where
   pub tag : e.tag ≡ Some (record { sender = q; clock = sent.clock })
   pub payload : e.incoming ≡ take e.call.a1 sent.outgoing
 
--- the nth send of process q into the group was for process p, and the entry names it, unless its clock is
--- past those that a tag can bear
-pub record IsSend (count : ℕ) (h : History) (q n p : ℕ) (e : Entry) : Type 0 where
+-- there is such a send of process q, it was for process p, and the entry names it, unless its clock is past those that a
+-- tag can bear
+pub record IsSend (found : Option Entry) (q p : ℕ) (e : Entry) : Type 0 where
   pub sent : Entry
-  pub is : nth_of (sends count h q) n ≡ Some sent
+  pub is : found ≡ Some sent
   pub to : sent.call.a0 ≡ p
   pub named : sent.clock ≤ 2 ^ 62 → TellsSend e q sent
 
@@ -76,7 +76,7 @@ pub record TakesDatagram (count : ℕ) (early : List Step) (p : ℕ) (e : Event)
   pub payload : e.entry.incoming ≡ take e.entry.call.a1 (read_datagram count bytes).1
   pub origin : Origin count (history early) p bytes
   pub giver : Giver count (history early) p (taken_count (history early) p) bytes
-  pub sent : (q n : ℕ) → giver.act ≡ Deliver q n → IsSend count giver.earlier q n p e.entry
+  pub sent : (q n : ℕ) → giver.act ≡ Deliver q n → IsSend (nth_of (sends count giver.earlier q) n) q p e.entry
   pub told : (q n : ℕ) (is : giver.act ≡ Deliver q n) → Contains (entries early q) (sent q n is).sent
 
 -- this holds of each event that took one

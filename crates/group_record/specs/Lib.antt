@@ -6,6 +6,7 @@ pub mod Files
 pub mod Answer
 pub mod Laws
 pub mod Standing
+pub mod RunLaws
 -- What its own functions alone speak of.
 pub mod Around
 pub mod Members

@@ -12,6 +12,7 @@ use Rattle.guest_process.specs.State.{State}
 use Rattle.group_record.specs.declared.error.RecordError.{RecordError}
 use Rattle.group_record.specs.declared.error.RecordError.TheVariants as errors
 use Rattle.group_record.specs.declared.member.Member.{Member}
+use Rattle.group_record.specs.Files.{FolderChange}
 use Rattle.group_record.specs.Logs.{log_name}
 
 -- a member that has begun in this state as process p of a group of `count` and has had no event
@@ -57,9 +58,10 @@ abbrev pub LogHasRoom : Member → List ℕ → Type 0
 LogHasRoom m bytes = m.size + length bytes ≤ most_log
 
 -- these bytes were written after the log, in the item with this number, or why they were not
-abbrev pub Writes : Member → ℕ → List ℕ → Result ⊤ RecordError → Option Folder → Option Folder → Type 0
-Writes m number bytes (Ok _) before after = LogHasRoom m bytes × (after ≡ with_piece (string_bytes m.log) bytes before)
-Writes m number bytes (Err (errors.BadSegment p)) before after = ⊥
-Writes m number bytes (Err (errors.LogFull item)) before after = (item ≡ number) × (most_log < m.size + length bytes) × (after ≡ before)
-Writes m number bytes (Err errors.WriteFault) before after = LogHasRoom m bytes × IsAppendedInPart (string_bytes m.log) bytes before after
-Writes m number bytes (Err errors.NoMemory) before after = (after ≡ before) ⊎ (LogHasRoom m bytes × (after ≡ with_piece (string_bytes m.log) bytes before))
+abbrev pub Writes : Member → ℕ → List ℕ → Result ⊤ RecordError → FolderChange → Type 0
+Writes m number bytes (Ok _) folder = LogHasRoom m bytes × (folder.after ≡ with_piece (string_bytes m.log) bytes folder.before)
+Writes m number bytes (Err (errors.BadSegment p)) folder = ⊥
+Writes m number bytes (Err (errors.LogFull item)) folder = (item ≡ number) × (most_log < m.size + length bytes) × (folder.after ≡ folder.before)
+Writes m number bytes (Err errors.WriteFault) folder = LogHasRoom m bytes × IsAppendedInPart (string_bytes m.log) bytes folder.before folder.after
+Writes m number bytes (Err errors.NoMemory) folder =
+    (folder.after ≡ folder.before) ⊎ (LogHasRoom m bytes × (folder.after ≡ with_piece (string_bytes m.log) bytes folder.before))

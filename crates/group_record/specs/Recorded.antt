@@ -27,7 +27,7 @@ use Rattle.group_record.specs.declared.summary.Summary.{Summary}
 use Rattle.group_record.specs.declared.summary.SummaryLine.{SummaryLine}
 use Rattle.group_record.specs.Run.{GroupStart, Progress, Step, entries, history, is_running_process, log_of, name_of_process, process_after, size}
 use Rattle.group_record.specs.Logs.{log_name, logs}
-use Rattle.group_record.specs.Files.{IsStopped}
+use Rattle.group_record.specs.Files.{FolderChange, IsStopped, change}
 use Rattle.group_record.specs.Images.{images_of}
 use Rattle.process_files.specs.Parts.{AreMadeInPart}
 use Rattle.group_record.specs.Members.{member_after}
@@ -150,18 +150,18 @@ pub record UnderWay (recorder : Recorder) (told : Option Folder) : Type 0 where
   pub files : FilesOf group done before told
 
 -- a recorder that was to come as far as this has done so, or why not
-abbrev pub Comes : GroupStart → Progress → Result ⊤ RecordError → Recorder → Option Folder → Option Folder → Type 0
-Comes group next (Ok _) recorder before after = KeepsUp group next recorder × FilesOf group next before after
-Comes group next (Err (errors.BadSegment p)) recorder before after = ⊥
-Comes group next (Err (errors.LogFull item)) recorder before after = (next.full ≡ Some item) × FilesOf group next before after
-Comes group next (Err errors.WriteFault) recorder before after = IsStopped group next.steps [] before after
-Comes group next (Err errors.NoMemory) recorder before after = IsStopped group next.steps [] before after
+abbrev pub Comes : GroupStart → Progress → Result ⊤ RecordError → Recorder → FolderChange → Type 0
+Comes group next (Ok _) recorder folder = KeepsUp group next recorder × FilesOf group next folder.before folder.after
+Comes group next (Err (errors.BadSegment p)) recorder folder = ⊥
+Comes group next (Err (errors.LogFull item)) recorder folder = (next.full ≡ Some item) × FilesOf group next folder.before folder.after
+Comes group next (Err errors.WriteFault) recorder folder = IsStopped group next.steps [] folder.before folder.after
+Comes group next (Err errors.NoMemory) recorder folder = IsStopped group next.steps [] folder.before folder.after
 
 -- wherever the recorder stood, it is to come as far as what comes next there
-abbrev pub Does : (GroupStart → Progress → Progress) → Recorder → Result ⊤ RecordError → Recorder → Option Folder → Option Folder → Type 0
-Does next old result new told now =
-    (group : GroupStart) (done : Progress) (before : Option Folder) → KeepsUp group done old → FilesOf group done before told
-    → Comes group (next group done) result new before now
+abbrev pub Does : (GroupStart → Progress → Progress) → Recorder → Result ⊤ RecordError → Recorder → FolderChange → Type 0
+Does next old result new folder =
+    (group : GroupStart) (done : Progress) (first : Option Folder) → KeepsUp group done old → FilesOf group done first folder.before
+    → Comes group (next group done) result new (change first folder.after)
 
 -- for how many of so many processes it keeps what they print: for all where images are asked for, else for none
 abbrev pub kept_for : Bool → ℕ → ℕ
@@ -178,10 +178,10 @@ MakesFiles files (Err errors.WriteFault) before after = AreMadeInPart files befo
 MakesFiles files (Err errors.NoMemory) before after = AreMadeInPart files before after
 
 -- the images of the group up to where the recorder is were to be made, if they were asked for
-abbrev pub MakesImages : Bool → List ProcessLine → Recorder → Result ⊤ RecordError → Option Folder → Option Folder → Type 0
-MakesImages asked lines recorder result before after =
+abbrev pub MakesImages : Bool → List ProcessLine → Recorder → Result ⊤ RecordError → FolderChange → Type 0
+MakesImages asked lines recorder result folder =
     (group : GroupStart) (done : Progress) → KeepsUp group done recorder → group.names ≡ map (λ line. line.name) lines
-    → MakesFiles (images_of asked group done) result before after
+    → MakesFiles (images_of asked group done) result folder.before folder.after
 
 -- ---- what is said of it
 

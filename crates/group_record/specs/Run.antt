@@ -1,9 +1,10 @@
 -- The run of a schedule: what each item does to a group, from its first states on.
 use Rattle.std.specs.Prelude.{◌≡◌, ℕ, zero, suc, Bool, false, ◌&&◌, ◌==◌, not, is_some, nat_le, List, [], ◌∷◌, ◌++◌, length, drop, map, slice_get, Option, Some, None, option_and_then, if◌then◌else◌}
 use Rattle.std.specs.Int.{w64, cast_unsigned}
-use Rattle.std.specs.List.{slice_index_or}
+use Rattle.std.specs.List.{last_or, slice_index_or}
+use Rattle.std.specs.Option.{option_to_list}
 use Rattle.lib_calls.specs.declared.entry.Entry.{Entry}
-use Rattle.call_log.specs.Entry.{clock_after, encoding, encodings}
+use Rattle.call_log.specs.Entry.{encodings}
 use Rattle.call_log.specs.Head.{Head, head_bytes}
 use Rattle.call_log.specs.Limits.{most_log}
 use Rattle.call_log.specs.declared.version.Version.TheVariants.{Two}
@@ -50,11 +51,13 @@ process_states [] p = []
 process_states (Had q e ∷ steps) p = put_last_if (q == p) (process_states steps p) e.state
 process_states (Did act ∷ steps) p = process_states steps p
 
--- the state of a process after some steps
+-- all states of a process: its first one, where it is of the group, and those after its events
+abbrev pub recorded_states : GroupStart → List Step → ℕ → List State
+recorded_states group steps p = option_to_list (slice_get group.first p) ++ process_states steps p
+
+-- the last of them
 abbrev pub process_after : GroupStart → List Step → ℕ → Option State
-process_after group [] p = slice_get group.first p
-process_after group (Had q e ∷ steps) p = if q == p then Some e.state else process_after group steps p
-process_after group (Did act ∷ steps) p = process_after group steps p
+process_after group steps p = last_or None (recorded_states group steps p)
 
 -- the world around a process after some steps, by counting
 abbrev pub world_around : ℕ → List Step → ℕ → Env
@@ -77,10 +80,6 @@ head_of_log group p = record { version = Two; count = size group; process = p; n
 -- the log of a process: its head, and its events' entries
 abbrev pub log_of : GroupStart → List Step → ℕ → List ℕ
 log_of group steps p = head_bytes (head_of_log group p) ++ encodings Two 0 (entries steps p)
-
--- an entry as it is spelled after those of a process
-abbrev pub spelled_next : List Step → ℕ → Entry → List ℕ
-spelled_next steps p e = encoding Two (clock_after 0 (entries steps p)) e
 
 -- what the log has more with this event
 abbrev pub entry_bytes : GroupStart → List Step → ℕ → Event → List ℕ

@@ -3,6 +3,7 @@ ghost use Rattle.std.specs.Prelude.{◌≡◌, IsTrue, All, is_some, length};
 ghost use Rattle.schedule_text.specs.Schedule.{IsProcess};
 ghost use Rattle.group_record.specs.Answer.{after_writes};
 ghost use Rattle.group_record.specs.Recorded.{MakesImages, kept_for};
+ghost use Rattle.group_record.specs.Files.{change};
 
 use crate::error::RecordError;
 use crate::recorder::Recorder;
@@ -25,7 +26,7 @@ pub(crate) fn write_images<F: Files>(
     requires present { All (λ m. IsTrue (is_some m.process)) recorder.now.members.items }
     requires kept { length recorder.now.prints ≡ kept_for asked (length processes.now) }
     requires named { All IsProcess processes.now }
-    ensures images { MakesImages asked processes.now recorder.now result (F.told files.old) (F.told files.new) }
+    ensures images { MakesImages asked processes.now recorder.now result (change (F.told files.old) (F.told files.new)) }
     ensures counted { F.counts files.new ≡ after_writes (F.counts files.old) result }
 {
     if !asked {

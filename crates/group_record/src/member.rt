@@ -11,6 +11,7 @@ ghost use Rattle.guest_process.specs.Start.{start as start_of};
 ghost use Rattle.wasm_types.specs.Modules.{module_of};
 ghost use Rattle.group_record.specs.Answer.{after_writes};
 ghost use Rattle.group_record.specs.Members.{CanKeep, Starts, Writes, member_after, spelled};
+ghost use Rattle.group_record.specs.Files.{change};
 
 use crate::error::RecordError;
 use call_log::{LogHead, MOST_LOG, Version, put_entry, put_head};
@@ -75,7 +76,7 @@ impl<'m> Member<'m> {
     ) -> Result<(), RecordError>
         requires shape { IsShaped (entry_of entry.now) }
         requires event { CanKeep self.old (entry_of entry.now) }
-        ensures writes { Writes self.old number (spelled self.old (entry_of entry.now)) result (F.told files.old) (F.told files.new) }
+        ensures writes { Writes self.old number (spelled self.old (entry_of entry.now)) result (change (F.told files.old) (F.told files.new)) }
         ensures ok { OnOk result (self.new ≡ member_after self.old (entry_of entry.now)) }
         ensures counted { F.counts files.new ≡ after_writes (F.counts files.old) result }
     {
@@ -95,7 +96,7 @@ impl<'m> Member<'m> {
         files: &mut F,
     ) -> Result<(), RecordError>
         requires { self.old.size ≤ most_log }
-        ensures writes { Writes self.old number bytes.now result (F.told files.old) (F.told files.new) }
+        ensures writes { Writes self.old number bytes.now result (change (F.told files.old) (F.told files.new)) }
         ensures ok { OnOk result (self.new ≡ record self.old { size = self.old.size + length bytes.now }) }
         ensures counted { F.counts files.new ≡ after_writes (F.counts files.old) result }
     {

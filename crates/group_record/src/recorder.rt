@@ -10,6 +10,7 @@ ghost use Rattle.group_record.specs.Run.{after_item, after_items, attempt, attem
 ghost use Rattle.group_record.specs.Recorded.{Does, HasCountsFor, IsLogged, UnderWay, acted_on, acts, after_act, total_count, counted_of};
 ghost use Rattle.group_record.specs.Members.{CanKeep, Writes, spelled};
 ghost use Rattle.group_record.specs.Answer.{after_writes};
+ghost use Rattle.group_record.specs.Files.{change};
 
 use crate::error::RecordError;
 use crate::event::live_entry;
@@ -45,7 +46,7 @@ impl<'m> Recorder<'m> {
         requires under_way { UnderWay self.old (F.told files.old) }
         requires in_range { All (IsInRange (length self.old.members.items)) items.now }
         requires few { HasCountsFor (sum_by counted_of items.now) self.old }
-        ensures comes { Does (λ group. after_items group 1 items.now) self.old result self.new (F.told files.old) (F.told files.new) }
+        ensures comes { Does (λ group. after_items group 1 items.now) self.old result self.new (change (F.told files.old) (F.told files.new)) }
         ensures prints { OnOk result (length self.new.prints ≡ length self.old.prints) }
         ensures counted { F.counts files.new ≡ after_writes (F.counts files.old) result }
     {
@@ -67,7 +68,7 @@ impl<'m> Recorder<'m> {
         requires under_way { UnderWay self.old (F.told files.old) }
         requires in_range { IsInRange (length self.old.members.items) item.now }
         requires few { HasCountsFor (counted_of item.now) self.old }
-        ensures comes { Does (λ group. after_item group number item.now) self.old result self.new (F.told files.old) (F.told files.new) }
+        ensures comes { Does (λ group. after_item group number item.now) self.old result self.new (change (F.told files.old) (F.told files.new)) }
         ensures total { OnOk result (total_count self.new ≡ total_count self.old + counted_of item.now) }
         ensures prints { OnOk result (length self.new.prints ≡ length self.old.prints) }
         ensures counted { F.counts files.new ≡ after_writes (F.counts files.old) result }
@@ -95,7 +96,7 @@ impl<'m> Recorder<'m> {
         requires under_way { UnderWay self.old (F.told files.old) }
         requires process { p < length self.old.members.items }
         requires few { HasCountsFor times self.old }
-        ensures comes { Does (λ group. attempts group number p thread times) self.old result self.new (F.told files.old) (F.told files.new) }
+        ensures comes { Does (λ group. attempts group number p thread times) self.old result self.new (change (F.told files.old) (F.told files.new)) }
         ensures total { OnOk result (total_count self.new ≡ total_count self.old + times) }
         ensures prints { OnOk result (length self.new.prints ≡ length self.old.prints) }
         ensures counted { F.counts files.new ≡ after_writes (F.counts files.old) result }
@@ -117,7 +118,7 @@ impl<'m> Recorder<'m> {
         requires under_way { UnderWay self.old (F.told files.old) }
         requires process { p < length self.old.members.items }
         requires few { HasCountsFor 1 self.old }
-        ensures comes { Does (λ group. attempt group number p thread) self.old result self.new (F.told files.old) (F.told files.new) }
+        ensures comes { Does (λ group. attempt group number p thread) self.old result self.new (change (F.told files.old) (F.told files.new)) }
         ensures total { OnOk result (total_count self.new ≡ total_count self.old + 1) }
         ensures prints { OnOk result (length self.new.prints ≡ length self.old.prints) }
         ensures counted { F.counts files.new ≡ after_writes (F.counts files.old) result }
@@ -152,7 +153,7 @@ impl<'m> Recorder<'m> {
         requires drawn { drawn_of entry.now ≤ length (surroundings_of self.old.world p).pool }
         requires few { HasCountsFor 1 self.old }
         ensures writes { (m : MemberOf) → slice_get self.old.members.items p ≡ Some m →
-            Writes m number (spelled m entry.now) result (F.told files.old) (F.told files.new) }
+            Writes m number (spelled m entry.now) result (change (F.told files.old) (F.told files.new)) }
         ensures ok { OnOk result ((m : MemberOf) → slice_get self.old.members.items p ≡ Some m → IsLogged self.old p m entry.now self.new) }
         ensures prints { OnOk result (length self.new.prints ≡ length self.old.prints) }
         ensures counted { F.counts files.new ≡ after_writes (F.counts files.old) result }

@@ -2,6 +2,7 @@
 ghost use Rattle.std.specs.Prelude.{◌≡◌, length, map};
 ghost use Rattle.wasm_types.specs.Modules.{module_of};
 ghost use Rattle.group_record.specs.Answer.{RecordAnswers, after_writes, first_states};
+ghost use Rattle.group_record.specs.Files.{change};
 
 use crate::begin::begin;
 use crate::error::RecordError;
@@ -25,7 +26,7 @@ pub fn run_record<F: Files>(
     images: bool,
 ) -> Result<Summary, RecordError>
     requires { length modules.now ≡ length schedule.now.processes }
-    ensures answers { RecordAnswers schedule.now images (first_states schedule.now (map module_of modules.now)) result (F.told files.old) (F.told files.new) }
+    ensures answers { RecordAnswers schedule.now images (first_states schedule.now (map module_of modules.now)) result (change (F.told files.old) (F.told files.new)) }
     ensures counted { F.counts files.new ≡ after_writes (F.counts files.old) result }
 {
     group_world::laws::by_counting();

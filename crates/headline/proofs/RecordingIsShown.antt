@@ -18,7 +18,7 @@ use Rattle.guest_process.specs.State.{State}
 use Rattle.proc_replay.specs.Replaying.{Replaying}
 use Rattle.group_record.specs.Laws.{Beginning, TakesDatagram, TellsCut}
 use Rattle.group_record.specs.Logs.{IsLogOfRun, TellsBefore, TellsEvents}
-use Rattle.group_record.specs.Run.{GroupStart, Had, IsMoment, Step, entries, entry_bytes, head_of_log, log_of, process_states, size}
+use Rattle.group_record.specs.Run.{GroupStart, Had, IsMoment, Step, entries, entry_bytes, head_of_log, log_of, size}
 use Rattle.group_record.specs.Standing.{RunIs, Standing}
 use Rattle.group_state.specs.Laws.{Ordered, SendsFirst}
 use Rattle.group_state.specs.Place.{PartsFit}
@@ -78,7 +78,7 @@ all_fit group steps cut (p ∷ ps) [] all k d below = absurd all
 tells_whole : (group : GroupStart) (steps : List Step) (p : ℕ) (cut : List ℕ) → TellsEvents group steps p → cut ≡ [] → TellsBefore group steps p cut
 tells_whole group steps p cut t none =
     subst (λ (cut : List ℕ). TellsBefore group steps p cut) (sym none)
-    (subst (λ (bytes : List ℕ). IsLogOfRun group p bytes (entries steps p) (process_states steps p) []) (sym (append-nil (log_of group steps p))) t)
+    (subst (λ (bytes : List ℕ). IsLogOfRun group steps p bytes []) (sym (append-nil (log_of group steps p))) t)
 
 -- what the log is after other steps, among which the process had no event
 tells_after : (group : GroupStart) (early steps : List Step) (p : ℕ) (cut : List ℕ) → TellsEvents group steps p → TellsBefore group early p cut → entries early p ≡ entries steps p → TellsBefore group steps p cut

@@ -14,7 +14,7 @@ use Rattle.guest_process.specs.Replay.{accepted, last_state, left_over, reach, r
 use Rattle.guest_process.specs.State.{State}
 use Rattle.proc_replay.specs.Replaying.{Replaying}
 use Rattle.group_record.specs.Logs.{TellsBefore}
-use Rattle.group_record.specs.Run.{GroupStart, Step, entries, head_of_log, process_after, process_states, size}
+use Rattle.group_record.specs.Run.{GroupStart, Step, entries, head_of_log, process_after, process_states, recorded_states, size}
 use Rattle.group_record.specs.Standing.{RunIs, StandsReplayed}
 use Rattle.group_state.specs.Image.{left_memory, left_print}
 use Rattle.group_record.specs.Images.{memory_in}
@@ -22,7 +22,7 @@ use Rattle.group_record.specs.Answer.{end_after}
 use Rattle.group_state.specs.Place.{after_entries}
 use Rattle.group_state.specs.declared.report.ReportLine.{ReportLine}
 use Rattle.group_state.specs.Report.{report_line}
-use Rattle.headline.specs.Shown.{ShowsProcess, recorded_line, recorded_states}
+use Rattle.headline.specs.Shown.{ShowsProcess, recorded_line}
 use Rattle.headline.proofs.RecordedCourse.{states_count}
 
 -- the replay of a log
@@ -43,13 +43,13 @@ shows group steps cut p run t = record {
   accepted = ap (λ (es : List Entry). take (accepted t.first es) es) t.entries ∙ ap (λ (n : ℕ). take n (entries steps p)) t.accepted ∙ take-length (entries steps p);
   moments = λ n within. moment n within;
 } where
-  course : recorded_states group steps p ≡ t.first ∷ process_states steps p
-  course = ap (λ (o : Option State). option_to_list o ++ process_states steps p) t.begun
+  one_more : length (recorded_states group steps p) ≡ suc (length (process_states steps p))
+  one_more = ap (λ (o : Option State). length (option_to_list o ++ process_states steps p)) t.begun
 
   moment : (n : ℕ) → n ≤ length (entries steps p) → slice_get (recorded_states group steps p) n ≡ Some (after_entries (replay_of group steps cut p t) n)
   moment n within =
-      let some = some_state (t.first ∷ process_states steps p) n (omega (arith, within, states_count group steps p run.steps)) in
-      ap (λ (xs : List State). slice_get xs n) course ∙ some.1
+      let some = some_state (recorded_states group steps p) n (omega (arith, within, one_more, states_count group steps p run.steps)) in
+      some.1
       ∙ ap (λ (S : State). Some S) (sym (t.states n some.0 some.1) ∙ ap (λ (es : List Entry). replayed t.first (take n es)) (sym t.entries))
 
 -- ---- all of it is accepted

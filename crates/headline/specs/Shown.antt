@@ -1,7 +1,6 @@
 -- What `replay` and `debug` show of a recording.
 use Rattle.std.specs.Prelude.{◌≡◌, ◌<◌, ◌≤◌, ◌^◌, ℕ, ◌++◌, Bool, false, IsTrue, List, [], ◌∷◌, length, map, take, slice_get, Some, Contains, if◌then◌else◌}
 use Rattle.std.specs.List.{flat_map}
-use Rattle.std.specs.Option.{option_to_list}
 use Rattle.lamport_tag.specs.Tag.{read_datagram}
 use Rattle.lib_calls.specs.Traffic.{is_sent, is_taken, prints}
 use Rattle.lib_calls.specs.declared.entry.Entry.{Entry}
@@ -14,7 +13,7 @@ use Rattle.group_record.specs.Answer.{end_after}
 use Rattle.group_record.specs.Images.{memory_in}
 use Rattle.process_files.specs.Images.{image_files}
 use Rattle.group_record.specs.Laws.{TellsSend}
-use Rattle.group_record.specs.Run.{GroupStart, Step, entries, head_of_log, history, name_of_process, process_after, process_states, size}
+use Rattle.group_record.specs.Run.{GroupStart, Step, entries, head_of_log, history, name_of_process, process_after, recorded_states, size}
 use Rattle.proc_replay.specs.Course.{ahead}
 use Rattle.proc_replay.specs.Replaying.{Replaying}
 use Rattle.group_state.specs.declared.report.ReportLine.{ReportLine}
@@ -28,10 +27,6 @@ use Rattle.replay_command.specs.Report.{report_text}
 -- after no log anything stands
 abbrev pub no_cut : ℕ → List ℕ
 no_cut p = []
-
--- the states of a process in the recording: the first one, and that after each of its events
-abbrev pub recorded_states : GroupStart → List Step → ℕ → List State
-recorded_states group steps p = option_to_list (slice_get group.first p) ++ process_states steps p
 
 -- a replay is that of a process of the recording. It has all events of the process and no other, each is accepted, and
 -- after each n of them it is in the recorded state. What comes after their entries is left over

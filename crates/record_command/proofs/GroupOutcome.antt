@@ -12,7 +12,7 @@ use Rattle.group_record.specs.declared.error.RecordError.TheVariants as errors
 use Rattle.group_record.specs.declared.summary.Summary.{Summary}
 use Rattle.group_record.specs.declared.summary.SummaryLine.{SummaryLine}
 use Rattle.group_record.specs.Answer.{RecordAnswers, StoppedWhere, IsSummary, first_states, group_of, summary_lines}
-use Rattle.group_record.specs.Files.{Between, InImages, IsStopped}
+use Rattle.group_record.specs.Files.{Between, InImages, IsStopped, change}
 use Rattle.group_record.specs.Images.{images_of, images as all_images}
 use Rattle.process_files.specs.Parts.{made_in_part}
 use Rattle.group_record.specs.Logs.{logs}
@@ -70,7 +70,7 @@ same_text images group done summary told =
     ∙ ap (λ (acted : ℕ). summary_text (summary_lines group done.steps 0 group.names) acted summary.idle) told.acted
     ∙ ap (λ (idle : ℕ). summary_text (summary_lines group done.steps 0 group.names) (length done.steps) idle) told.idle
 
-pub done_tells : (images : Bool) (name : List ℕ) (schedule : Schedule) (states : Result (List State) ℕ) (summary : Summary) (text : List ℕ) (before after : Option Folder) → RecordAnswers schedule images states (Ok summary) before after
+pub done_tells : (images : Bool) (name : List ℕ) (schedule : Schedule) (states : Result (List State) ℕ) (summary : Summary) (text : List ℕ) (before after : Option Folder) → RecordAnswers schedule images states (Ok summary) (change before after)
     → text ≡ summary_text summary.lines.items summary.acted summary.idle → TellsOutcome (group_outcome images name schedule states) (Ok (answered.Done text))
 done_tells images name schedule states summary text before after (first, is, done) printed =
     let group = group_of schedule first in
@@ -81,19 +81,19 @@ done_tells images name schedule states summary text before after (first, is, don
       refl,
     )
 
-pub done_makes : (images : Bool) (name : List ℕ) (schedule : Schedule) (states : Result (List State) ℕ) (summary : Summary) (before after : Option Folder) → RecordAnswers schedule images states (Ok summary) before after
+pub done_makes : (images : Bool) (name : List ℕ) (schedule : Schedule) (states : Result (List State) ℕ) (summary : Summary) (before after : Option Folder) → RecordAnswers schedule images states (Ok summary) (change before after)
     → after ≡ with_files (writes_of (group_outcome images name schedule states)) before
 done_makes images name schedule states summary before after (first, is, done) =
     done.files ∙ ap (λ (files : List (List ℕ × List ℕ)). with_files files before) (writes_at images name schedule states first is)
 
 -- the same where there was no memory for the text
-pub done_changes : KeepsFiles → (images : Bool) (name : List ℕ) (schedule : Schedule) (states : Result (List State) ℕ) (summary : Summary) (before after : Option Folder) → RecordAnswers schedule images states (Ok summary) before after
+pub done_changes : KeepsFiles → (images : Bool) (name : List ℕ) (schedule : Schedule) (states : Result (List State) ℕ) (summary : Summary) (before after : Option Folder) → RecordAnswers schedule images states (Ok summary) (change before after)
     → ChangesOnly before (writes_of (group_outcome images name schedule states)) after
 done_changes keeps images name schedule states summary before after answers = all_made keeps _ before after (done_makes images name schedule states summary before after answers)
 
 -- ---- it was not
 
-full_tells : (images : Bool) (name : List ℕ) (schedule : Schedule) (states : Result (List State) ℕ) (item : ℕ) (file : List ℕ) (before after : Option Folder) → RecordAnswers schedule images states (Err (errors.LogFull item)) before after → file ≡ name
+full_tells : (images : Bool) (name : List ℕ) (schedule : Schedule) (states : Result (List State) ℕ) (item : ℕ) (file : List ℕ) (before after : Option Folder) → RecordAnswers schedule images states (Err (errors.LogFull item)) (change before after) → file ≡ name
     → (done : _) × (group_outcome images name schedule states ≡ Err (Refuses file (reason.LogFull item) done)) × (done.text ≡ [])
 full_tells images name schedule states item file before after (first, is, full) named =
     let group = group_of schedule first in
@@ -104,7 +104,7 @@ full_tells images name schedule states item file before after (first, is, full) 
       refl,
     )
 
-pub error_tells : (images : Bool) (name : List ℕ) (schedule : Schedule) (states : Result (List State) ℕ) (error : RecordError) (e : StopCause) (before after : Option Folder) → RecordAnswers schedule images states (Err error) before after → RefusesAs name schedule error e
+pub error_tells : (images : Bool) (name : List ℕ) (schedule : Schedule) (states : Result (List State) ℕ) (error : RecordError) (e : StopCause) (before after : Option Folder) → RecordAnswers schedule images states (Err error) (change before after) → RefusesAs name schedule error e
     → TellsOutcome (group_outcome images name schedule states) (Err e)
 error_tells images name schedule states (errors.BadSegment p) (refusal.Refused file why) before after answers (named, is) =
     (nothing_done, rw (named, is) (ap (group_outcome images name schedule) answers.0), refl)
@@ -124,13 +124,13 @@ where_changes keeps images name schedule (Ok first) before after stopped =
     subst (λ (files : List (List ℕ × List ℕ)). ChangesOnly before files after) (sym (group_writes images name schedule first))
     (stopped_changes keeps (group_of schedule first) (run_of schedule first).steps (images_of images (group_of schedule first) (run_of schedule first)) before after stopped)
 
-full_makes : (images : Bool) (name : List ℕ) (schedule : Schedule) (states : Result (List State) ℕ) (item : ℕ) (before after : Option Folder) → RecordAnswers schedule images states (Err (errors.LogFull item)) before after
+full_makes : (images : Bool) (name : List ℕ) (schedule : Schedule) (states : Result (List State) ℕ) (item : ℕ) (before after : Option Folder) → RecordAnswers schedule images states (Err (errors.LogFull item)) (change before after)
     → after ≡ with_files (writes_of (group_outcome images name schedule states)) before
 full_makes images name schedule states item before after (first, is, full) =
     full.files ∙ ap (λ (files : List (List ℕ × List ℕ)). with_files files before)
     (full_writes images (group_of schedule first) (run_of schedule first) item full.full ∙ writes_at images name schedule states first is)
 
-pub error_makes : KeepsFiles → (images : Bool) (name : List ℕ) (schedule : Schedule) (states : Result (List State) ℕ) (error : RecordError) (e : StopCause) (before after : Option Folder) → RecordAnswers schedule images states (Err error) before after → RefusesAs name schedule error e
+pub error_makes : KeepsFiles → (images : Bool) (name : List ℕ) (schedule : Schedule) (states : Result (List State) ℕ) (error : RecordError) (e : StopCause) (before after : Option Folder) → RecordAnswers schedule images states (Err error) (change before after) → RefusesAs name schedule error e
     → MakesWorkFiles (Err e) (writes_of (group_outcome images name schedule states)) before after
 error_makes keeps images name schedule states (errors.BadSegment p) (refusal.Refused file why) before after answers named =
     answers.1 ∙ ap (λ (files : List (List ℕ × List ℕ)). with_files files before) (sym (ap writes_of (ap (group_outcome images name schedule) answers.0)))
@@ -155,7 +155,7 @@ whole_part : (files : List (List ℕ × List ℕ)) → files ≡ made_in_part fi
 whole_part [] = refl
 whole_part (file ∷ files) = ap (λ (rest : List (List ℕ × List ℕ)). file ∷ rest) (whole_part files)
 
-pub answer_stops : (images : Bool) (schedule : Schedule) (states : Result (List State) ℕ) (result : Result Summary RecordError) (before after : Option Folder) → RecordAnswers schedule images states result before after → StoppedWhere schedule images states before after
+pub answer_stops : (images : Bool) (schedule : Schedule) (states : Result (List State) ℕ) (result : Result Summary RecordError) (before after : Option Folder) → RecordAnswers schedule images states result (change before after) → StoppedWhere schedule images states before after
 answer_stops images schedule states (Ok summary) before after (first, is, done) =
     let files = images_of images (group_of schedule first) (run_of schedule first) in
     at_first images schedule states first before after is
@@ -166,9 +166,9 @@ answer_stops images schedule states (Err errors.WriteFault) before after stopped
 answer_stops images schedule states (Err errors.NoMemory) before after stopped = stopped
 
 -- a process that does not begin is one of the schedule's
-pub refuses_within : (images : Bool) (schedule : Schedule) (modules : List Module) (error : RecordError) (before after : Option Folder) → RecordAnswers schedule images (first_states schedule modules) (Err error) before after → length modules ≡ length schedule.processes
+pub refuses_within : (images : Bool) (schedule : Schedule) (modules : List Module) (error : RecordError) (before after : Option Folder) → RecordAnswers schedule images (first_states schedule modules) (Err error) (change before after) → length modules ≡ length schedule.processes
     → (p : ℕ) → error ≡ errors.BadSegment p → p < length schedule.processes
 refuses_within images schedule modules error before after answers many p is =
-    let refused = subst (λ (e : RecordError). RecordAnswers schedule images (first_states schedule modules) (Err e) before after) is answers in
+    let refused = subst (λ (e : RecordError). RecordAnswers schedule images (first_states schedule modules) (Err e) (change before after)) is answers in
     let within = fails_within (length schedule.processes) 0 p modules refused.0 in
     omega (arith, within, many)

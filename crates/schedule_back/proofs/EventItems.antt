@@ -18,6 +18,7 @@ use Rattle.group_world.specs.History.{put_last_if}
 use Rattle.schedule_text.specs.declared.item.Item.{Item}
 use Rattle.schedule_text.specs.declared.item.Item.TheVariants as item
 use Rattle.group_record.specs.Run.{GroupStart, Had, Step, after_items, attempts, entries, event_of_try, had, head_of_log, history, log_has_room, process_after, size, unless_full}
+use Rattle.group_record.specs.RunLaws.{after_had}
 use Rattle.proc_replay.specs.Replaying.{Replaying}
 use Rattle.group_state.specs.Laws.{IsStep}
 use Rattle.group_state.specs.Place.{events, states}
@@ -83,7 +84,8 @@ module _ (possible : Possible) (start : List Replaying) (group : GroupStart) (k 
 
   states_after : (q : ℕ) → process_after group after q ≡ slice_get (states start (suc k)) q
   states_after q =
-      ap (λ (o : Option State). cond (p == q) (Some (next s.state x)) o) (ready.comes.states q ∙ at.states q)
+      after_had group ready.after p q event
+      ∙ ap (λ (o : Option State). cond (p == q) (Some (next s.state x)) o) (ready.comes.states q ∙ at.states q)
       ∙ sym (get_set (states start k) p s.state (next s.state x) s.stands q)
       ∙ ap (λ (ss : List State). slice_get ss q) (sym s.after)
 

@@ -22,6 +22,7 @@ use Rattle.guest_process.specs.OneEvent.{IsKept, Possible}
 use Rattle.guest_process.specs.State.{State}
 use Rattle.group_order.specs.Order.{NodeEvent, of_node}
 use Rattle.group_record.specs.Run.{Progress, Step, after_items, entries, head_of_log, history, size, world_around}
+use Rattle.group_record.specs.RunLaws.{before_steps}
 use Rattle.proc_replay.specs.Replaying.{Replaying}
 use Rattle.proc_replay.specs.Sizes.{AcceptedNoLonger}
 use Rattle.schedule_text.specs.Limits.{most_runs}
@@ -144,7 +145,7 @@ module _ (exact : ExactLogs) (ordered : Ordered) (stepwise : Stepwise) (possible
 
   at_start : IsAt start (back_group lines start) 0 []
   at_start = record {
-    states = λ p. ap (λ (ss : List State). slice_get ss p) (sym (stepwise.begins start));
+    states = λ p. before_steps (back_group lines start) p ∙ ap (λ (ss : List State). slice_get ss p) (sym (stepwise.begins start));
     logs = λ p. refl;
     quiet = λ p. record { datagrams = refl; bytes = refl; signals = λ s first. refl; alive = refl };
   }
