@@ -184,13 +184,21 @@ abbrev pub said_after : ℕ → Status → ℕ
 said_after count ends.WriteFault = raised count
 said_after count answer = count
 
+-- what a sink took by one moment, as far as it tells, and how often it failed
+pub record OutputState : Type 0 where
+  pub taken : Option (List ℕ)
+  pub faults : ℕ
+
+abbrev pub output_state : Option (List ℕ) → ℕ → OutputState
+output_state taken faults = record { taken = taken; faults = faults }
+
 -- the end of a command's result, with its text written
-pub record FinishesCall (ended : Result WorkText StopCause) (answer : Status) (before after : Option (List ℕ)) (faults_before faults_after : ℕ) : Type 0 where
+pub record FinishesCall (ended : Result WorkText StopCause) (answer : Status) (old new : OutputState) : Type 0 where
   pub status : IfSome (status_and_text ended) (λ a. IsAnswerStatus answer → answer ≡ a.0)
-  pub text : IfSome (status_and_text ended) (λ a. Prints answer a.1 before after)
-  pub silent : IfNone (status_and_text ended) (after ≡ before)
+  pub text : IfSome (status_and_text ended) (λ a. Prints answer a.1 old.taken new.taken)
+  pub silent : IfNone (status_and_text ended) (new.taken ≡ old.taken)
   pub fault : FaultStatus ended answer
   pub read_fault : IfSome (status_and_text ended) (λ _. answer ≢ ends.ReadFault)
-  pub write_fault : IfSome (status_and_text ended) (λ _. answer ≡ ends.WriteFault → Rose faults_before faults_after)
-  pub counted : IfSome (status_and_text ended) (λ _. faults_after ≡ said_after faults_before answer)
-  pub quiet : IfNone (status_and_text ended) (faults_after ≡ faults_before)
+  pub write_fault : IfSome (status_and_text ended) (λ _. answer ≡ ends.WriteFault → Rose old.faults new.faults)
+  pub counted : IfSome (status_and_text ended) (λ _. new.faults ≡ said_after old.faults answer)
+  pub quiet : IfNone (status_and_text ended) (new.faults ≡ old.faults)
