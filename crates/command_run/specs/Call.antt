@@ -1,5 +1,5 @@
 -- What a call says of its status, of what it printed, and of the files after it.
-use Rattle.std.specs.Prelude.{⊤, ◌≡◌, ◌≢◌, ◌⊎◌, ℕ, List, [], ◌++◌, string_bytes, Bool, IsTrue, Option, Some, None, take, IfSome, IfNone, Result, Ok, Err, true, false}
+use Rattle.std.specs.Prelude.{⊤, ◌≡◌, ◌≢◌, ◌⊎◌, ℕ, List, [], ◌++◌, string_bytes, Bool, IsTrue, Option, Some, None, take, IfSome, IfNone, MatchResult, Result, Ok, Err, true, false}
 use Rattle.std.specs.Io.KnownBytes.{append_known}
 use Rattle.fri_outside.specs.Outside.{Folder, Counts, Rose, raised}
 use Rattle.fri_outside.specs.Several.{with_files, ChangesOnly}
@@ -71,6 +71,10 @@ StopsAs wanted (refusal.Absent file) = wanted ≡ Err (Lacks (string_bytes file)
 StopsAs wanted refusal.ReadFault = Unit {0}
 StopsAs wanted refusal.WriteFault = Unit {0}
 StopsAs wanted refusal.NoMemory = Unit {0}
+
+-- a result tells what is wanted: the value that it shows, or the stop
+abbrev pub TellsResult : {A B : Type 0} → (A → B) → Result B CommandStop → Result A StopCause → Type 0
+TellsResult shown wanted result = MatchResult result (λ value. wanted ≡ Ok (shown value)) (StopsAs wanted)
 
 -- a refusal that came before anything was printed
 abbrev pub RefusesWith : CommandOutcome → List ℕ → Reason → Type 0

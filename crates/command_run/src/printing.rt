@@ -1,5 +1,5 @@
 // Writes the text that a call ends with, and gives its status.
-ghost use Rattle.std.specs.Prelude.{◌≡◌, ◌≢◌, ◌++◌, [], Bool, ℕ, List, Option, Some, Err, IfOk, OnOk};
+ghost use Rattle.std.specs.Prelude.{◌≡◌, ◌≢◌, ◌++◌, [], ℕ, List, Option, Some, Err, IfOk, OnOk};
 ghost use Rattle.fri_outside.specs.Outside.{Counts, Folder};
 ghost use Rattle.command_run.specs.Outcome.{CommandOutcome, NotACommand, absent_line, reason_text, refused_line};
 ghost use Rattle.command_run.specs.Call.{IsAnswerStatus, Prints, FinishesCall, output_state, said_after};

@@ -4,7 +4,7 @@ ghost use Rattle.std.specs.List.{list_any};
 ghost use Rattle.group_state.specs.Seen.{nodes_at};
 ghost use Rattle.group_state.specs.Touch.{is_met};
 ghost use Rattle.page_watch.specs.Watched.{Stands, Watched};
-ghost use Rattle.shell_points.specs.Reading.{NoneFires, readings_before, readings};
+ghost use Rattle.shell_points.specs.Reading.{NoneFires, readings_before};
 ghost use Rattle.shell_points.specs.Seen.{point as seen, trigger};
 ghost use Rattle.shell_points.specs.Watching.{IsWatching, dealt, expressions_of, is_break, values_by, watched};
 ghost use Rattle.shell_points.specs.declared.point.Point.{Point as Held};
