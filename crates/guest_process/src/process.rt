@@ -14,7 +14,6 @@ ghost use Rattle.guest_process.specs.Legal.{reason};
 ghost use Rattle.guest_process.specs.Next.{next};
 ghost use Rattle.guest_process.specs.Seen.{able, handles_after, plain, refused_for};
 ghost use Rattle.guest_process.specs.Start.{start};
-ghost use Rattle.guest_process.specs.State.{thread_at};
 
 use crate::answer::handler;
 use crate::divergence::Divergence;
