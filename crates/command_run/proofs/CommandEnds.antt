@@ -13,8 +13,8 @@ use Rattle.command_run.specs.declared.refusal.WorkText.TheVariants as answered
 use Rattle.command_run.specs.declared.refusal.StopCause.{StopCause}
 use Rattle.command_run.specs.declared.refusal.StopCause.TheVariants as refusal
 use Rattle.command_run.specs.Outcome.{CommandOutcome, NotACommand, refused_line, usage_line, outcome_status, outcome_text, writes_of}
-use Rattle.command_run.specs.Run.{CallEnds, FaultsTold, Finished, Outside, Performed}
-use Rattle.command_run.specs.Call.{CountsFaults, DivergesOnlyIf, FaultStatus, FinishesCall, IsAnswerResult, IsAnswerStatus, LeavesFiles, MakesWorkFiles, Prints, PrintsAbsent, PrintsLast, PrintsRefusal, Raises, TellsOutcome, said_after, status_and_text}
+use Rattle.command_run.specs.Run.{CallEnds, FaultsTold, Finished, Outside, Performed, expectation, file_state}
+use Rattle.command_run.specs.Call.{CountsFaults, DivergesOnlyIf, FaultStatus, FinishesCall, IsAnswerResult, IsAnswerStatus, LeavesFiles, MakesWorkFiles, Prints, PrintsAbsent, PrintsLast, PrintsRefusal, Raises, TellsOutcome, said_after, status_and_text, output_state}
 use Rattle.command_run.specs.CountLaws.{counted_faults}
 use Rattle.command_run.specs.FileLaws.{same_changes, same_others}
 use Rattle.command_run.specs.OutcomeLaws.{none_left, prints_none}
@@ -154,7 +154,7 @@ said_faults ends.ReadFault old new r w h s other = absurd (other refl)
 said_faults ends.WriteFault old new r w h s other = inr (counted_faults new _ _ _ _ r w (ap (λ (n : Hearing). n.faults) h) s)
 said_faults ends.NoMemory old new r w h s other = counted_faults new _ _ _ _ r w (ap (λ (n : Hearing). n.faults) h) s
 
-ended_faults : (ended : Result WorkText StopCause) (answer : Status) (old new : Outside) → CountsFaults old.counts new.counts ended → FinishesCall ended answer old.taken new.taken old.out_faults new.out_faults
+ended_faults : (ended : Result WorkText StopCause) (answer : Status) (old new : Outside) → CountsFaults old.counts new.counts ended → FinishesCall ended answer (output_state old.taken old.out_faults) (output_state new.taken new.out_faults)
     → new.hearing ≡ old.hearing → FaultsTold answer old new
 ended_faults (Ok (answered.Done text)) answer old new c f h = said_faults answer old new c.reads c.writes h f.counted f.read_fault
 ended_faults (Ok (answered.Diverged text)) answer old new c f h = said_faults answer old new c.reads c.writes h f.counted f.read_fault
@@ -208,8 +208,8 @@ done_ends (Err refusal.NoMemory) answer answers fault is = let e = sym is ∙ fa
 
 module _ (expected : Option CommandOutcome) (written : Folder → List (List ℕ)) where
   call_ends : (may_diverge : Bool) (ended : Result WorkText StopCause) (answer : Status) (old new : Outside)
-      → Performed expected written may_diverge old.told new.told old.counts new.counts ended
-      → FinishesCall ended answer old.taken new.taken old.out_faults new.out_faults
+      → Performed (expectation expected written may_diverge) (file_state old.told old.counts) (file_state new.told new.counts) ended
+      → FinishesCall ended answer (output_state old.taken old.out_faults) (output_state new.taken new.out_faults)
       → new.hearing ≡ old.hearing
       → CallEnds expected written old new answer
   call_ends may_diverge ended answer old new p f unheard =
@@ -233,10 +233,10 @@ module _ (expected : Option CommandOutcome) (written : Folder → List (List ℕ
 
   -- a result whose text was printed
   pub finishes : (may_diverge : Bool) (ended : Result WorkText StopCause) (answer : Status) (old new : Outside)
-      → Performed expected written may_diverge old.told new.told old.counts new.counts ended
-      → FinishesCall ended answer old.taken new.taken old.out_faults new.out_faults
+      → Performed (expectation expected written may_diverge) (file_state old.told old.counts) (file_state new.told new.counts) ended
+      → FinishesCall ended answer (output_state old.taken old.out_faults) (output_state new.taken new.out_faults)
       → new.hearing ≡ old.hearing
-      → Finished expected written may_diverge ended old new answer
+      → Finished (expectation expected written may_diverge) ended old new answer
   finishes may_diverge ended answer old new p f unheard = record {
     call = call_ends may_diverge ended answer old new p f unheard;
     is_command = not_usage ended answer f.status f.fault;

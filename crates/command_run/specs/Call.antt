@@ -1,5 +1,5 @@
 -- What a call says of its status, of what it printed, and of the files after it.
-use Rattle.std.specs.Prelude.{⊤, ◌≡◌, ◌≢◌, ◌⊎◌, ℕ, List, [], ◌++◌, string_bytes, Bool, IsTrue, Option, Some, None, take, IfSome, IfNone, Result, Ok, Err, true, false}
+use Rattle.std.specs.Prelude.{⊤, ◌≡◌, ◌≢◌, ◌⊎◌, ℕ, List, [], ◌++◌, string_bytes, Bool, IsTrue, Option, Some, None, take, IfSome, IfNone, MatchResult, Result, Ok, Err, true, false}
 use Rattle.std.specs.Io.KnownBytes.{append_known}
 use Rattle.fri_outside.specs.Outside.{Folder, Counts, Rose, raised}
 use Rattle.fri_outside.specs.Several.{with_files, ChangesOnly}
@@ -71,6 +71,10 @@ StopsAs wanted (refusal.Absent file) = wanted ≡ Err (Lacks (string_bytes file)
 StopsAs wanted refusal.ReadFault = Unit {0}
 StopsAs wanted refusal.WriteFault = Unit {0}
 StopsAs wanted refusal.NoMemory = Unit {0}
+
+-- a result tells what is wanted: the value that it shows, or the stop
+abbrev pub TellsResult : {A B : Type 0} → (A → B) → Result B CommandStop → Result A StopCause → Type 0
+TellsResult shown wanted result = MatchResult result (λ value. wanted ≡ Ok (shown value)) (StopsAs wanted)
 
 -- a refusal that came before anything was printed
 abbrev pub RefusesWith : CommandOutcome → List ℕ → Reason → Type 0
@@ -184,13 +188,21 @@ abbrev pub said_after : ℕ → Status → ℕ
 said_after count ends.WriteFault = raised count
 said_after count answer = count
 
+-- what a sink took by one moment, as far as it tells, and how often it failed
+pub record OutputState : Type 0 where
+  pub taken : Option (List ℕ)
+  pub faults : ℕ
+
+abbrev pub output_state : Option (List ℕ) → ℕ → OutputState
+output_state taken faults = record { taken = taken; faults = faults }
+
 -- the end of a command's result, with its text written
-pub record FinishesCall (ended : Result WorkText StopCause) (answer : Status) (before after : Option (List ℕ)) (faults_before faults_after : ℕ) : Type 0 where
+pub record FinishesCall (ended : Result WorkText StopCause) (answer : Status) (old new : OutputState) : Type 0 where
   pub status : IfSome (status_and_text ended) (λ a. IsAnswerStatus answer → answer ≡ a.0)
-  pub text : IfSome (status_and_text ended) (λ a. Prints answer a.1 before after)
-  pub silent : IfNone (status_and_text ended) (after ≡ before)
+  pub text : IfSome (status_and_text ended) (λ a. Prints answer a.1 old.taken new.taken)
+  pub silent : IfNone (status_and_text ended) (new.taken ≡ old.taken)
   pub fault : FaultStatus ended answer
   pub read_fault : IfSome (status_and_text ended) (λ _. answer ≢ ends.ReadFault)
-  pub write_fault : IfSome (status_and_text ended) (λ _. answer ≡ ends.WriteFault → Rose faults_before faults_after)
-  pub counted : IfSome (status_and_text ended) (λ _. faults_after ≡ said_after faults_before answer)
-  pub quiet : IfNone (status_and_text ended) (faults_after ≡ faults_before)
+  pub write_fault : IfSome (status_and_text ended) (λ _. answer ≡ ends.WriteFault → Rose old.faults new.faults)
+  pub counted : IfSome (status_and_text ended) (λ _. new.faults ≡ said_after old.faults answer)
+  pub quiet : IfNone (status_and_text ended) (new.faults ≡ old.faults)

@@ -80,23 +80,39 @@ abbrev pub WritesOnly : (Folder → List (List ℕ)) → Option CommandOutcome �
 WritesOnly written expected before after folder =
     (after ≡ before) ⊎ ((outcome : CommandOutcome) × (expected ≡ Some outcome) × (written folder ≡ written_names outcome))
 
+-- what is expected of a command: its outcome, as far as files and input tell it, the names that it may write, by the
+-- folder, and whether it may tell that a log diverged
+pub record Expectation : Type 0 where
+  pub outcome : Option CommandOutcome
+  pub written : Folder → List (List ℕ)
+  pub may_diverge : Bool
+
+abbrev pub expectation : Option CommandOutcome → (Folder → List (List ℕ)) → Bool → Expectation
+expectation outcome written may_diverge = record { outcome = outcome; written = written; may_diverge = may_diverge }
+
+-- the files at one moment, as far as they tell, with the counts of their faults
+pub record FileState : Type 0 where
+  pub told : Option Folder
+  pub counts : Counts
+
+abbrev pub file_state : Option Folder → Counts → FileState
+file_state told counts = record { told = told; counts = counts }
+
 -- its work is done or was stopped, and nothing is printed yet
-pub record Performed (expected : Option CommandOutcome) (written : Folder → List (List ℕ)) (may_diverge : Bool)
-    (before after : Option Folder) (counts counts_after : Counts) (ended : Result WorkText StopCause) : Type 0 where
-  pub tells : WhenTold expected (λ outcome. TellsOutcome outcome ended)
-  pub makes : WhenTold expected (λ outcome. MakesWorkFiles ended (writes_of outcome) before after)
-  pub names : WhenTold before (WritesOnly written expected before after)
-  pub keeps : KeepsFolder ended before after
-  pub diverges : DivergesOnlyIf may_diverge ended
-  pub counted : CountsFaults counts counts_after ended
-  pub cause : IfErr ended (Raises counts counts_after)
+pub record Performed (expected : Expectation) (old new : FileState) (ended : Result WorkText StopCause) : Type 0 where
+  pub tells : WhenTold expected.outcome (λ outcome. TellsOutcome outcome ended)
+  pub makes : WhenTold expected.outcome (λ outcome. MakesWorkFiles ended (writes_of outcome) old.told new.told)
+  pub names : WhenTold old.told (WritesOnly expected.written expected.outcome old.told new.told)
+  pub keeps : KeepsFolder ended old.told new.told
+  pub diverges : DivergesOnlyIf expected.may_diverge ended
+  pub counted : CountsFaults old.counts new.counts ended
+  pub cause : IfErr ended (Raises old.counts new.counts)
 
 -- and its text was printed. It read no input
-pub record Finished (expected : Option CommandOutcome) (written : Folder → List (List ℕ)) (may_diverge : Bool)
-    (ended : Result WorkText StopCause) (old new : Outside) (answer : Status) : Type 0 where
-  pub call : CallEnds expected written old new answer
+pub record Finished (expected : Expectation) (ended : Result WorkText StopCause) (old new : Outside) (answer : Status) : Type 0 where
+  pub call : CallEnds expected.outcome expected.written old new answer
   pub is_command : answer ≢ ends.Usage
-  pub diverged : answer ≡ ends.Diverged → IsTrue may_diverge
+  pub diverged : answer ≡ ends.Diverged → IsTrue expected.may_diverge
   pub done : answer ≡ ends.Done → IsOk ended
   pub came_to_end : IsAnswerStatus answer → IsAnswerResult ended
   pub refused : answer ≡ ends.Refused → PrintsRefusal old.taken new.taken (λ file. Rose old.counts.misses new.counts.misses)

@@ -1,12 +1,12 @@
 // Reads files, and the modules in them.
-ghost use Rattle.std.specs.Prelude.{◌≡◌, ℕ, ◌<◌, ◌≤◌, vec_len, Ok, IfOk, IfErr, MatchResult};
+ghost use Rattle.std.specs.Prelude.{◌≡◌, ℕ, ◌<◌, ◌≤◌, vec_len, IfOk, IfErr};
 ghost use Rattle.fri_outside.specs.Outside.{WhenTold, Counts};
 ghost use Rattle.wasm_types.specs.Modules.{module_of as shown};
 ghost use Rattle.wasm_decode.specs.Sections.{module_of_bytes};
 ghost use Rattle.command_run.specs.Outcome.{and_then, file_of};
 ghost use Rattle.guest_process.specs.EventCount.{IsFresh};
 ghost use Rattle.command_run.specs.Inputs.{first_state_of, module_in, spelled_module, valid_module};
-ghost use Rattle.command_run.specs.Call.{CountsFaults, StopsAs, Raises, reads_after, writes_after};
+ghost use Rattle.command_run.specs.Call.{CountsFaults, Raises, TellsResult, reads_after, writes_after};
 
 use crate::refusal::{Reason, StopCause};
 use fri_outside::{FileError, Files};
@@ -27,8 +27,7 @@ pub fn take_file<F: Files>(
     files: &mut F,
 ) -> Result<Vec<u8>, StopCause>
     ensures within { IfOk result (λ bytes. vec_len bytes ≤ limit) }
-    ensures answer { WhenTold (F.told files.old) (λ folder. MatchResult result
-        (λ bytes. file_of folder name.now limit ≡ Ok bytes.items) (StopsAs (file_of folder name.now limit))) }
+    ensures answer { WhenTold (F.told files.old) (λ folder. TellsResult (λ bytes. bytes.items) (file_of folder name.now limit) result) }
     ensures same { F.told files.new ≡ F.told files.old }
     ensures counts { CountsFaults (F.counts files.old) (F.counts files.new) result }
     ensures cause { IfErr result (Raises (F.counts files.old) (F.counts files.new)) }
@@ -44,9 +43,7 @@ pub fn take_file<F: Files>(
 
 // The module that the bytes of a file spell.
 fn spelled(alloc: Global, name: &str, bytes: &[u8]) -> Result<Module, StopCause>
-    ensures answer { MatchResult result
-        (λ m. spelled_module name.now (module_of_bytes bytes.now) ≡ Ok (shown m))
-        (StopsAs (spelled_module name.now (module_of_bytes bytes.now))) }
+    ensures answer { TellsResult shown (spelled_module name.now (module_of_bytes bytes.now)) result }
     ensures cause { (old new : Counts) → IfErr result (Raises old new) }
     ensures still { (n : ℕ) → (reads_after n result ≡ n) × (writes_after n result ≡ n) }
 {
@@ -60,9 +57,7 @@ fn spelled(alloc: Global, name: &str, bytes: &[u8]) -> Result<Module, StopCause>
 // The module, where it is valid.
 #[tactic(auto, using(crate::proofs::ModuleFaults::no_fault, crate::proofs::ModuleFaults::has_float, crate::proofs::ModuleFaults::bad_import, crate::proofs::ModuleFaults::untyped, crate::proofs::ModuleFaults::over_limit, crate::proofs::ModuleFaults::no_start))]
 fn valid(alloc: Global, name: &str, module: Module) -> Result<ValidModule, StopCause>
-    ensures answer { MatchResult result
-        (λ v. valid_module name.now (shown «module») ≡ Ok (shown v))
-        (StopsAs (valid_module name.now (shown «module»))) }
+    ensures answer { TellsResult shown (valid_module name.now (shown «module»)) result }
     ensures cause { (old new : Counts) → IfErr result (Raises old new) }
     ensures still { (n : ℕ) → (reads_after n result ≡ n) × (writes_after n result ≡ n) }
 {
@@ -80,9 +75,7 @@ fn valid(alloc: Global, name: &str, module: Module) -> Result<ValidModule, StopC
 
 // The valid module that the bytes of a file spell.
 fn read_module(alloc: Global, name: &str, bytes: &[u8]) -> Result<ValidModule, StopCause>
-    ensures answer { MatchResult result
-        (λ v. and_then (spelled_module name.now (module_of_bytes bytes.now)) (valid_module name.now) ≡ Ok (shown v))
-        (StopsAs (and_then (spelled_module name.now (module_of_bytes bytes.now)) (valid_module name.now))) }
+    ensures answer { TellsResult shown (and_then (spelled_module name.now (module_of_bytes bytes.now)) (valid_module name.now)) result }
     ensures cause { (old new : Counts) → IfErr result (Raises old new) }
     ensures still { (n : ℕ) → (reads_after n result ≡ n) × (writes_after n result ≡ n) }
 {
@@ -96,8 +89,7 @@ pub fn take_module<F: Files>(
     name: &str,
     files: &mut F,
 ) -> Result<ValidModule, StopCause>
-    ensures answer { WhenTold (F.told files.old) (λ folder. MatchResult result
-        (λ m. module_in folder name.now ≡ Ok (shown m)) (StopsAs (module_in folder name.now))) }
+    ensures answer { WhenTold (F.told files.old) (λ folder. TellsResult shown (module_in folder name.now) result) }
     ensures same { F.told files.new ≡ F.told files.old }
     ensures counts { CountsFaults (F.counts files.old) (F.counts files.new) result }
     ensures cause { IfErr result (Raises (F.counts files.old) (F.counts files.new)) }
@@ -116,9 +108,7 @@ pub fn begin_process<'m>(
 ) -> Result<Process<'m>, StopCause>
     requires who { who < count }
     requires count { count ≤ 16 }
-    ensures answer { MatchResult result
-        (λ begun. first_state_of name.now (shown «module».now) who count ≡ Ok begun)
-        (StopsAs (first_state_of name.now (shown «module».now) who count)) }
+    ensures answer { TellsResult (λ begun. begun) (first_state_of name.now (shown «module».now) who count) result }
     ensures fresh { IfOk result (IsFresh who count) }
     ensures cause { (old new : Counts) → IfErr result (Raises old new) }
     ensures still { (n : ℕ) → (reads_after n result ≡ n) × (writes_after n result ≡ n) }

@@ -1,8 +1,8 @@
 // The modules of files that a call read, each of which is kept once.
-ghost use Rattle.std.specs.Prelude.{◌≡◌, ℕ, List, IfErr, IfNone, IfOk, IfSome, IsTrue, MatchResult, Ok, OnErr, OnOk, Option, false};
+ghost use Rattle.std.specs.Prelude.{◌≡◌, ℕ, List, IfErr, IfNone, IfOk, IfSome, IsTrue, Ok, OnErr, OnOk, Option, false};
 ghost use Rattle.fri_outside.specs.Outside.{Folder, WhenTold};
 ghost use Rattle.wasm_types.specs.Modules.{module_of as shown};
-ghost use Rattle.command_run.specs.Call.{CountsFaults, Raises, StopsAs};
+ghost use Rattle.command_run.specs.Call.{CountsFaults, Raises, TellsResult};
 ghost use Rattle.command_run.specs.Inputs.{module_in};
 ghost use Rattle.command_run.specs.Kept.{AddsFile, AreOfFiles, has_file};
 
@@ -65,8 +65,7 @@ impl ModuleFiles {
         files: &mut F,
     ) -> Result<SharedModule, StopCause>
         requires { AreOfFiles (F.told files.old) self.old }
-        ensures answer { WhenTold (F.told files.old) (λ folder. MatchResult result
-            (λ m. module_in folder name.now ≡ Ok (shown m)) (StopsAs (module_in folder name.now))) }
+        ensures answer { WhenTold (F.told files.old) (λ folder. TellsResult shown (module_in folder name.now) result) }
         ensures once { IsTrue (has_file self.old name.now) → files.new ≡ files.old }
         ensures read { IfOk result (λ _. IsTrue (has_file self.new name.now)) }
         ensures keeps { (other : List ℕ) → IsTrue (has_file self.old other) → IsTrue (has_file self.new other) }

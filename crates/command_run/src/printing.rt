@@ -1,9 +1,9 @@
 // Writes the text that a call ends with, and gives its status.
-ghost use Rattle.std.specs.Prelude.{◌≡◌, ◌≢◌, ◌++◌, [], Bool, ℕ, List, Option, Some, Err, IfOk, OnOk};
+ghost use Rattle.std.specs.Prelude.{◌≡◌, ◌≢◌, ◌++◌, [], ℕ, List, Option, Some, Err, IfOk, OnOk};
 ghost use Rattle.fri_outside.specs.Outside.{Counts, Folder};
 ghost use Rattle.command_run.specs.Outcome.{CommandOutcome, NotACommand, absent_line, reason_text, refused_line};
-ghost use Rattle.command_run.specs.Call.{IsAnswerStatus, Prints, FinishesCall, said_after};
-ghost use Rattle.command_run.specs.Run.{CallEnds, Finished, Outside, Performed, outside};
+ghost use Rattle.command_run.specs.Call.{IsAnswerStatus, Prints, FinishesCall, output_state, said_after};
+ghost use Rattle.command_run.specs.Run.{CallEnds, Expectation, FileState, Finished, Outside, Performed, outside};
 
 use crate::refusal::{Reason, StopCause, WorkText};
 use crate::status::Status;
@@ -118,7 +118,7 @@ fn say_absent<K: Sink>(alloc: Global, file: &str, out: &mut K) -> Status
 
 // Writes the outcome of a command's result.
 fn print_end<K: Sink>(alloc: Global, ended: Result<WorkText, StopCause>, out: &mut K) -> Status
-    ensures ends { FinishesCall ended result (K.taken out.old) (K.taken out.new) (K.faults out.old) (K.faults out.new) }
+    ensures ends { FinishesCall ended result (output_state (K.taken out.old) (K.faults out.old)) (output_state (K.taken out.new) (K.faults out.new)) }
     ensures heard { K.hearing out.new ≡ K.hearing out.old }
 {
     match ended {
@@ -135,11 +135,9 @@ fn print_end<K: Sink>(alloc: Global, ended: Result<WorkText, StopCause>, out: &m
 /// Writes the outcome of a command's result, and ends the call. What the files were before the command and are after it,
 /// and how their faults were counted, is what the command says of its result.
 pub fn finish<K: Sink>(alloc: Global, ended: Result<WorkText, StopCause>, out: &mut K) -> Status
-    ensures { (expected : Option CommandOutcome) (written : Folder → List (List ℕ)) (may_diverge : Bool) (before after : Option Folder) (counts counts_after : Counts)
-        → Performed expected written may_diverge before after counts counts_after ended
-        → Finished expected written may_diverge ended
-        (outside before counts (K.hearing out.old) (K.taken out.old) (K.faults out.old))
-        (outside after counts_after (K.hearing out.new) (K.taken out.new) (K.faults out.new))
+    ensures { (expected : Expectation) (old new : FileState) → Performed expected old new ended → Finished expected ended
+        (outside old.told old.counts (K.hearing out.old) (K.taken out.old) (K.faults out.old))
+        (outside new.told new.counts (K.hearing out.new) (K.taken out.new) (K.faults out.new))
         result }
 {
     print_end(alloc, ended, out)

@@ -1,8 +1,8 @@
 // How much of the logs of a group an event needs, before any file is made.
-ghost use Rattle.std.specs.Prelude.{◌≡◌, ◌<◌, ◌≤◌, All, IfErr, IfOk, List, MatchResult, Ok, length, map, ℕ};
+ghost use Rattle.std.specs.Prelude.{◌≡◌, ◌<◌, All, IfErr, IfOk, List, MatchResult, length, map, ℕ};
 ghost use Rattle.fri_outside.specs.Outside.{Counts};
 ghost use Rattle.call_log.specs.Head.{IsHead};
-ghost use Rattle.command_run.specs.Call.{Raises, StopsAs, reads_after, writes_after};
+ghost use Rattle.command_run.specs.Call.{Raises, TellsResult, reads_after, writes_after};
 ghost use Rattle.proc_replay.specs.AtHead.{IsAtHead};
 ghost use Rattle.group_state.specs.Place.{AreParts};
 ghost use Rattle.causal_cut.specs.Past.{lengths_or_none};
@@ -63,9 +63,7 @@ pub(crate) fn take_past<'m>(
 ) -> Result<Past<'m>, StopCause>
     requires parts { AreParts parts.items }
     requires at_heads { All IsAtHead parts.items }
-    ensures answer { (ls : List LoadedOf) → AreLoaded all.now ls → MatchResult result
-        (λ past. cut_of_replays (map pair_of pairs.now) ls process event parts.entry.items ≡ Ok (work_of_past past))
-        (StopsAs (cut_of_replays (map pair_of pairs.now) ls process event parts.entry.items)) }
+    ensures answer { (ls : List LoadedOf) → AreLoaded all.now ls → TellsResult work_of_past (cut_of_replays (map pair_of pairs.now) ls process event parts.entry.items) result }
     ensures least { IfOk result (λ past. IsCut process event parts.entry.items (work_of_past past)) }
     ensures heads { IfOk result (λ past. All (λ front. IsHead front.log.head) past.fronts.items) }
     ensures cause { (old new : Counts) → IfErr result (Raises old new) }

@@ -17,7 +17,7 @@ use Rattle.command_run.specs.CountLaws.{counted_faults}
 use Rattle.command_run.specs.FileLaws.{same_others}
 use Rattle.command_run.specs.Outcome.{CommandOutcome, Refuses, CommandStop, outcome_status, outcome_text, writes_of}
 use Rattle.command_run.specs.OutcomeLaws.{none_left, stops_make, stops_tell}
-use Rattle.command_run.specs.Run.{FaultsTold, Finished, Outside, Performed}
+use Rattle.command_run.specs.Run.{FaultsTold, Finished, Outside, Performed, expectation, file_state}
 use Rattle.log_pairs.specs.Pairs.{NoneOpened, Pair, WasOpened, replays_of_pairs}
 use Rattle.debug_command.specs.Conversation.{Converses, NeverOfASession, TerminalState, heard_after}
 use Rattle.debug_command.specs.Debug.{early_lines, input_name, is_large, opened_outcome, session_outcome, spoken}
@@ -44,7 +44,7 @@ refused_stops pairs (Some folder) left e stops o here = stops_as (replays_of_pai
 pub performed : (pairs : List Pair) (e : StopCause) (old new : Outside) → NoneOpened pairs old.told e → Raises old.counts new.counts e
     → CountsFaults {T = ⊤} old.counts new.counts (Err e)
     → new.told ≡ old.told
-    → Performed (debug_expected pairs old) (λ folder. []) false old.told new.told old.counts new.counts (Err e)
+    → Performed (expectation (debug_expected pairs old) (λ folder. []) false) (file_state old.told old.counts) (file_state new.told new.counts) (Err e)
 performed pairs e old new stops cause counts same = record {
   tells = λ o here. stops_tell o e (refused_stops pairs old.told old.hearing.left e stops o here);
   makes = λ o here. stops_make o e old.told new.told (refused_stops pairs old.told old.hearing.left e stops o here) same;
@@ -67,7 +67,7 @@ other_refusal : {Large : List ℕ → Type 0} (old new : Outside) → PrintsRefu
 other_refusal old new (earlier, file, (why, is, cause)) = (earlier, file, (why, is, λ large. inl (cause large)))
 
 pub run_refused : (pairs : List Pair) (e : StopCause) (answer : Status) (old new : Outside)
-    → Finished (debug_expected pairs old) (λ folder. []) false (Err e) old new answer → DebugRun pairs old new answer
+    → Finished (expectation (debug_expected pairs old) (λ folder. []) false) (Err e) old new answer → DebugRun pairs old new answer
 run_refused pairs e answer old new f = record {
   call = f.call;
   is_command = f.is_command;

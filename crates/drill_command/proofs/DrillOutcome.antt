@@ -12,12 +12,12 @@ use Rattle.command_run.specs.declared.refusal.StopCause.TheVariants as refusal
 use Rattle.command_run.specs.Call.{CountsFaults, DivergesOnlyIf, KeepsFolder, MakesWorkFiles, Raises, StopsAs, TellsOutcome}
 use Rattle.command_run.specs.Outcome.{CommandOutcome, refuses_at_once, writes_of}
 use Rattle.command_run.specs.OutcomeLaws.{stops_make, stops_tell}
-use Rattle.command_run.specs.Run.{Performed}
+use Rattle.command_run.specs.Run.{Performed, expectation, file_state}
 use Rattle.drill_command.specs.Drill.{drill_outcome, drill_run, drill_work, drill_by_room}
 use Rattle.drill_command.specs.Seen.{IsFullLog, StopsDrill}
 
 abbrev pub Performs : ℕ → Result WorkText StopCause → Type 0
-Performs rounds ended = (told : Option Folder) (counts : Counts) → Performed (Some (drill_outcome rounds)) (λ folder. []) false told told counts counts ended
+Performs rounds ended = (told : Option Folder) (counts : Counts) → Performed (expectation (Some (drill_outcome rounds)) (λ folder. []) false) (file_state told counts) (file_state told counts) ended
 
 -- what is said of its outcome is said of the one that is expected
 at_outcome : (rounds : ℕ) (P : CommandOutcome → Type 0) → P (drill_outcome rounds) → (o : CommandOutcome) → Some (drill_outcome rounds) ≡ Some o → P o

@@ -11,7 +11,7 @@ use Rattle.command_run.specs.declared.refusal.WorkText.TheVariants as answered
 use Rattle.command_run.specs.declared.refusal.StopCause.{StopCause}
 use Rattle.command_run.specs.Call.{CountsFaults, DivergesOnlyIf, IsAnswerResult, IsAnswerStatus, KeepsFolder, MakesWorkFiles, PrintsRefusal, Raises, TellsOutcome}
 use Rattle.command_run.specs.Outcome.{CommandOutcome, outcome_text, writes_of, written_names}
-use Rattle.command_run.specs.Run.{CallEnds, Finished, Outside, Performed}
+use Rattle.command_run.specs.Run.{CallEnds, Finished, Outside, Performed, expectation, file_state}
 use Rattle.record_command.specs.Agreement.{IsRecordable, LeavesMoment, LeavesRecording}
 use Rattle.record_command.specs.Expected.{record_outcome}
 use Rattle.record_command.specs.Laws.{RecordingsRest}
@@ -43,7 +43,7 @@ pub performed : (f : Folder → CommandOutcome) (may_diverge : Bool) (before aft
     → ((o : CommandOutcome) → option_map f before ≡ Some o → TellsOutcome o ended)
     → ((o : CommandOutcome) → option_map f before ≡ Some o → MakesWorkFiles ended (writes_of o) before after)
     → KeepsFolder ended before after → DivergesOnlyIf may_diverge ended → CountsFaults counts counts_after ended → IfErr ended (Raises counts counts_after)
-    → Performed (option_map f before) (λ folder. written_names (f folder)) may_diverge before after counts counts_after ended
+    → Performed (expectation (option_map f before) (λ folder. written_names (f folder)) may_diverge) (file_state before counts) (file_state after counts_after) ended
 performed f may_diverge before after counts counts_after ended tells makes keeps diverges counted cause = record {
   tells = tells;
   makes = makes;
@@ -68,7 +68,7 @@ left_shown law images name answer old new recorded moment before is after here =
     law images name answer before after (λ answers. recorded answers before is after here) (subst (LeavesMoment images name before) here (moment before is))
 
 pub run_recorded : LeftIsShown → (images : Bool) (name : List ℕ) (ended : Result WorkText StopCause) (answer : Status) (old new : Outside)
-    → Finished (option_map (record_outcome images name) old.told) (λ folder. written_names (record_outcome images name folder)) false ended old new answer
+    → Finished (expectation (option_map (record_outcome images name) old.told) (λ folder. written_names (record_outcome images name folder)) false) ended old new answer
     → (IsAnswerResult ended → WhenTold old.told (λ before. WhenTold new.told (LeavesRecording name before)))
     → WhenTold old.told (λ before. LeavesMoment images name before new.told)
     → CommandRun (Some (Record images name)) old new answer
@@ -93,7 +93,7 @@ may_diverge (Ok (answered.Diverged text)) = refl
 may_diverge (Err e) = tt
 
 pub run_replayed : (images : Bool) (pairs : List Pair) (ended : Result WorkText StopCause) (answer : Status) (old new : Outside)
-    → Finished (option_map (replay_outcome images pairs) old.told) (λ folder. written_names (replay_outcome images pairs folder)) true ended old new answer
+    → Finished (expectation (option_map (replay_outcome images pairs) old.told) (λ folder. written_names (replay_outcome images pairs folder)) true) ended old new answer
     → CommandRun (Some (Replay images pairs)) old new answer
 run_replayed images pairs ended answer old new f = record {
   call = f.call;
@@ -110,7 +110,7 @@ run_replayed images pairs ended answer old new f = record {
 }
 
 pub run_drilled : (rounds : ℕ) (ended : Result WorkText StopCause) (answer : Status) (old new : Outside)
-    → Finished (Some (drill_outcome rounds)) (λ folder. []) false ended old new answer → CommandRun (Some (Drill rounds)) old new answer
+    → Finished (expectation (Some (drill_outcome rounds)) (λ folder. []) false) ended old new answer → CommandRun (Some (Drill rounds)) old new answer
 run_drilled rounds ended answer old new f = record {
   call = f.call;
   usage = record { only = λ is. absurd (f.is_command is); always = λ none h. cc };
@@ -126,7 +126,7 @@ run_drilled rounds ended answer old new f = record {
 }
 
 pub run_migrated : (log_name new_name : List ℕ) (ended : Result WorkText StopCause) (answer : Status) (old new : Outside)
-    → Finished (option_map (migrate_outcome log_name new_name) old.told) (λ folder. written_names (migrate_outcome log_name new_name folder)) false ended old new answer
+    → Finished (expectation (option_map (migrate_outcome log_name new_name) old.told) (λ folder. written_names (migrate_outcome log_name new_name folder)) false) ended old new answer
     → CommandRun (Some (Migrate log_name new_name)) old new answer
 run_migrated log_name new_name ended answer old new f = record {
   call = f.call;
@@ -150,7 +150,7 @@ again pairs folder (Ok (answered.Diverged text)) answer before after ok tells re
 again pairs folder (Err e) answer before after ok tells records is = let wrong : false ≡ true = ok in cc
 
 pub run_scheduled : (pairs : List Pair) (ended : Result WorkText StopCause) (answer : Status) (old new : Outside)
-    → Finished (option_map (schedule_outcome pairs) old.told) (λ folder. []) false ended old new answer
+    → Finished (expectation (option_map (schedule_outcome pairs) old.told) (λ folder. []) false) ended old new answer
     → ((o : CommandOutcome) → option_map (schedule_outcome pairs) old.told ≡ Some o → TellsOutcome o ended)
     → WhenTold old.told (λ folder. IfOk ended (AnswerRecordsBack pairs folder))
     → CommandRun (Some (Schedule pairs)) old new answer
@@ -181,7 +181,7 @@ kept_past process event pairs folder (Ok answer) ok cuts = cuts
 kept_past process event pairs folder (Err e) ok cuts = absurd (never_ok ok)
 
 pub run_cut : (process event : ℕ) (pairs : List Pair) (ended : Result WorkText StopCause) (answer : Status) (old new : Outside)
-    → Finished (option_map (cut_outcome process event pairs) old.told) (λ folder. written_names (cut_outcome process event pairs folder)) false ended old new answer
+    → Finished (expectation (option_map (cut_outcome process event pairs) old.told) (λ folder. written_names (cut_outcome process event pairs folder)) false) ended old new answer
     → WhenTold old.told (λ folder. IfOk ended (λ _. CutsToPast process event pairs folder))
     → CommandRun (Some (Cut process event pairs)) old new answer
 run_cut process event pairs ended answer old new f cuts = record {
@@ -199,7 +199,7 @@ run_cut process event pairs ended answer old new f cuts = record {
 }
 
 pub run_streamed : (pairs : List Pair) (ended : Result WorkText StopCause) (answer : Status) (old new : Outside)
-    → Finished (option_map (streams_outcome pairs) old.told) (λ folder. []) false ended old new answer → CommandRun (Some (Streams pairs)) old new answer
+    → Finished (expectation (option_map (streams_outcome pairs) old.told) (λ folder. []) false) ended old new answer → CommandRun (Some (Streams pairs)) old new answer
 run_streamed pairs ended answer old new f = record {
   call = f.call;
   usage = record { only = λ is. absurd (f.is_command is); always = λ none h. cc };

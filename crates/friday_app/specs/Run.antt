@@ -5,11 +5,12 @@ use Rattle.command_run.specs.declared.status.Status.{Status}
 use Rattle.command_run.specs.declared.status.Status.TheVariants as ends
 use Rattle.command_run.specs.Call.{IsAnswerStatus, PrintsRefusal}
 use Rattle.command_run.specs.Outcome.{CommandWork, outcome_status}
-use Rattle.command_run.specs.Run.{CallEnds, Outside}
+use Rattle.command_run.specs.Run.{CallEnds, NoFault, Outside}
 use Rattle.friday_app.specs.Agreement.{KeepsMoment, KeepsPast, KeepsRecording, PrintsConverse, ShowsRecording}
 use Rattle.friday_app.specs.Command.{Command, IsReplayCommand}
 use Rattle.friday_app.specs.Expected.{expected, written_by}
 use Rattle.friday_app.specs.Input.{AnswersFirst, IsLargeInput, KeepsInput}
+use Rattle.friday_app.specs.Valid.{IsValidCall}
 
 -- Usage comes exactly where the words name no command, but for a fault or want of memory in its place
 pub record IsExactUsage (command : Option Command) (answer : Status) : Type 0 where
@@ -50,3 +51,8 @@ pub record Works (command : Option Command) (told : Option Folder) (left : Optio
   pub work : CommandWork
   pub is_expected : expected command told left ≡ Some (Ok work)
   pub status : (answer ≡ outcome_status (Ok work)) ⊎ (answer ≡ ends.NoMemory)
+
+-- with valid words, files and input, and no fault, the work is done, unless memory runs out
+abbrev pub DoesValidWork : Option Command → Outside → Outside → Status → Type 0
+DoesValidWork command old new answer =
+    WhenTold old.told (λ folder. IsValidCall command folder old.hearing.left → NoFault old new → Works command old.told old.hearing.left answer)

@@ -1,10 +1,8 @@
 // The top call.
 ghost use Rattle.std.specs.Prelude.{map, string_bytes};
-ghost use Rattle.fri_outside.specs.Outside.{WhenTold};
-ghost use Rattle.command_run.specs.Run.{NoFault, outside};
+ghost use Rattle.command_run.specs.Run.{outside};
 ghost use Rattle.friday_app.specs.Command.{command_of};
-ghost use Rattle.friday_app.specs.Run.{CommandRun, Works};
-ghost use Rattle.friday_app.specs.Valid.{IsValidCall};
+ghost use Rattle.friday_app.specs.Run.{CommandRun, DoesValidWork};
 
 use crate::command::{Command, parse_words};
 use command_run::{Status, finish, give_up, refuse_words};
@@ -81,10 +79,10 @@ pub fn friday<F: Files, T: Terminal>(
         result }
 
     // Valid words, files and input, and no fault: the work is done, unless memory runs out.
-    ensures complete { WhenTold (F.told files.old) (λ folder. IsValidCall (command_of (map string_bytes words.now)) folder ((T.hearing io.old).left)
-        → NoFault (outside (F.told files.old) (F.counts files.old) (T.hearing io.old) (T.taken io.old) (T.faults io.old))
+    ensures complete { DoesValidWork (command_of (map string_bytes words.now))
+        (outside (F.told files.old) (F.counts files.old) (T.hearing io.old) (T.taken io.old) (T.faults io.old))
         (outside (F.told files.new) (F.counts files.new) (T.hearing io.new) (T.taken io.new) (T.faults io.new))
-        → Works (command_of (map string_bytes words.now)) (F.told files.old) ((T.hearing io.old).left) result) }
+        result }
 {
     record_command::laws::recordings_work();
     replay_command::laws::replays_work();

@@ -1,5 +1,5 @@
 -- What contracts see of a process, and what the code answers.
-use Rattle.std.specs.Prelude.{◌≡◌, ℕ, ⊤, Option, Some, None, Result, Ok, Err, if◌then◌else◌}
+use Rattle.std.specs.Prelude.{◌≡◌, ℕ, ⊤, Bool, Option, Some, None, is_some, Result, Ok, Err, if◌then◌else◌}
 use Rattle.lib_calls.specs.Answer.{Answer}
 use Rattle.wasm_types.specs.Modules.{module_of}
 use Rattle.wasm_step.specs.Suits.{Suits}
@@ -10,6 +10,7 @@ use Rattle.guest_process.specs.declared.parts.Parts.{Parts}
 use Rattle.guest_process.specs.declared.waiting.Waiting.{Waiting}
 use Rattle.guest_process.specs.Answers.{Need, Fixed, Blocked, World, effects}
 use Rattle.guest_process.specs.Fits.{StateFits}
+use Rattle.guest_process.specs.GoesOn.{handler}
 use Rattle.guest_process.specs.Sound.{IsSound}
 use Rattle.guest_process.specs.State.{State, is_running, thread_at}
 
@@ -46,6 +47,10 @@ able S t = if is_running S then thread_at S t else None
 abbrev pub answered_at : State → ℕ → Answer → Option Waiting → State
 answered_at S t a None = S
 answered_at S t a (Some w) = effects w.kind S t w.call a
+
+-- a signal has a handler then
+abbrev pub handles_after : State → ℕ → Answer → ℕ → Bool
+handles_after S t a signal = is_some (handler (answered_at S t a (thread_at S t)).handlers signal)
 
 -- why an entry was refused, or nothing where it was not
 abbrev pub refused_for : Result ⊤ Divergence → Option Divergence

@@ -1,5 +1,5 @@
 // A process.
-ghost use Rattle.std.specs.Prelude.{◌≡◌, ◌≢◌, ◌<◌, ◌≤◌, ◌^◌, IfOk, Err, None, Some, Option, option_copied, option_map, length, slice_get, is_some};
+ghost use Rattle.std.specs.Prelude.{◌≡◌, ◌≢◌, ◌<◌, ◌≤◌, ◌^◌, IfOk, Err, None, Some, Option, option_copied, option_map, length, slice_get};
 ghost use Rattle.coop_threads.specs.Crew.{status_of};
 ghost use Rattle.guest_memory.specs.Memory.{stamp_of};
 ghost use Rattle.lib_calls.specs.Answer.{Answer};
@@ -10,12 +10,10 @@ ghost use Rattle.wasm_step.specs.Start.{first_store};
 ghost use Rattle.wasm_step.specs.Store.{global_stamp_of};
 ghost use Rattle.guest_process.specs.Answers.{need};
 ghost use Rattle.guest_process.specs.Fits.{StateFits};
-ghost use Rattle.guest_process.specs.GoesOn.{handler as handler_of};
 ghost use Rattle.guest_process.specs.Legal.{reason};
 ghost use Rattle.guest_process.specs.Next.{next};
-ghost use Rattle.guest_process.specs.Seen.{able, answered_at, plain, refused_for};
+ghost use Rattle.guest_process.specs.Seen.{able, handles_after, plain, refused_for};
 ghost use Rattle.guest_process.specs.Start.{start};
-ghost use Rattle.guest_process.specs.State.{thread_at};
 
 use crate::answer::handler;
 use crate::divergence::Divergence;
@@ -121,7 +119,7 @@ impl<'m> Process<'m> {
 
     /// Whether a signal has a handler once the pending call of the thread is answered, however it is.
     pub fn handles_after(&self, thread: u16, signal: u8) -> bool
-        ensures { (a : Answer) → result ≡ is_some (handler_of (answered_at self.now thread a (thread_at self.now thread)).handlers signal) }
+        ensures { (a : Answer) → result ≡ handles_after self.now thread a signal }
     {
         match self.parts.crew.get(thread) {
             Some(waiting) => handler(&self.parts.handlers_after(waiting), signal).is_some(),

@@ -1,10 +1,10 @@
 // The logs that files hold.
-ghost use Rattle.std.specs.Prelude.{◌≡◌, ℕ, ◌≤◌, length, vec_len, Ok, IfOk, IfErr, MatchResult};
+ghost use Rattle.std.specs.Prelude.{◌≡◌, ℕ, ◌≤◌, length, vec_len, IfOk, IfErr};
 ghost use Rattle.fri_outside.specs.Outside.{WhenTold, Counts};
 ghost use Rattle.call_log.specs.Head.{IsHead};
 ghost use Rattle.call_log.specs.Limits.{most_log};
 ghost use Rattle.call_log.specs.Log.{head_at};
-ghost use Rattle.command_run.specs.Call.{CountsFaults, StopsAs, Raises, reads_after, writes_after};
+ghost use Rattle.command_run.specs.Call.{CountsFaults, Raises, TellsResult, reads_after, writes_after};
 ghost use Rattle.command_run.specs.Outcome.{file_of};
 ghost use Rattle.log_files.specs.Logs.{log_or_bad_head};
 
@@ -15,8 +15,7 @@ use std::alloc::Global;
 
 /// The bytes of a log file, within the limit of a log.
 pub fn take_log<F: Files>(alloc: Global, name: &str, files: &mut F) -> Result<Vec<u8>, StopCause>
-    ensures answer { WhenTold (F.told files.old) (λ folder. MatchResult result
-        (λ bytes. file_of folder name.now most_log ≡ Ok bytes.items) (StopsAs (file_of folder name.now most_log))) }
+    ensures answer { WhenTold (F.told files.old) (λ folder. TellsResult (λ bytes. bytes.items) (file_of folder name.now most_log) result) }
     ensures within { IfOk result (λ bytes. vec_len bytes ≤ most_log) }
     ensures same { F.told files.new ≡ F.told files.old }
     ensures counts { CountsFaults (F.counts files.old) (F.counts files.new) result }
@@ -28,9 +27,7 @@ pub fn take_log<F: Files>(alloc: Global, name: &str, files: &mut F) -> Result<Ve
 /// The log whose head the bytes of a file begin with.
 pub fn begin_log<'b>(alloc: Global, name: &str, bytes: &'b [u8]) -> Result<LogView<'b>, StopCause>
     ensures head { IfOk result (λ log. IsHead log.head) }
-    ensures answer { MatchResult result
-        (λ log. log_or_bad_head name.now (head_at bytes.now) ≡ Ok (log.head, log.left))
-        (StopsAs (log_or_bad_head name.now (head_at bytes.now))) }
+    ensures answer { TellsResult (λ log. (log.head, log.left)) (log_or_bad_head name.now (head_at bytes.now)) result }
     ensures shorter { IfOk result (λ log. length log.left.bytes ≤ length bytes.now) }
     ensures cause { (old new : Counts) → IfErr result (Raises old new) }
     ensures still { (n : ℕ) → (reads_after n result ≡ n) × (writes_after n result ≡ n) }

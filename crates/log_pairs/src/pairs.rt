@@ -1,14 +1,14 @@
 // The modules and logs of a group, and the replays of the logs.
-ghost use Rattle.std.specs.Prelude.{◌≡◌, ℕ, ◌≢◌, List, None, Ok, Option, All, IfErr, IfOk, IfSome, MatchResult, OnOk, length, map, nat_lt};
+ghost use Rattle.std.specs.Prelude.{◌≡◌, ℕ, ◌≢◌, List, None, Option, All, IfErr, IfOk, IfSome, MatchResult, OnOk, length, map, nat_lt};
 ghost use Rattle.std.specs.List.{take_while};
 ghost use Rattle.fri_outside.specs.Outside.{Counts, Folder, WhenTold};
 ghost use Rattle.call_log.specs.Head.{IsHead, head_of};
 ghost use Rattle.proc_replay.specs.AtHead.{IsAtHead};
 ghost use Rattle.group_state.specs.Place.{AreParts};
-ghost use Rattle.command_run.specs.Call.{CountsFaults, StopsAs, Raises, reads_after, writes_after};
+ghost use Rattle.command_run.specs.Call.{CountsFaults, Raises, TellsResult, reads_after, writes_after};
 ghost use Rattle.command_run.specs.Kept.{AreOfFiles};
-ghost use Rattle.log_pairs.specs.Pairs.{Loaded as LoadedOf, NoneOpened, Pair as PairOf, WasOpened, clash, has_name, has_process, insert_replay, is_other_group, loaded_pair, replay_of_log};
-ghost use Rattle.log_pairs.specs.Seen.{AreLoaded, AreOneGroup, IsLoaded, WereLoaded, pair_of};
+ghost use Rattle.log_pairs.specs.Pairs.{Loaded as LoadedOf, NoneOpened, Pair as PairOf, WasOpened, clash, has_name, has_process, insert_replay, is_other_group, replay_of_log};
+ghost use Rattle.log_pairs.specs.Seen.{AreLoaded, AreOneGroup, IsLoaded, LoadsPair, WereLoaded, pair_of};
 
 use call_log::{LogHead, LogView};
 use command_run::{ModuleFiles, Reason, StopCause, begin_process};
@@ -97,9 +97,7 @@ fn load<'a, F: Files>(
     files: &mut F,
 ) -> Result<Loaded<'a>, StopCause>
     requires { AreOfFiles (F.told files.old) modules.old }
-    ensures answer { WhenTold (F.told files.old) (λ folder. (ls : List LoadedOf) → AreLoaded earlier.now ls → MatchResult result
-        (λ l. (is : LoadedOf) × ((loaded_pair folder ls (pair_of pair.entry) ≡ Ok is) × IsLoaded l is))
-        (StopsAs (loaded_pair folder ls (pair_of pair.entry)))) }
+    ensures answer { WhenTold (F.told files.old) (λ folder. LoadsPair folder earlier.now (pair_of pair.entry) result) }
     ensures fits { IfOk result (λ l. (ls : List LoadedOf) → AreLoaded earlier.now ls
         → (is : LoadedOf) × (IsLoaded l is × (clash ls is.head ≡ None))) }
     ensures kept { AreOfFiles (F.told files.old) modules.new }
@@ -151,8 +149,7 @@ pub fn load_all<'a, F: Files>(
 // The replay of a log from the first state of its process.
 fn begin_replay<'m>(alloc: Global, loaded: &'m Loaded<'_>) -> Result<Replayer<'m, 'm>, StopCause>
     requires { (is : LoadedOf) × IsLoaded loaded.now is }
-    ensures answer { (is : LoadedOf) → IsLoaded loaded.now is → MatchResult result
-        (λ replay. replay_of_log is ≡ Ok replay) (StopsAs (replay_of_log is)) }
+    ensures answer { (is : LoadedOf) → IsLoaded loaded.now is → TellsResult (λ replay. replay) (replay_of_log is) result }
     ensures fresh { IfOk result (λ replay. replay.state.events ≡ 0) }
     ensures at_head { IfOk result IsAtHead }
     ensures cause { (old new : Counts) → IfErr result (Raises old new) }

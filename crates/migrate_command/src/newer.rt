@@ -1,8 +1,8 @@
 // The newer form of a log, and what is said of it.
-ghost use Rattle.std.specs.Prelude.{◌≡◌, ℕ, List, Ok, IfErr, IfOk, MatchResult, length};
+ghost use Rattle.std.specs.Prelude.{◌≡◌, ℕ, List, IfErr, IfOk, length};
 ghost use Rattle.fri_outside.specs.Outside.{Counts, WhenTold};
 ghost use Rattle.call_log.specs.Log.{entries_of, rest_of};
-ghost use Rattle.command_run.specs.Call.{CountsFaults, Raises, StopsAs, reads_after, writes_after};
+ghost use Rattle.command_run.specs.Call.{CountsFaults, Raises, TellsResult, reads_after, writes_after};
 ghost use Rattle.migrate_command.specs.Migrate.{migrate_outcome, migrate_text, work_unless_grown};
 ghost use Rattle.migrate_command.specs.Seen.{work_of_migration};
 
@@ -57,9 +57,8 @@ fn print(alloc: Global, name: &[u8], extent: Extent) -> Result<Text, AllocError>
 
 // Makes ready the migration of a log, whose file is refused where the newer form would pass the limit.
 fn renew(alloc: Global, log_file: &str, log: &LogView<'_>) -> Result<Migration, StopCause>
-    ensures answer { (new_name : List ℕ) → MatchResult result
-        (λ m. work_unless_grown log_file.now new_name (log.now.head, log.now.left) ≡ Ok (work_of_migration new_name m))
-        (StopsAs (work_unless_grown log_file.now new_name (log.now.head, log.now.left))) }
+    ensures answer { (new_name : List ℕ)
+        → TellsResult (work_of_migration new_name) (work_unless_grown log_file.now new_name (log.now.head, log.now.left)) result }
     ensures cause { (old new : Counts) → IfErr result (Raises old new) }
     ensures still { (n : ℕ) → (reads_after n result ≡ n) × (writes_after n result ≡ n) }
 {
@@ -78,9 +77,7 @@ pub(crate) fn take_migration<F: Files>(
     log_file: &str,
     files: &mut F,
 ) -> Result<Migration, StopCause>
-    ensures answer { (new_name : List ℕ) → WhenTold (F.told files.old) (λ folder. MatchResult result
-        (λ m. migrate_outcome log_file.now new_name folder ≡ Ok (work_of_migration new_name m))
-        (StopsAs (migrate_outcome log_file.now new_name folder))) }
+    ensures answer { (new_name : List ℕ) → WhenTold (F.told files.old) (λ folder. TellsResult (work_of_migration new_name) (migrate_outcome log_file.now new_name folder) result) }
     ensures same { F.told files.new ≡ F.told files.old }
     ensures counts { CountsFaults (F.counts files.old) (F.counts files.new) result }
     ensures cause { IfErr result (Raises (F.counts files.old) (F.counts files.new)) }

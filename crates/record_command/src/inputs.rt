@@ -1,9 +1,9 @@
 // Reads a schedule, and the modules of its processes.
-ghost use Rattle.std.specs.Prelude.{◌≡◌, All, length, map, Ok, IfOk, IfErr, MatchResult};
+ghost use Rattle.std.specs.Prelude.{◌≡◌, All, length, map, IfOk, IfErr};
 ghost use Rattle.fri_outside.specs.Outside.{WhenTold};
 ghost use Rattle.wasm_types.specs.Modules.{module_of as shown};
 ghost use Rattle.schedule_text.specs.Schedule.{IsProcess, IsSchedule};
-ghost use Rattle.command_run.specs.Call.{CountsFaults, StopsAs, Raises};
+ghost use Rattle.command_run.specs.Call.{CountsFaults, Raises, TellsResult};
 ghost use Rattle.command_run.specs.Inputs.{module_in};
 ghost use Rattle.command_run.specs.Kept.{AreOfFiles};
 ghost use Rattle.record_command.specs.Expected.{modules_of, schedule_in};
@@ -23,8 +23,7 @@ fn take_module_of<F: Files>(
 ) -> Result<SharedModule, StopCause>
     requires line { IsProcess line.now }
     requires kept { AreOfFiles (F.told files.old) modules.old }
-    ensures answer { WhenTold (F.told files.old) (λ folder. MatchResult result
-        (λ m. module_in folder line.now.«module» ≡ Ok (shown m)) (StopsAs (module_in folder line.now.«module»))) }
+    ensures answer { WhenTold (F.told files.old) (λ folder. TellsResult shown (module_in folder line.now.«module») result) }
     ensures kept { AreOfFiles (F.told files.old) modules.new }
     ensures same { F.told files.new ≡ F.told files.old }
     ensures counts { CountsFaults (F.counts files.old) (F.counts files.new) result }
@@ -41,8 +40,7 @@ pub fn take_modules<F: Files>(
     files: &mut F,
 ) -> Result<Vec<SharedModule>, StopCause>
     requires { All IsProcess lines.now }
-    ensures answer { WhenTold (F.told files.old) (λ folder. MatchResult result
-        (λ modules. modules_of folder lines.now ≡ Ok (map shown modules.items)) (StopsAs (modules_of folder lines.now))) }
+    ensures answer { WhenTold (F.told files.old) (λ folder. TellsResult (λ modules. map shown modules.items) (modules_of folder lines.now) result) }
     ensures count { IfOk result (λ modules. length modules.items ≡ length lines.now) }
     ensures same { F.told files.new ≡ F.told files.old }
     ensures counts { CountsFaults (F.counts files.old) (F.counts files.new) result }
@@ -63,8 +61,7 @@ pub fn take_schedule<F: Files>(
     files: &mut F,
 ) -> Result<Schedule, StopCause>
     ensures in_range { IfOk result IsSchedule }
-    ensures answer { WhenTold (F.told files.old) (λ folder. MatchResult result
-        (λ schedule. schedule_in folder name.now ≡ Ok schedule) (StopsAs (schedule_in folder name.now))) }
+    ensures answer { WhenTold (F.told files.old) (λ folder. TellsResult (λ schedule. schedule) (schedule_in folder name.now) result) }
     ensures same { F.told files.new ≡ F.told files.old }
     ensures counts { CountsFaults (F.counts files.old) (F.counts files.new) result }
     ensures cause { IfErr result (Raises (F.counts files.old) (F.counts files.new)) }

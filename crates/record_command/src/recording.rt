@@ -1,14 +1,14 @@
 // `record [--images] SCHEDULE`: runs a group as the schedule says, and writes the log of each
 // process, and the images where they are asked for.
-ghost use Rattle.std.specs.Prelude.{◌≡◌, ◌<◌, Bool, ℕ, false, length, map, option_map, IfErr, IfOk, MatchResult};
+ghost use Rattle.std.specs.Prelude.{◌≡◌, ◌<◌, ℕ, false, length, map, option_map, IfErr, IfOk};
 ghost use Rattle.fri_outside.specs.Outside.{WhenTold};
 ghost use Rattle.wasm_types.specs.Modules.{module_of as shown};
 ghost use Rattle.group_record.specs.Answer.{StoppedWhere, first_states};
 ghost use Rattle.command_run.specs.Outcome.{writes_of};
 ghost use Rattle.record_command.specs.Expected.{group_outcome, module_name, record_outcome};
 ghost use Rattle.record_command.specs.Agreement.{LeavesMoment, LeavesRecording};
-ghost use Rattle.command_run.specs.Call.{CountsFaults, StopsAs, TellsOutcome, MakesWorkFiles, KeepsFolder, DivergesOnlyIf, IsAnswerResult, RefusesFile, Raises};
-ghost use Rattle.record_command.specs.Seen.{Gathers, RefusesAs};
+ghost use Rattle.command_run.specs.Call.{CountsFaults, TellsOutcome, MakesWorkFiles, KeepsFolder, DivergesOnlyIf, IsAnswerResult, RefusesFile, Raises};
+ghost use Rattle.record_command.specs.Seen.{GathersInputs, RefusesAs};
 
 use crate::inputs::{take_modules, take_schedule};
 use crate::summary::print_summary;
@@ -62,9 +62,7 @@ struct Inputs {
 
 // Reads what a recording needs. No file has changed.
 fn gather<F: Files>(alloc: Global, schedule_file: &str, files: &mut F) -> Result<Inputs, StopCause>
-    ensures answer { WhenTold (F.told files.old) (λ folder. MatchResult result
-        (λ inputs. Gathers folder schedule_file.now inputs.schedule (map shown inputs.modules.items))
-        (λ e. (images : Bool) → StopsAs (record_outcome images schedule_file.now folder) e)) }
+    ensures answer { WhenTold (F.told files.old) (λ folder. GathersInputs folder schedule_file.now result) }
     ensures count { IfOk result (λ inputs. length inputs.modules.items ≡ length inputs.schedule.processes) }
     ensures same { F.told files.new ≡ F.told files.old }
     ensures counts { CountsFaults (F.counts files.old) (F.counts files.new) result }

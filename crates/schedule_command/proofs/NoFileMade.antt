@@ -10,7 +10,7 @@ use Rattle.command_run.specs.declared.refusal.StopCause.TheVariants as refusal
 use Rattle.command_run.specs.Call.{CountsFaults, DivergesOnlyIf, KeepsFolder, MakesWorkFiles, Raises, StopsAs, TellsOutcome}
 use Rattle.command_run.specs.Outcome.{CommandOutcome, CommandStop, and_then, writes_of}
 use Rattle.command_run.specs.OutcomeLaws.{follows, outcome_when_told, same_Ok, stops_make, stops_tell}
-use Rattle.command_run.specs.Run.{Performed}
+use Rattle.command_run.specs.Run.{Performed, expectation, file_state}
 use Rattle.log_pairs.specs.declared.pairs.Loaded.{Loaded as LoadedFiles}
 use Rattle.log_pairs.specs.Pairs.{Loaded, NoneOpened, Pair, WasOpened, loaded_pairs, replays_of, replays_of_pairs, sort_replays}
 use Rattle.log_pairs.specs.Seen.{AreLoaded, WereLoaded}
@@ -99,7 +99,7 @@ keeps before after (Err refusal.NoMemory) same = tt
 
 pub performed : (pairs : List Pair) (told after : Option Folder) (counts counts_after : Counts) (ended : Result WorkText StopCause) → WhenTold told (λ folder. Ends pairs folder ended) → after ≡ told
     → DivergesOnlyIf false ended → CountsFaults counts counts_after ended → IfErr ended (Raises counts counts_after)
-    → Performed (option_map (schedule_outcome pairs) told) (λ folder. []) false told after counts counts_after ended
+    → Performed (expectation (option_map (schedule_outcome pairs) told) (λ folder. []) false) (file_state told counts) (file_state after counts_after) ended
 performed pairs told after counts counts_after ended ends same done counted cause = record {
   tells = λ o is. let h = outcome_when_told (schedule_outcome pairs) told o is in subst (λ (o : CommandOutcome). TellsOutcome o ended) (sym h.2) (tells pairs h.0 ended (ends h.0 h.1));
   makes = λ o is. let h = outcome_when_told (schedule_outcome pairs) told o is in subst (λ (o : CommandOutcome). MakesWorkFiles ended (writes_of o) told after) (sym h.2) (makes pairs h.0 told after ended (ends h.0 h.1) same);

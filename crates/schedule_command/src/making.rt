@@ -2,7 +2,7 @@
 ghost use Rattle.std.specs.Prelude.{◌≡◌, [], false, List, length, map, option_map, IfErr, IfOk, MatchResult, ℕ};
 ghost use Rattle.fri_outside.specs.Outside.{Counts, WhenTold};
 ghost use Rattle.command_run.specs.Call.{CountsFaults, Raises, StopsAs, reads_after, writes_after};
-ghost use Rattle.command_run.specs.Run.{Performed};
+ghost use Rattle.command_run.specs.Run.{Performed, expectation, file_state};
 ghost use Rattle.group_state.specs.Place.{AreParts, events};
 ghost use Rattle.log_pairs.specs.Pairs.{Loaded as LoadedOf};
 ghost use Rattle.log_pairs.specs.Seen.{AreLoaded, pair_of};
@@ -96,8 +96,8 @@ pub fn schedule<'a, F: Files>(
     pairs: &[Pair<'a>],
     files: &mut F,
 ) -> Result<WorkText, StopCause>
-    ensures performed { Performed (option_map (schedule_outcome (map pair_of pairs.now)) (F.told files.old)) (λ folder. []) false
-        (F.told files.old) (F.told files.new) (F.counts files.old) (F.counts files.new) result }
+    ensures performed { Performed (expectation (option_map (schedule_outcome (map pair_of pairs.now)) (F.told files.old)) (λ folder. []) false)
+        (file_state (F.told files.old) (F.counts files.old)) (file_state (F.told files.new) (F.counts files.new)) result }
     ensures same { F.told files.new ≡ F.told files.old }
     ensures converse { WhenTold (F.told files.old) (λ folder. IfOk result (AnswerRecordsBack (map pair_of pairs.now) folder)) }
 {

@@ -19,6 +19,7 @@ use Rattle.shell_points.specs.Firing.{place_at, reading, said_at}
 use Rattle.shell_points.specs.Points.{Point}
 use Rattle.shell_points.specs.Reading.{readings, said_by, treat_by}
 use Rattle.shell_points.specs.Seen.{Walks, point, trigger}
+use Rattle.shell_points.specs.declared.walk.WalkEnd.{WalkEnd}
 use Rattle.group_texts.specs.Texts.{position_line}
 use Rattle.shell_points.specs.Walking.{Walk, lines_in, most_lines, quiet, treat, treat_all, walk_ended, walk_from, walk_on, walk_over}
 
@@ -132,10 +133,10 @@ lines_append a b = sum_by-append (λ (x : ℕ). cond (is_line_feed x) 1 0) a b
 
 -- a walk that ended came there
 pub arrives : (first : GroupPlace) (ps : List Point) (before after : List Variable) (at : ℕ) (said : List ℕ) → walk_from first ps before ≡ walk_ended at after said
-    → (new there : GroupPlace) (variables : List Variable) (text : List ℕ) → new ≡ place_at first.start at → there ≡ new → variables ≡ after → text ≡ said ++ position_line new
-    → Walks first ps before there variables text
-arrives first ps before after at said is new there variables text here same kept says = record {
+    → (new : GroupPlace) (done : WalkEnd) → new ≡ place_at first.start at → done.group ≡ new → done.variables ≡ after → done.text ≡ said ++ position_line new
+    → Walks first ps before done
+arrives first ps before after at said is new done here same kept says = record {
   place = same ∙ here ∙ ap (λ (w : Walk). place_at first.start w.at) (sym is);
   variables = kept ∙ ap (λ (w : Walk). w.variables) (sym is);
-  text_is = says ∙ ap (λ (p : GroupPlace). said ++ position_line p) (sym same) ∙ ap (λ (w : Walk). w.text ++ position_line there) (sym is);
+  text_is = says ∙ ap (λ (p : GroupPlace). said ++ position_line p) (sym same) ∙ ap (λ (w : Walk). w.text ++ position_line done.group) (sym is);
 }

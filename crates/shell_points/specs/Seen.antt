@@ -11,6 +11,7 @@ use Rattle.shell_points.specs.declared.point.Point.{Point as Held}
 use Rattle.shell_points.specs.declared.point.Trigger.{Trigger as HeldTrigger}
 use Rattle.shell_points.specs.declared.point.Trigger.TheVariants as held
 use Rattle.shell_points.specs.declared.turn.Turn.{Turn}
+use Rattle.shell_points.specs.declared.walk.WalkEnd.{WalkEnd}
 use Rattle.shell_points.specs.Firing.{place_at}
 use Rattle.shell_points.specs.Points.{Break, Point, Trigger, Watch}
 use Rattle.shell_points.specs.Returning.{Return, return_from}
@@ -32,10 +33,10 @@ abbrev pub return_of : Ended → Return
 return_of r = record { at = r.at; text = r.text }
 
 -- a walk from a place ended where it ends
-pub record Walks (old : GroupPlace) (points : List Point) (before : List Variable) (new : GroupPlace) (after : List Variable) (text : List ℕ) : Type 0 where
-  pub place : new ≡ place_at old.start (walk_from old points before).at
-  pub variables : after ≡ (walk_from old points before).variables
-  pub text_is : text ≡ (walk_from old points before).text ++ position_line new
+pub record Walks (old : GroupPlace) (points : List Point) (before : List Variable) (done : WalkEnd) : Type 0 where
+  pub place : done.group ≡ place_at old.start (walk_from old points before).at
+  pub variables : done.variables ≡ (walk_from old points before).variables
+  pub text_is : done.text ≡ (walk_from old points before).text ++ position_line done.group
 
 -- a walk back from a place ended where it ends
 pub record Returns (old : GroupPlace) (points : List Point) (new : GroupPlace) (text : List ℕ) : Type 0 where

@@ -1,10 +1,10 @@
 // Goes back to where points fired last.
-ghost use Rattle.std.specs.Prelude.{◌≡◌, ◌+◌, ◌<◌, ◌≤◌, ◌-◌, ◌++◌, ◌==◌, IfOk, MatchOption, OnOk, false, if◌then◌else◌, length, map, suc};
+ghost use Rattle.std.specs.Prelude.{◌≡◌, ◌+◌, ◌<◌, ◌≤◌, ◌-◌, ◌++◌, ◌==◌, IfOk, MatchOption, OnOk, if◌then◌else◌, length, map, suc};
 ghost use Rattle.group_state.specs.Moves.{last_event_of};
 ghost use Rattle.group_state.specs.Place.{events};
 ghost use Rattle.group_state.specs.Touch.{ticks};
-ghost use Rattle.shell_points.specs.Firing.{firing_lines, has_due, place_at};
-ghost use Rattle.shell_points.specs.Reading.{readings, said_by};
+ghost use Rattle.shell_points.specs.Firing.{firing_lines, place_at};
+ghost use Rattle.shell_points.specs.Reading.{NoneFires, readings, readings_before, said_by};
 ghost use Rattle.shell_points.specs.Returning.{return_from};
 ghost use Rattle.shell_points.specs.Seen.{Returns, point as seen, return_of};
 ghost use Rattle.shell_points.specs.Watching.{IsWatching, watched};
@@ -98,8 +98,8 @@ fn text_here(
     group: &Group<'_, '_>,
 ) -> Result<Text, AllocError>
     requires moved { 0 < group.now.at }
-    requires before { MatchOption before (has_due group.now.start (map {A = Held} seen points.now) group.now.at ≡ false)
-        (λ before. before.items ≡ readings group.now.start (group.now.at - 1) (map {A = Held} seen points.now)) }
+    requires before { MatchOption before (NoneFires group.now (map {A = Held} seen points.now))
+        (λ before. before.items ≡ readings_before group.now (map {A = Held} seen points.now)) }
     requires now { IsWatching group.now.start group.now.at (map {A = Held} seen points.now) now.now }
     ensures { IfOk result (λ text. text ≡ firing_lines group.now.start (map {A = Held} seen points.now) group.now.at) }
 {
@@ -118,7 +118,7 @@ fn said_here(
     group: &Group<'_, '_>,
 ) -> Result<Text, AllocError>
     requires moved { 0 < group.now.at }
-    requires before { before.now ≡ readings group.now.start (group.now.at - 1) (map {A = Held} seen points.now) }
+    requires before { before.now ≡ readings_before group.now (map {A = Held} seen points.now) }
     requires now { now.now ≡ readings group.now.start group.now.at (map {A = Held} seen points.now) }
     ensures { IfOk result (λ text. text ≡ firing_lines group.now.start (map {A = Held} seen points.now) group.now.at) }
 {

@@ -129,7 +129,7 @@ impl Points {
         variables: Vars,
         steps: &mut Steps<L>,
     ) -> Result<WalkEnd<'m, 'a>, AllocError>
-        ensures walks { IfOk result (λ done. Walks group.entry self.now variables done.group done.variables done.text) }
+        ensures walks { IfOk result (λ done. Walks group.entry self.now variables done) }
         ensures ticks { IfOk result (λ done. steps.new ≡ steps.old + ticks group.entry.start (watched self.now) group.entry.at (done.group.at - group.entry.at)) }
     {
         walk(alloc, group, &self.held, variables, steps)

@@ -1,7 +1,6 @@
 // What points do at a position.
-ghost use Rattle.std.specs.Prelude.{◌≡◌, ◌<◌, ◌-◌, IfOk, MatchOption, OnOk, false, map};
-ghost use Rattle.shell_points.specs.Firing.{has_due};
-ghost use Rattle.shell_points.specs.Reading.{readings, treat_by};
+ghost use Rattle.std.specs.Prelude.{◌≡◌, ◌<◌, IfOk, MatchOption, OnOk, map};
+ghost use Rattle.shell_points.specs.Reading.{NoneFires, readings, readings_before, treat_by};
 ghost use Rattle.shell_points.specs.Seen.{point as seen, run_so_far};
 ghost use Rattle.shell_points.specs.Walking.{quiet, treat_all};
 ghost use Rattle.shell_points.specs.Watching.{IsWatching};
@@ -37,8 +36,8 @@ pub(crate) fn turn_here(
     variables: Vars,
 ) -> Result<Turn, AllocError>
     requires moved { 0 < group.now.at }
-    requires before { MatchOption before (has_due group.now.start (map {A = Held} seen points.now) group.now.at ≡ false)
-        (λ before. before.items ≡ readings group.now.start (group.now.at - 1) (map {A = Held} seen points.now)) }
+    requires before { MatchOption before (NoneFires group.now (map {A = Held} seen points.now))
+        (λ before. before.items ≡ readings_before group.now (map {A = Held} seen points.now)) }
     requires now { IsWatching group.now.start group.now.at (map {A = Held} seen points.now) now.now }
     ensures { IfOk result (λ turn. run_so_far turn ≡ treat_all group.now.start group.now.at (quiet variables) (map {A = Held} seen points.now)) }
 {
@@ -65,7 +64,7 @@ fn treat_all(
     variables: Vars,
 ) -> Result<Turn, AllocError>
     requires moved { 0 < group.now.at }
-    requires before { before.now ≡ readings group.now.start (group.now.at - 1) (map {A = Held} seen points.now) }
+    requires before { before.now ≡ readings_before group.now (map {A = Held} seen points.now) }
     requires now { now.now ≡ readings group.now.start group.now.at (map {A = Held} seen points.now) }
     ensures { IfOk result (λ turn. run_so_far turn ≡ treat_all group.now.start group.now.at (quiet variables) (map {A = Held} seen points.now)) }
 {

@@ -37,7 +37,7 @@ pub(crate) fn walk<'m, 'a, L: Ledger>(
     variables: Vars,
     steps: &mut Steps<L>,
 ) -> Result<WalkEnd<'m, 'a>, AllocError>
-    ensures walks { IfOk result (λ done. Walks group.entry (map {A = Held} seen points.now) variables done.group done.variables done.text) }
+    ensures walks { IfOk result (λ done. Walks group.entry (map {A = Held} seen points.now) variables done) }
     ensures ticks { IfOk result (λ done. steps.new ≡ steps.old + ticks group.entry.start (watched (map {A = Held} seen points.now)) group.entry.at (done.group.at - group.entry.at)) }
 {
     let _ = group.position();

@@ -1,11 +1,10 @@
 // What points read on a walk, from position to position.
-ghost use Rattle.std.specs.Prelude.{◌≡◌, ℕ, ℤ, ◌+◌, ◌-◌, ◌<◌, ◌≤◌, ◌^◌, ◌∷◌, ◌++◌, All, List, Option, false, IfOk, MatchOption, OnOk, count_by, drop, length, map};
+ghost use Rattle.std.specs.Prelude.{◌≡◌, ℕ, ℤ, ◌+◌, ◌-◌, ◌<◌, ◌≤◌, ◌^◌, ◌∷◌, ◌++◌, All, List, Option, IfOk, MatchOption, OnOk, count_by, drop, length, map};
 ghost use Rattle.std.specs.List.{list_any};
 ghost use Rattle.group_state.specs.Seen.{nodes_at};
 ghost use Rattle.group_state.specs.Touch.{is_met};
 ghost use Rattle.page_watch.specs.Watched.{Stands, Watched};
-ghost use Rattle.shell_points.specs.Firing.{has_due};
-ghost use Rattle.shell_points.specs.Reading.{readings};
+ghost use Rattle.shell_points.specs.Reading.{NoneFires, readings_before};
 ghost use Rattle.shell_points.specs.Seen.{point as seen, trigger};
 ghost use Rattle.shell_points.specs.Watching.{IsWatching, dealt, expressions_of, is_break, values_by, watched};
 ghost use Rattle.shell_points.specs.declared.point.Point.{Point as Held};
@@ -55,8 +54,8 @@ impl Watching {
         requires moved { 0 < group.now.at }
         requires before { IsWatching group.now.start (group.now.at - 1) (map {A = Held} seen points.now) self }
         ensures now { IfOk result (λ done. IsWatching group.now.start group.now.at (map {A = Held} seen points.now) done.0) }
-        ensures before { IfOk result (λ done. MatchOption done.1 (has_due group.now.start (map {A = Held} seen points.now) group.now.at ≡ false)
-            (λ before. before.items ≡ readings group.now.start (group.now.at - 1) (map {A = Held} seen points.now))) }
+        ensures before { IfOk result (λ done. MatchOption done.1 (NoneFires group.now (map {A = Held} seen points.now))
+            (λ before. before.items ≡ readings_before group.now (map {A = Held} seen points.now))) }
         ensures ticks { OnOk result (steps.new ≡ steps.old + count_by (is_met group.now.start group.now.at) (watched (map {A = Held} seen points.now))) }
     {
         let Watching {

@@ -1,6 +1,6 @@
 // `streams MODULE LOG ..`: what was written to each stream of a group, and read of it.
 ghost use Rattle.std.specs.Prelude.{◌≡◌, [], false, map, option_map, IfOk};
-ghost use Rattle.command_run.specs.Run.{Performed};
+ghost use Rattle.command_run.specs.Run.{Performed, expectation, file_state};
 ghost use Rattle.group_state.specs.Place.{AreParts, events, group_count};
 ghost use Rattle.log_pairs.specs.Seen.{pair_of};
 ghost use Rattle.streams_command.specs.Seen.{IsToldOf};
@@ -78,8 +78,8 @@ pub fn streams<F: Files>(
     pairs: &[Pair<'_>],
     files: &mut F,
 ) -> Result<WorkText, StopCause>
-    ensures performed { Performed (option_map (streams_outcome (map pair_of pairs.now)) (F.told files.old)) (λ folder. []) false
-        (F.told files.old) (F.told files.new) (F.counts files.old) (F.counts files.new) result }
+    ensures performed { Performed (expectation (option_map (streams_outcome (map pair_of pairs.now)) (F.told files.old)) (λ folder. []) false)
+        (file_state (F.told files.old) (F.counts files.old)) (file_state (F.told files.new) (F.counts files.new)) result }
     ensures same { F.told files.new ≡ F.told files.old }
 {
     let all = load_all(alloc, pairs, files)?;

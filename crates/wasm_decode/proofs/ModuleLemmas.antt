@@ -5,7 +5,7 @@ use Rattle.std.proofs.lemmas.Bool.{eqb-true, eq-eqb}
 use Rattle.std.proofs.lemmas.List.{take-append-drop}
 use Rattle.fri_bytes.specs.Laws.{ExactReaders}
 use Rattle.wasm_types.specs.Modules.{Module}
-use Rattle.wasm_decode.specs.Grammar.{IsU32, IsVector, IsFuncType, IsLimits, IsTable, IsImport, IsGlobal, IsExport, IsStart, IsElem, IsCode, IsSegment, AreCustoms, HasSection, header, SpellsModule}
+use Rattle.wasm_decode.specs.Grammar.{IsU32, IsVector, IsFuncType, IsLimits, IsTable, IsImport, IsGlobal, IsExport, IsStart, IsElem, IsCode, IsSegment, AreCustoms, HasSection, IsSection, header, SpellsModule}
 use Rattle.wasm_decode.specs.Values.{u32_at, vector_at, end_of, func_type_at, limits_at, table_at}
 use Rattle.wasm_decode.specs.Entries.{import_at, export_at, global_def_at, start_at, elem_at, segment_at, code_at}
 use Rattle.wasm_decode.specs.Sections.{customs_at, section_at, header_at, module_of_bytes}
@@ -31,37 +31,37 @@ abbrev From12 : List ℕ → Module → List ℕ → Type 0
 From12 indices m = AreCustoms
 
 abbrev From11 : List ℕ → Module → List ℕ → Type 0
-From11 indices m = HasSection 11 [] (IsVector IsSegment) m.segments (From12 indices m)
+From11 indices m = HasSection (IsSection 11 [] (IsVector IsSegment) m.segments) (From12 indices m)
 
 abbrev From10 : List ℕ → Module → List ℕ → Type 0
-From10 indices m = HasSection 10 [] (IsCode indices) m.funcs (From11 indices m)
+From10 indices m = HasSection (IsSection 10 [] (IsCode indices) m.funcs) (From11 indices m)
 
 abbrev From9 : List ℕ → Module → List ℕ → Type 0
-From9 indices m = HasSection 9 [] (IsVector IsElem) m.elems (From10 indices m)
+From9 indices m = HasSection (IsSection 9 [] (IsVector IsElem) m.elems) (From10 indices m)
 
 abbrev From8 : List ℕ → Module → List ℕ → Type 0
-From8 indices m = HasSection 8 None IsStart m.start (From9 indices m)
+From8 indices m = HasSection (IsSection 8 None IsStart m.start) (From9 indices m)
 
 abbrev From7 : List ℕ → Module → List ℕ → Type 0
-From7 indices m = HasSection 7 [] (IsVector IsExport) m.exports (From8 indices m)
+From7 indices m = HasSection (IsSection 7 [] (IsVector IsExport) m.exports) (From8 indices m)
 
 abbrev From6 : List ℕ → Module → List ℕ → Type 0
-From6 indices m = HasSection 6 [] (IsVector IsGlobal) m.globals (From7 indices m)
+From6 indices m = HasSection (IsSection 6 [] (IsVector IsGlobal) m.globals) (From7 indices m)
 
 abbrev From5 : List ℕ → Module → List ℕ → Type 0
-From5 indices m = HasSection 5 [] (IsVector IsLimits) m.mems (From6 indices m)
+From5 indices m = HasSection (IsSection 5 [] (IsVector IsLimits) m.mems) (From6 indices m)
 
 abbrev From4 : List ℕ → Module → List ℕ → Type 0
-From4 indices m = HasSection 4 [] (IsVector IsTable) m.tables (From5 indices m)
+From4 indices m = HasSection (IsSection 4 [] (IsVector IsTable) m.tables) (From5 indices m)
 
 abbrev From3 : List ℕ → Module → List ℕ → Type 0
-From3 indices m = HasSection 3 [] (IsVector IsU32) indices (From4 indices m)
+From3 indices m = HasSection (IsSection 3 [] (IsVector IsU32) indices) (From4 indices m)
 
 abbrev From2 : List ℕ → Module → List ℕ → Type 0
-From2 indices m = HasSection 2 [] (IsVector IsImport) m.imports (From3 indices m)
+From2 indices m = HasSection (IsSection 2 [] (IsVector IsImport) m.imports) (From3 indices m)
 
 abbrev From1 : List ℕ → Module → List ℕ → Type 0
-From1 indices m = HasSection 1 [] (IsVector IsFuncType) m.types (From2 indices m)
+From1 indices m = HasSection (IsSection 1 [] (IsVector IsFuncType) m.types) (From2 indices m)
 
 -- the steps of a reading that gave something, with the bytes after each
 record Steps (bytes : List ℕ) (m : Module) : Type 0 where

@@ -64,7 +64,7 @@ Found id s (Some contents) = (sized : List ℕ) × (s ≡ id ∷ sized) × IsByt
 abbrev Contents : ℕ → List ℕ → Option (List ℕ) → List ℕ → Type 0
 Contents id bytes found rest = (customs s : List ℕ) × (bytes ≡ (customs ++ s) ++ rest) × AreCustoms customs × Found id s found
 
-value_takes : {A : Type 0} (id : ℕ) (absent : A) (P : List ℕ → A → Type 0) (x : A) (read : Reader A) → Reads P read → (s : List ℕ) (found : Option (List ℕ)) → Found id s found → contents_value absent read found ≡ Some x → IsSection id absent P s x
+value_takes : {A : Type 0} (id : ℕ) (absent : A) (P : List ℕ → A → Type 0) (x : A) (read : Reader A) → Reads P read → (s : List ℕ) (found : Option (List ℕ)) → Found id s found → contents_value absent read found ≡ Some x → IsSection id absent P x s
 value_takes {A} id absent P x read laws s None nothing e = inl (nothing, sym (some_is absent x e))
 value_takes id absent P x read laws s (Some contents) (sized, parts, piece) e = inr (sized, parts, (contents, piece, (all_reads P read laws).takes contents x e))
 
@@ -150,7 +150,7 @@ module _ (readers : ExactReaders) where
         ([], subst (λ (s : List ℕ). Leads s []) (append-nil bytes) leads, ([], refl), λ k le. refl);
   }
 
-  pub tail_after : {A : Type 0} (from id : ℕ) (absent : A) (P : List ℕ → A → Type 0) (x : A) (Q : List ℕ → Type 0) → from < id → Tail id Q → Tail from (HasSection id absent P x Q)
+  pub tail_after : {A : Type 0} (from id : ℕ) (absent : A) (P : List ℕ → A → Type 0) (x : A) (Q : List ℕ → Type 0) → from < id → Tail id Q → Tail from (HasSection (IsSection id absent P x) Q)
   tail_after from id absent P x Q less tail = record {
     skips = λ bytes h.
         elim h.is_section [
@@ -158,19 +158,19 @@ module _ (readers : ExactReaders) where
               let t = tail.skips h.others h.follow in
               let all : h.customs ++ h.others ≡ bytes = sym (h.parts ∙ ap (λ (s : List ℕ). (h.customs ++ s) ++ h.others) gone.0 ∙ ap (λ (s : List ℕ). s ++ h.others) (append-nil h.customs)) in
               let leads = customs_then h.are_customs.0 h.customs h.others t.0 h.are_customs.1 t.1 in
-              let after : HasSection id absent P x Q t.0 = record { customs = []; section = []; others = t.0; parts = refl; are_customs = ([], refl); is_section = inl (refl, gone.1); follow = t.2 } in
+              let after : HasSection (IsSection id absent P x) Q t.0 = record { customs = []; section = []; others = t.0; parts = refl; are_customs = ([], refl); is_section = inl (refl, gone.1); follow = t.2 } in
               (t.0, subst (λ (s : List ℕ). Leads s t.0) all leads, after, λ k le. t.3 k (omega arith))
           | inr present ↦
               let rest = (id ∷ present.0) ++ h.others in
               let all : h.customs ++ rest ≡ bytes = sym (h.parts ∙ ap (λ (s : List ℕ). (h.customs ++ s) ++ h.others) present.1 ∙ append_assoc h.customs (id ∷ present.0) h.others) in
               let above : Above from rest = λ k le. ne_eqb id k (λ same. omega arith) in
               let leads = customs_then h.are_customs.0 h.customs rest rest h.are_customs.1 (stays rest (above 0 (omega arith))) in
-              let after : HasSection id absent P x Q rest = record { customs = []; section = id ∷ present.0; others = h.others; parts = refl; are_customs = ([], refl); is_section = inr (present.0, refl, present.2); follow = h.follow } in
+              let after : HasSection (IsSection id absent P x) Q rest = record { customs = []; section = id ∷ present.0; others = h.others; parts = refl; are_customs = ([], refl); is_section = inr (present.0, refl, present.2); follow = h.follow } in
               (rest, subst (λ (s : List ℕ). Leads s rest) all leads, after, above)
         ];
   }
 
-  pub section_again : {A : Type 0} (id : ℕ) (absent : A) (P : List ℕ → A → Type 0) (x : A) (Q : List ℕ → Type 0) (read : Reader A) → Reads P read → 0 < id → Tail id Q → (bytes : List ℕ) → HasSection id absent P x Q bytes
+  pub section_again : {A : Type 0} (id : ℕ) (absent : A) (P : List ℕ → A → Type 0) (x : A) (Q : List ℕ → Type 0) (read : Reader A) → Reads P read → 0 < id → Tail id Q → (bytes : List ℕ) → HasSection (IsSection id absent P x) Q bytes
       → (rest : List ℕ) × (section_at id absent read bytes ≡ Some (x, rest)) × Q rest
   unfolding section_at contents_at customs_at
   section_again {A} id absent P x Q read laws some tail bytes h =
@@ -214,7 +214,7 @@ module _ (readers : ExactReaders) where
             (s.0, [], joined bytes s.0 a.0 [] a.0 s.1 refl, s.2, refl)
       ]
 
-  pub section_takes : {A : Type 0} (id : ℕ) (absent : A) (P : List ℕ → A → Type 0) (x : A) (Q : List ℕ → Type 0) (read : Reader A) → Reads P read → (bytes rest : List ℕ) → section_at id absent read bytes ≡ Some (x, rest) → Q rest → HasSection id absent P x Q bytes
+  pub section_takes : {A : Type 0} (id : ℕ) (absent : A) (P : List ℕ → A → Type 0) (x : A) (Q : List ℕ → Type 0) (read : Reader A) → Reads P read → (bytes rest : List ℕ) → section_at id absent read bytes ≡ Some (x, rest) → Q rest → HasSection (IsSection id absent P x) Q bytes
   unfolding section_at
   section_takes {A} id absent P x Q read laws bytes rest e follow =
       let a = bind_some _ _ _ e in

@@ -243,17 +243,17 @@ abbrev pub AreCustoms : List ℕ → Type 0
 AreCustoms bytes = (names : List (List ℕ)) × IsEach IsCustom bytes names
 
 -- 5.5.2: the section with this id, or nothing, which stands for a given value
-abbrev pub IsSection : {A : Type 0} → ℕ → A → (List ℕ → A → Type 0) → List ℕ → A → Type 0
-IsSection id absent P bytes x = ((bytes ≡ []) × (x ≡ absent)) ⊎ ((sized : List ℕ) × (bytes ≡ id ∷ sized) × IsSized P sized x)
+abbrev pub IsSection : {A : Type 0} → ℕ → A → (List ℕ → A → Type 0) → A → List ℕ → Type 0
+IsSection id absent P x bytes = ((bytes ≡ []) × (x ≡ absent)) ⊎ ((sized : List ℕ) × (bytes ≡ id ∷ sized) × IsSized P sized x)
 
--- custom sections, the section with this id, and what follows it
-pub record HasSection {A : Type 0} (id : ℕ) (absent : A) (P : List ℕ → A → Type 0) (x : A) (Q : List ℕ → Type 0) (bytes : List ℕ) : Type 0 where
+-- custom sections, such a section, and what follows it
+pub record HasSection (P Q : List ℕ → Type 0) (bytes : List ℕ) : Type 0 where
   pub customs : List ℕ
   pub section : List ℕ
   pub others : List ℕ
   pub parts : bytes ≡ customs ++ section ++ others
   pub are_customs : AreCustoms customs
-  pub is_section : IsSection id absent P section x
+  pub is_section : P section
   pub follow : Q others
 
 -- 5.5.15: `\0asm` and the version
@@ -263,17 +263,17 @@ header = 0x00 ∷ 0x61 ∷ 0x73 ∷ 0x6d ∷ 0x01 ∷ 0x00 ∷ 0x00 ∷ 0x00 ∷
 -- 5.5.15: the sections of a module (5.5.4 to 5.5.14), whose functions have the types with these indices
 abbrev pub AreSections : List ℕ → Module → List ℕ → Type 0
 AreSections indices m =
-    HasSection 1 [] (IsVector IsFuncType) m.types (
-    HasSection 2 [] (IsVector IsImport) m.imports (
-    HasSection 3 [] (IsVector IsU32) indices (
-    HasSection 4 [] (IsVector IsTable) m.tables (
-    HasSection 5 [] (IsVector IsLimits) m.mems (
-    HasSection 6 [] (IsVector IsGlobal) m.globals (
-    HasSection 7 [] (IsVector IsExport) m.exports (
-    HasSection 8 None IsStart m.start (
-    HasSection 9 [] (IsVector IsElem) m.elems (
-    HasSection 10 [] (IsCode indices) m.funcs (
-    HasSection 11 [] (IsVector IsSegment) m.segments AreCustoms))))))))))
+    HasSection (IsSection 1 [] (IsVector IsFuncType) m.types) (
+    HasSection (IsSection 2 [] (IsVector IsImport) m.imports) (
+    HasSection (IsSection 3 [] (IsVector IsU32) indices) (
+    HasSection (IsSection 4 [] (IsVector IsTable) m.tables) (
+    HasSection (IsSection 5 [] (IsVector IsLimits) m.mems) (
+    HasSection (IsSection 6 [] (IsVector IsGlobal) m.globals) (
+    HasSection (IsSection 7 [] (IsVector IsExport) m.exports) (
+    HasSection (IsSection 8 None IsStart m.start) (
+    HasSection (IsSection 9 [] (IsVector IsElem) m.elems) (
+    HasSection (IsSection 10 [] (IsCode indices) m.funcs) (
+    HasSection (IsSection 11 [] (IsVector IsSegment) m.segments) AreCustoms))))))))))
 
 -- 5.5.15: the bytes spell the module
 pub record SpellsModule (bytes : List ℕ) (m : Module) : Type 0 where

@@ -2,5 +2,5 @@ use Rattle.command_run.proofs.CommandEnds.{finishes}
 use Rattle.command_run.proofs.printing.finish.Goals as goal
 
 pub returns : goal.returns
-returns g c = λ expected written may_diverge before after counts counts_after performed.
-    finishes expected written may_diverge c.args.ended c.print_end.result _ _ performed c.print_end.ensures.ends c.print_end.ensures.heard
+returns g c = λ expected old new performed.
+    finishes expected.outcome expected.written expected.may_diverge c.args.ended c.print_end.result _ _ performed c.print_end.ensures.ends c.print_end.ensures.heard

@@ -12,7 +12,7 @@ returns-in-Err g c =
     let old : Outside = outside (g.F.Files.told c.args.files.now) (g.F.Files.counts c.args.files.now) (g.T.Sink.hearing c.args.io.now) (g.T.Sink.taken c.args.io.now) (g.T.Sink.faults c.args.io.now) in
     let new : Outside = outside (g.F.Files.told c.load_all.new.files) (g.F.Files.counts c.load_all.new.files) (g.T.Sink.hearing c.finish.new.out) (g.T.Sink.taken c.finish.new.out) (g.T.Sink.faults c.finish.new.out) in
     run_refused pairs c.in-Err.refusal c.finish.result old new
-    (c.finish.ensures _ _ _ _ _ _ _
+    (c.finish.ensures _ _ _
     (performed pairs c.in-Err.refusal old new c.in-Err.ensures.answer c.in-Err.ensures.cause (counts_of_part _ _ _ c.in-Err.ensures.counts) c.load_all.ensures.same))
 
 pub returns-in-Ok-begin_all : goal.returns-in-Ok-begin_all
@@ -30,7 +30,7 @@ returns g c =
     let old : Outside = outside told (g.F.Files.counts c.args.files.now) (g.T.Sink.hearing c.args.io.now) (g.T.Sink.taken c.args.io.now) (g.T.Sink.faults c.args.io.now) in
     let new : Outside = outside (g.F.Files.told c.load_all.new.files) (g.F.Files.counts c.load_all.new.files) (g.T.Sink.hearing c.finish-in-Err-begin_all.new.out) (g.T.Sink.taken c.finish-in-Err-begin_all.new.out) (g.T.Sink.faults c.finish-in-Err-begin_all.new.out) in
     run_refused pairs c.in-Err-begin_all.refusal c.finish-in-Err-begin_all.result old new
-    (c.finish-in-Err-begin_all.ensures _ _ _ _ _ _ _
+    (c.finish-in-Err-begin_all.ensures _ _ _
     (performed pairs c.in-Err-begin_all.refusal old new
     (c.in-Err-begin_all.ensures.answer pairs told (subst (λ (all : List Loaded). WereLoaded pairs told all) (sym c.deref.ensures.value) c.in-Ok.ensures.answer))
     (c.in-Err-begin_all.ensures.cause _ _)

@@ -29,7 +29,7 @@ returns-in-Ok-Some-Record g c =
     let new : Outside = outside (g.F.Files.told c.record-ended.new.files) (g.F.Files.counts c.record-ended.new.files) (g.T.Sink.hearing c.finish.new.out) (g.T.Sink.taken c.finish.new.out) (g.T.Sink.faults c.finish.new.out) in
     run_same (sym (ap (option_map command_meaning) (arm.field-0-is ∙ ap Some arm.field-0-0-is)) ∙ arm.ensures.names)
     (run_recorded c.left_is_shown.ensures arm.images arm.schedule_file.now c.record-ended.result c.finish.result old new
-    (c.finish.ensures _ _ _ _ _ _ _ (performed (record_outcome arm.images arm.schedule_file.now) false old.told new.told old.counts new.counts c.record-ended.result e.tells e.makes e.keeps e.done e.counts e.cause))
+    (c.finish.ensures _ _ _ (performed (record_outcome arm.images arm.schedule_file.now) false old.told new.told old.counts new.counts c.record-ended.result e.tells e.makes e.keeps e.done e.counts e.cause))
     e.recorded e.moment)
 
 pub returns-in-Ok-Some-Replay : goal.returns-in-Ok-Some-Replay
@@ -41,7 +41,7 @@ returns-in-Ok-Some-Replay g c =
     let new : Outside = outside (g.F.Files.told c.replay-ended.new.files) (g.F.Files.counts c.replay-ended.new.files) (g.T.Sink.hearing c.finish-in-Ok-Some-Replay.new.out) (g.T.Sink.taken c.finish-in-Ok-Some-Replay.new.out) (g.T.Sink.faults c.finish-in-Ok-Some-Replay.new.out) in
     run_same (ap (λ (ps : List Pair). Some (Replay arm.images (map pair_of ps))) c.deref.ensures.value ∙ sym (ap (option_map command_meaning) (arm.field-0-is ∙ ap Some arm.field-0-0-is)) ∙ arm.ensures.names)
     (run_replayed arm.images pairs c.replay-ended.result c.finish-in-Ok-Some-Replay.result old new
-    (c.finish-in-Ok-Some-Replay.ensures _ _ _ _ _ _ _ (performed (replay_outcome arm.images pairs) true old.told new.told old.counts new.counts c.replay-ended.result e.tells e.makes e.keeps (may_diverge c.replay-ended.result) e.counts e.cause)))
+    (c.finish-in-Ok-Some-Replay.ensures _ _ _ (performed (replay_outcome arm.images pairs) true old.told new.told old.counts new.counts c.replay-ended.result e.tells e.makes e.keeps (may_diverge c.replay-ended.result) e.counts e.cause)))
 
 pub returns-in-Ok-Some-Debug : goal.returns-in-Ok-Some-Debug
 returns-in-Ok-Some-Debug g c =
@@ -57,7 +57,7 @@ returns-in-Ok-Some-Drill g c =
     let told = g.F.Files.told c.args.files.now in
     let counts = g.F.Files.counts c.args.files.now in
     run_same (sym (ap (option_map command_meaning) (arm.field-0-is ∙ ap Some arm.field-0-0-is)) ∙ arm.ensures.names)
-    (run_drilled arm.rounds c.drill_rounds-ended.result finish.result _ _ (finish.ensures _ _ _ _ _ _ _ (c.drill_rounds-ended.ensures told counts)))
+    (run_drilled arm.rounds c.drill_rounds-ended.result finish.result _ _ (finish.ensures _ _ _ (c.drill_rounds-ended.ensures told counts)))
 
 pub returns-in-Ok-Some-Migrate : goal.returns-in-Ok-Some-Migrate
 returns-in-Ok-Some-Migrate g c =
@@ -68,7 +68,7 @@ returns-in-Ok-Some-Migrate g c =
     let new : Outside = outside (g.F.Files.told c.migrate-ended.new.files) (g.F.Files.counts c.migrate-ended.new.files) (g.T.Sink.hearing finish.new.out) (g.T.Sink.taken finish.new.out) (g.T.Sink.faults finish.new.out) in
     run_same (sym (ap (option_map command_meaning) (arm.field-0-is ∙ ap Some arm.field-0-0-is)) ∙ arm.ensures.names)
     (run_migrated arm.log_file.now arm.new_file.now c.migrate-ended.result finish.result old new
-    (finish.ensures _ _ _ _ _ _ _ (performed (migrate_outcome arm.log_file.now arm.new_file.now) false old.told new.told old.counts new.counts c.migrate-ended.result e.tells e.makes e.keeps e.done e.counts e.cause)))
+    (finish.ensures _ _ _ (performed (migrate_outcome arm.log_file.now arm.new_file.now) false old.told new.told old.counts new.counts c.migrate-ended.result e.tells e.makes e.keeps e.done e.counts e.cause)))
 
 pub returns-in-Ok-Some-Schedule : goal.returns-in-Ok-Some-Schedule
 returns-in-Ok-Some-Schedule g c =
@@ -80,7 +80,7 @@ returns-in-Ok-Some-Schedule g c =
     let old : Outside = outside (g.F.Files.told c.args.files.now) (g.F.Files.counts c.args.files.now) (g.T.Sink.hearing c.args.io.now) (g.T.Sink.taken c.args.io.now) (g.T.Sink.faults c.args.io.now) in
     let new : Outside = outside (g.F.Files.told c.schedule-ended.new.files) (g.F.Files.counts c.schedule-ended.new.files) (g.T.Sink.hearing finish.new.out) (g.T.Sink.taken finish.new.out) (g.T.Sink.faults finish.new.out) in
     run_same (ap (λ (ps : List Pair). Some (Schedule (map pair_of ps))) deref.ensures.value ∙ sym (ap (option_map command_meaning) (arm.field-0-is ∙ ap Some arm.field-0-0-is)) ∙ arm.ensures.names)
-    (run_scheduled pairs c.schedule-ended.result finish.result old new (finish.ensures _ _ _ _ _ _ _ e.performed) e.performed.tells e.converse)
+    (run_scheduled pairs c.schedule-ended.result finish.result old new (finish.ensures _ _ _ e.performed) e.performed.tells e.converse)
 
 pub returns-in-Ok-Some-Cut : goal.returns-in-Ok-Some-Cut
 returns-in-Ok-Some-Cut g c =
@@ -93,7 +93,7 @@ returns-in-Ok-Some-Cut g c =
     let new : Outside = outside (g.F.Files.told c.cut-ended.new.files) (g.F.Files.counts c.cut-ended.new.files) (g.T.Sink.hearing finish.new.out) (g.T.Sink.taken finish.new.out) (g.T.Sink.faults finish.new.out) in
     run_same (ap (λ (ps : List Pair). Some (Cut arm.process arm.event (map pair_of ps))) deref.ensures.value ∙ sym (ap (option_map command_meaning) (arm.field-0-is ∙ ap Some arm.field-0-0-is)) ∙ arm.ensures.names)
     (run_cut arm.process arm.event pairs c.cut-ended.result finish.result old new
-    (finish.ensures _ _ _ _ _ _ _ (performed (cut_outcome arm.process arm.event pairs) false old.told new.told old.counts new.counts c.cut-ended.result e.tells e.makes e.keeps e.done e.counts e.cause))
+    (finish.ensures _ _ _ (performed (cut_outcome arm.process arm.event pairs) false old.told new.told old.counts new.counts c.cut-ended.result e.tells e.makes e.keeps e.done e.counts e.cause))
     e.least)
 
 pub returns-in-Ok-Some-Streams : goal.returns-in-Ok-Some-Streams
@@ -106,7 +106,7 @@ returns-in-Ok-Some-Streams g c =
     let old : Outside = outside (g.F.Files.told c.args.files.now) (g.F.Files.counts c.args.files.now) (g.T.Sink.hearing c.args.io.now) (g.T.Sink.taken c.args.io.now) (g.T.Sink.faults c.args.io.now) in
     let new : Outside = outside (g.F.Files.told c.streams-ended.new.files) (g.F.Files.counts c.streams-ended.new.files) (g.T.Sink.hearing finish.new.out) (g.T.Sink.taken finish.new.out) (g.T.Sink.faults finish.new.out) in
     run_same (ap (λ (ps : List Pair). Some (Streams (map pair_of ps))) deref.ensures.value ∙ sym (ap (option_map command_meaning) (arm.field-0-is ∙ ap Some arm.field-0-0-is)) ∙ arm.ensures.names)
-    (run_streamed pairs c.streams-ended.result finish.result old new (finish.ensures _ _ _ _ _ _ _ e.performed))
+    (run_streamed pairs c.streams-ended.result finish.result old new (finish.ensures _ _ _ e.performed))
 
 pub returns-in-Err : goal.returns-in-Err
 returns-in-Err g c =

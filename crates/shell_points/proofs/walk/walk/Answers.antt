@@ -130,8 +130,8 @@ returns-then-is_none-clause-walks g c =
     sym i.ahead ∙ ap (λ (left : ℕ). walk_over first.start ps old.at left variables text) end in
     let here : new ≡ place_at first.start old.at = stay.0 ∙ ap (λ (s : List Replaying). place_at s old.at) i.start in
     all_three c.arrive.result (λ done. done.group ≡ new) (λ done. done.variables ≡ variables) (λ done. done.text ≡ (text ++ codes "end\n") ++ position_line new)
-    (λ done. Walks first ps c.args.variables done.group done.variables done.text)
-    (λ done same kept says. arrives first ps c.args.variables variables old.at (text ++ codes "end\n") is new done.group done.variables done.text here same kept says)
+    (λ done. Walks first ps c.args.variables done)
+    (λ done same kept says. arrives first ps c.args.variables variables old.at (text ++ codes "end\n") is new done here same kept says)
     c.arrive.ensures.group c.arrive.ensures.variables c.arrive.ensures.text
 
 pub returns-then-turn-clause-walks : goal.returns-then-turn-clause-walks
@@ -155,8 +155,8 @@ returns-then-turn-clause-walks g c =
     ∙ stops_here rest (suc old.at) text (run_so_far turn) c.if-turn.true in
     let said : c.push_bytes.new.self ≡ text ++ turn.text = c.in_ok-push_bytes.ensures.ok ∙ ap (λ (b : List ℕ). text ++ b) c.bytes.ensures in
     all_three c.arrive-then-turn.result (λ done. done.group ≡ new) (λ done. done.variables ≡ turn.variables) (λ done. done.text ≡ (c.push_bytes.new.self ++ []) ++ position_line new)
-    (λ done. Walks first ps c.args.variables done.group done.variables done.text)
-    (λ done same kept says. arrives first ps c.args.variables turn.variables (suc old.at) (text ++ turn.text) is new done.group done.variables done.text here same kept
+    (λ done. Walks first ps c.args.variables done)
+    (λ done same kept says. arrives first ps c.args.variables turn.variables (suc old.at) (text ++ turn.text) is new done here same kept
     (says ∙ ap (λ (t : List ℕ). t ++ position_line new) (append-nil c.push_bytes.new.self ∙ said)))
     c.arrive-then-turn.ensures.group c.arrive-then-turn.ensures.variables c.arrive-then-turn.ensures.text
 
@@ -183,8 +183,8 @@ returns-then-said-ge-MOST_LINES-clause-walks g c =
     let said : c.push_bytes.new.self ≡ text ++ turn.text = c.in_ok-push_bytes.ensures.ok ∙ ap (λ (b : List ℕ). text ++ b) c.bytes.ensures in
     all_three c.arrive-then-said-ge-MOST_LINES.result (λ done. done.group ≡ new) (λ done. done.variables ≡ turn.variables)
     (λ done. done.text ≡ (c.push_bytes.new.self ++ codes "paused\n") ++ position_line new)
-    (λ done. Walks first ps c.args.variables done.group done.variables done.text)
-    (λ done same kept says. arrives first ps c.args.variables turn.variables (suc old.at) ((text ++ turn.text) ++ codes "paused\n") is new done.group done.variables done.text here same kept
+    (λ done. Walks first ps c.args.variables done)
+    (λ done same kept says. arrives first ps c.args.variables turn.variables (suc old.at) ((text ++ turn.text) ++ codes "paused\n") is new done here same kept
     (says ∙ ap (λ (t : List ℕ). (t ++ codes "paused\n") ++ position_line new) said))
     c.arrive-then-said-ge-MOST_LINES.ensures.group c.arrive-then-said-ge-MOST_LINES.ensures.variables c.arrive-then-said-ge-MOST_LINES.ensures.text
 
