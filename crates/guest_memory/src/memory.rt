@@ -3,7 +3,7 @@ ghost use Rattle.std.specs.Prelude.{◌≡◌, ◌↔◌, ◌+◌, ◌≤◌, le
 ghost use Rattle.guest_memory.specs.LittleEndian.{low_bytes, IsWidth};
 ghost use Rattle.guest_memory.specs.Memory.{IsMemory, WritesPrefix, after_store, after_write_at, bytes_from, fresh, growth, after_grow, is_inside, loaded, size_of, stamp_of, stretch};
 
-use crate::page::{PAGE as WATCH_PAGE, SharedPage};
+use crate::page::{SharedPage, WATCH_PAGE};
 use crate::pages::{
     add_zeros, number_across, number_in, part_in, put_all, put_number_across, put_number_in,
     share_all, stamp_at,

@@ -9,7 +9,7 @@ use std::marker::Model;
 use std::rc::Rc;
 
 // How many bytes a watch page has.
-pub(crate) const PAGE: usize = 4096;
+pub(crate) const WATCH_PAGE: usize = 4096;
 
 /// The bytes of a watch page, and its stamp: the number of the last event that wrote to them, or 0. It
 /// is in the page, so that who holds the page has both.

@@ -6,7 +6,7 @@ ghost use Rattle.guest_memory.specs.Pages.{AreWhole, PutsPrefix, flat, stamps_of
 ghost use Rattle.guest_memory.specs.Stamps.{stamped};
 
 use crate::little_endian::{number_at, put_piece};
-use crate::page::{PAGE, SharedPage};
+use crate::page::{SharedPage, WATCH_PAGE};
 use std::alloc::{AllocError, Global};
 
 // The number of so many bytes that stands in one page.
@@ -18,7 +18,7 @@ pub(crate) fn number_in(pages: &[SharedPage], addr: usize, width: u32) -> u64
     requires inside { addr / 4096 < length pages.now }
     ensures { result ≡ little_endian (take width (drop addr (flat pages.now))) }
 {
-    number_at(pages[addr / PAGE].bytes(), addr % PAGE, width)
+    number_at(pages[addr / WATCH_PAGE].bytes(), addr % WATCH_PAGE, width)
 }
 
 // The number of so many bytes that stands in two pages.
@@ -43,12 +43,12 @@ pub(crate) fn part_in(pages: &[SharedPage], addr: usize, len: usize) -> &[u8]
     requires within { addr + len ≤ length (flat pages.now) }
     ensures { result.now ≡ take (min len (4096 - addr % 4096)) (drop addr (flat pages.now)) }
 {
-    let index = addr / PAGE;
-    let at = addr % PAGE;
+    let index = addr / WATCH_PAGE;
+    let at = addr % WATCH_PAGE;
     if index == pages.len() {
         return &[];
     }
-    let count = len.min(PAGE - at);
+    let count = len.min(WATCH_PAGE - at);
     &pages[index].bytes()[at..at + count]
 }
 
@@ -81,7 +81,7 @@ pub(crate) fn put_number_in(
     ensures stamps { OnOk result (stamps_of pages.new ≡ stamped (stamps_of pages.old) addr (length (low_bytes width value)) number) }
     ensures err { OnErr result (PutsPrefix pages.old pages.new addr (low_bytes width value) number) }
 {
-    pages[addr / PAGE].put_number(addr % PAGE, width, value, number)?;
+    pages[addr / WATCH_PAGE].put_number(addr % WATCH_PAGE, width, value, number)?;
     Ok(())
 }
 
@@ -127,9 +127,9 @@ pub(crate) fn put_all(
 {
     let mut done = 0;
     while done < piece.len() {
-        let at = (addr + done) % PAGE;
-        let count = (PAGE - at).min(piece.len() - done);
-        pages[(addr + done) / PAGE].put(at, &piece[done..done + count], number)?;
+        let at = (addr + done) % WATCH_PAGE;
+        let count = (WATCH_PAGE - at).min(piece.len() - done);
+        pages[(addr + done) / WATCH_PAGE].put(at, &piece[done..done + count], number)?;
         done += count;
     }
     Ok(())
