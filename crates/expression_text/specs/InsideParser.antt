@@ -14,7 +14,7 @@ use Rattle.expression_text.specs.declared.stack.Step.{Step}
 use Rattle.expression_text.specs.declared.stack.Step.TheVariants as stepped
 use Rattle.expression_text.specs.Expression.{Expression, expression_of}
 use Rattle.expression_text.specs.Lexing.{Lexed, column_at}
-use Rattle.expression_text.specs.Machine.{PendingOperator, Left, Front, Inside, MachineState, Want, Have, Part, Went, More, Whole, Opens, step, whole, is_closed_with, enclose}
+use Rattle.expression_text.specs.Machine.{PendingOperator, Left, Front, Inside, MachineState, Want, Have, Part, Went, More, Whole, Opens, step, whole, is_closed_with, enclose, settle_operators}
 
 abbrev pub pending : Frame → PendingOperator
 pending (frame.Left op x) = Left op (expression_of x)
@@ -39,6 +39,10 @@ abbrev pub state : List Frame → Mode → MachineState
 state frames mode.Want = Want (pile [] frames)
 state frames (mode.Have x) = Have (pile [] frames) (expression_of x)
 state frames (mode.Part h) = Part (pile [] frames) h
+
+-- the operators on the frames, settled over an operand as far as one of this level takes them
+abbrev pub settled_frames : ℕ → List Frame → Expr → List PendingOperator × Expression
+settled_frames level frames x = settle_operators level (pile [] frames) (expression_of x)
 
 -- the token is taken, or refused in a state that is as whole as it was
 abbrev pub GivesStep : Option MachineState → MachineState → List Frame → Step → Type 0

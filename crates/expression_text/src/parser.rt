@@ -4,7 +4,7 @@ ghost use Rattle.expression_text.specs.Grammar.{ParsedExpr, left_level};
 ghost use Rattle.expression_text.specs.Expression.{expression_of};
 ghost use Rattle.expression_text.specs.Spelling.{unary_of};
 ghost use Rattle.expression_text.specs.Machine.{settle_operators, Have, More, Opens, begun_by, onward, at_place, after_operator, close as after_closing, want_sign, only_if, lead, is_closed_with, closing as closing_sign, enclose};
-ghost use Rattle.expression_text.specs.InsideParser.{pile, state, TakesToken, GivesStep, Finishes, went_of, went_if, Led, Closes};
+ghost use Rattle.expression_text.specs.InsideParser.{pile, settled_frames, state, TakesToken, GivesStep, Finishes, went_of, went_if, Led, Closes};
 
 use crate::error::ExprError;
 use crate::expr::{Binary, Expr, NodeName};
@@ -255,8 +255,8 @@ fn global(node: NodeName, n: u64, text: &[u8]) -> Option<Went>
 
 /// After an operand, an operator.
 fn operator(alloc: Global, frames: &mut Vec<Frame>, x: Expr, op: Binary) -> Result<Step, AllocError>
-    ensures { IfOk result (λ s. GivesStep (after_operator op (settle_operators (left_level op) (pile [] frames.old.items) (expression_of x)))
-        (Have (pile [] frames.old.items) (expression_of x)) frames.new.items s) }
+    ensures { IfOk result (λ s. GivesStep (after_operator op (settled_frames (left_level op) frames.old.items x))
+        (state frames.old.items (Mode.Have x)) frames.new.items s) }
 {
     let left = settled(alloc, frames, left_of(op), x)?;
     if chains(frames, op) {
@@ -268,8 +268,8 @@ fn operator(alloc: Global, frames: &mut Vec<Frame>, x: Expr, op: Binary) -> Resu
 
 /// After an operand, a token that is no operator.
 fn close(alloc: Global, frames: &mut Vec<Frame>, x: Expr, text: &[u8]) -> Result<Step, AllocError>
-    ensures { IfOk result (λ s. GivesStep (after_closing text.now (settle_operators 0 (pile [] frames.old.items) (expression_of x)))
-        (Have (pile [] frames.old.items) (expression_of x)) frames.new.items s) }
+    ensures { IfOk result (λ s. GivesStep (after_closing text.now (settled_frames 0 frames.old.items x))
+        (state frames.old.items (Mode.Have x)) frames.new.items s) }
 {
     let inner = settled(alloc, frames, 0, x)?;
     match frames.pop() {

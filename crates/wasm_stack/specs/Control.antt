@@ -37,6 +37,10 @@ resumed (Some t) o = Goes (with_result o t)
 abbrev pub leave_frame : Thread → After
 leave_frame t = with_carried (carried t.returns t) (λ o t'. resumed (left t') o)
 
+-- the same with the topmost operand
+abbrev pub leave_with_top : Thread → After
+leave_with_top t = with_top t (λ v t'. resumed (left t') (Some v))
+
 -- a branch out of the innermost level goes on in the level around it, and the frame's outermost level returns
 abbrev pub landed : Option Thread → Thread → Trees → Option Value → After
 landed None t target o = resumed (left t) o

@@ -58,6 +58,10 @@ abbrev pub is_end : Trees → Bool
 is_end End = true
 is_end (Then i is) = false
 
+-- with these instructions left in its innermost level
+abbrev pub with_todo : Thread → Trees → Thread
+with_todo t todo = record t { todo = todo }
+
 abbrev pub with_operand : Thread → Value → Thread
 with_operand t v = record t { stack = v ∷ t.stack }
 

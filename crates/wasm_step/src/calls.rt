@@ -6,7 +6,7 @@ ghost use Rattle.wasm_types.specs.Modules.{func_type, module_of};
 ghost use Rattle.wasm_stack.specs.Answer.{after_of};
 ghost use Rattle.wasm_stack.specs.Limits.{Within};
 ghost use Rattle.wasm_stack.specs.After.{Goes, go_on, limited};
-ghost use Rattle.wasm_step.specs.Reduce.{call, call_element, call_if_same, call_indirect, call_library, call_own};
+ghost use Rattle.wasm_step.specs.Reduce.{CallsAsWanted, call, call_element, call_indirect, call_library, call_own};
 ghost use Rattle.wasm_step.specs.Strand.{started_above};
 ghost use Rattle.wasm_stack.specs.Thread.{Thread, called, has_frame_room, waiting_frame, without};
 
@@ -280,9 +280,7 @@ fn own_typed<'m>(module: &'m ValidModule, index: u32) -> Option<(Callee<'m>, &'m
 #[inline(always)]
 fn has_type(module: &Module, callee: &Callee<'_>, typing: &FuncType, type_index: u32) -> bool
     requires { slice_get (module_of «module».now).types callee.now.type_index ≡ Some (func_type typing.now) }
-    ensures { IsTrue result → (f : ℕ) (t : Thread)
-        → call_if_same (module_of «module».now) f (Some (func_type typing.now)) (slice_get (module_of «module».now).types type_index) t
-        ≡ call (module_of «module».now) f t }
+    ensures { IsTrue result → CallsAsWanted (module_of «module».now) (func_type typing.now) (slice_get (module_of «module».now).types type_index) }
 {
     if callee.type_index() == type_index {
         return true;

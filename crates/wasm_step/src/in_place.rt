@@ -6,6 +6,7 @@ ghost use Rattle.wasm_types.specs.Modules.{module_of};
 ghost use Rattle.wasm_stack.specs.Answer.{way_of};
 ghost use Rattle.wasm_stack.specs.Limits.{Within};
 ghost use Rattle.wasm_stack.specs.After.{Goes};
+ghost use Rattle.wasm_stack.specs.Thread.{with_todo};
 ghost use Rattle.wasm_step.specs.Reduce.{instr_row, keep};
 
 use crate::calls::{call_in_place, call_indirect_in_place};
@@ -27,10 +28,10 @@ pub(crate) fn row<'m>(
 ) -> Result<Option<Way>, AllocError>
     requires same_module { module_of «module».now ≡ store.old.«module» }
     requires within { Within thread.old }
-    ensures done { IfOk result (λ row. IfSome row (λ way. instr_row (tree instr.now) (record thread.old { todo = trees todo.old.now }) store.old
-        ≡ keep store.new (way_of way (record thread.new { todo = trees todo.new.now })))) }
+    ensures done { IfOk result (λ row. IfSome row (λ way. instr_row (tree instr.now) (with_todo thread.old (trees todo.old.now)) store.old
+        ≡ keep store.new (way_of way (with_todo thread.new (trees todo.new.now))))) }
     ensures within { IfOk result (λ row. row ≡ Some Way.Goes → Within thread.new) }
-    ensures same { IfOk result (λ row. IfNone row (record thread.new { todo = trees todo.new.now } ≡ record thread.old { todo = trees todo.old.now })) }
+    ensures same { IfOk result (λ row. IfNone row (with_todo thread.new (trees todo.new.now) ≡ with_todo thread.old (trees todo.old.now))) }
     ensures store { IfOk result (λ row. IfNone row (store.new ≡ store.old)) }
 {
     let way = match instr {

@@ -5,8 +5,8 @@ ghost use Rattle.wasm_types.specs.Locals.{zeros};
 ghost use Rattle.wasm_types.specs.Modules.{func_type};
 ghost use Rattle.std.specs.Vec.{vec_capacity};
 ghost use Rattle.wasm_stack.specs.Limits.{Within};
-ghost use Rattle.wasm_stack.specs.After.{Ends, Goes, Stops, on_top};
-ghost use Rattle.wasm_stack.specs.Control.{resumed};
+ghost use Rattle.wasm_stack.specs.After.{Ends, Goes, Stops};
+ghost use Rattle.wasm_stack.specs.Control.{leave_with_top};
 
 use super::{FRAME_LIMIT, SIZE_LIMIT, Stack, StackFrame, push_to};
 use std::alloc::AllocError;
@@ -149,7 +149,7 @@ impl<'m> Stack<'m> {
     #[inline(always)]
     pub fn leave_with_top(&mut self) -> bool
         requires { 1 ≤ length self.old.stack }
-        ensures left { on_top self.old.stack self.old (λ v t. resumed (left t) (Some v)) ≡ (if result then Goes self.new else Stops Ends) }
+        ensures left { leave_with_top self.old ≡ (if result then Goes self.new else Stops Ends) }
         ensures same { result ≡ false → self.new ≡ self.old }
     {
         let v = self.operands[self.operands.len() - 1];
