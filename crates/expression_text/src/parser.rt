@@ -3,7 +3,7 @@ ghost use Rattle.std.specs.Prelude.{◌≡◌, ◌<◌, ◌^◌, [], IfOk, lengt
 ghost use Rattle.expression_text.specs.Grammar.{ParsedExpr, left_level};
 ghost use Rattle.expression_text.specs.Expression.{expression_of};
 ghost use Rattle.expression_text.specs.Spelling.{unary_of};
-ghost use Rattle.expression_text.specs.Machine.{settle_operators, Have, More, Opens, begun_by, onward, at_place, after_operator, close as after_closing, want_sign, only_if, lead, is_closed_with, closing as closing_sign, enclose};
+ghost use Rattle.expression_text.specs.Machine.{More, Opens, begun_by, onward, at_place, after_operator, close as after_closing, want_sign, only_if, lead, is_closed_with, closing as closing_sign, enclose};
 ghost use Rattle.expression_text.specs.InsideParser.{pile, settled_frames, state, TakesToken, GivesStep, Finishes, went_of, went_if, Led, Closes};
 
 use crate::error::ExprError;
