@@ -12,7 +12,7 @@ use Rattle.expression_text.specs.Expression.{Expression, expression_of}
 use Rattle.expression_text.specs.Lexing.{Lexed, texts}
 use Rattle.expression_text.specs.Grammar.{IsExpr, TakesExpr, ParsedExpr}
 use Rattle.expression_text.specs.Machine.{MachineState, Want, step, steps, whole}
-use Rattle.expression_text.specs.InsideParser.{state, Finishes, TakesToken}
+use Rattle.expression_text.specs.inside.Frames.{state, Finishes, TakesToken}
 use Rattle.expression_text.proofs.MachineReads.{Stands, steps_append, steps_keep, stands_begins, whole_says, whole_again, begins_reads}
 
 -- ---- lists

@@ -13,7 +13,7 @@ use Rattle.expression_text.specs.declared.stack.Step.TheVariants as stepped
 use Rattle.expression_text.specs.Grammar.{operator_level, left_level}
 use Rattle.expression_text.specs.Expression.{Expression, One, Two, expression_of}
 use Rattle.expression_text.specs.Machine.{PendingOperator, Left, Inside, MachineState, Want, Have, settle_operators, compares, after_operator, close, whole_expression, whole}
-use Rattle.expression_text.specs.InsideParser.{pending, pile, GivesStep, Closes}
+use Rattle.expression_text.specs.inside.Frames.{pending, pile, GivesStep, Closes}
 use Rattle.expression_text.proofs.SettledOperators.{whole_settled}
 
 pub pile_push : (under : List PendingOperator) (fs : List Frame) (f : Frame) → pile under (fs ++ f ∷ []) ≡ pending f ∷ pile under fs

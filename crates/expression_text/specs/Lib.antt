@@ -4,8 +4,8 @@ pub mod Expression
 pub mod Faulty
 pub mod Front
 pub mod Grammar
-pub mod InsideParser
 pub mod Laws
 pub mod Lexing
 pub mod Machine
 pub mod Spelling
+pub mod inside

@@ -6,7 +6,7 @@
 //! and the expression of tokens are the only ones and are computed (`exact_cut`, `exact_reading`; `specs/Computed`), and what no
 //! expression has in it (`none_apart`). `specs/Front` computes the token at a place. Expressions are read by a machine with a
 //! stack, which `specs/Machine` computes, so that brackets in brackets take no stack of the program's. Inside is what the
-//! parser holds of that machine (`specs/InsideParser`). What an expression is worth is no matter of this crate.
+//! parser holds of that machine (`specs/inside/Frames`). What an expression is worth is no matter of this crate.
 #![tactic(auto)]
 
 mod error;

@@ -4,7 +4,7 @@ ghost use Rattle.expression_text.specs.Grammar.{ParsedExpr, left_level};
 ghost use Rattle.expression_text.specs.Expression.{expression_of};
 ghost use Rattle.expression_text.specs.Spelling.{unary_of};
 ghost use Rattle.expression_text.specs.Machine.{More, Opens, begun_by, onward, at_place, after_operator, close as after_closing, want_sign, only_if, lead, is_closed_with, closing as closing_sign, enclose};
-ghost use Rattle.expression_text.specs.InsideParser.{pile, settled_frames, state, TakesToken, GivesStep, Finishes, went_of, went_if, Led, Closes};
+ghost use Rattle.expression_text.specs.inside.Frames.{pile, settled_frames, state, TakesToken, GivesStep, Finishes, went_of, went_if, Led, Closes};
 
 use crate::error::ExprError;
 use crate::expr::{Binary, Expr, NodeName};

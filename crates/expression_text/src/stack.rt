@@ -3,7 +3,7 @@ ghost use Rattle.std.specs.Prelude.{◌≡◌, [], ◌∷◌, IfOk, ◌==◌, �
 ghost use Rattle.expression_text.specs.Grammar.{operator_level, left_level};
 ghost use Rattle.expression_text.specs.Expression.{expression_of};
 ghost use Rattle.expression_text.specs.Machine.{settle_operators, compares};
-ghost use Rattle.expression_text.specs.InsideParser.{pile, pending};
+ghost use Rattle.expression_text.specs.inside.Frames.{pile, pending};
 
 use crate::expr::{Agg, Binary, Expr, NodeName, Unary, Width};
 use std::alloc::{AllocError, Global};

@@ -9,7 +9,7 @@ use Rattle.watch_expr.specs.declared.value.tally.Tally.{Tally}
 use Rattle.expression_text.specs.Expression.{Expression, Over}
 use Rattle.watch_expr.specs.Reads.{reads_at}
 use Rattle.watch_expr.specs.Value.{Setting, value_at}
-use Rattle.watch_expr.specs.InsideTally.{IsWithin, added_if, empty_tally, total}
+use Rattle.watch_expr.specs.inside.ValueTally.{IsWithin, added_if, empty_tally, total}
 use Rattle.watch_expr.specs.View.{◌>>=◌}
 use Rattle.watch_expr.proofs.ValueTallies.{ending, ending_all, ending_first, ending_none, ending_some, range_next, within_more}
 

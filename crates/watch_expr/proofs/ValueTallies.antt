@@ -10,7 +10,7 @@ use Rattle.watch_expr.specs.declared.value.tally.Tally.{Tally}
 use Rattle.watch_expr.specs.declared.value.tally.Tally.TheVariants.{Sum, Min, Max, Count}
 use Rattle.expression_text.specs.Expression.{Expression, Over}
 use Rattle.watch_expr.specs.Value.{Setting, all_numbers, is_zero, over, value_at}
-use Rattle.watch_expr.specs.InsideTally.{IsWithin, added, empty_tally, total}
+use Rattle.watch_expr.specs.inside.ValueTally.{IsWithin, added, empty_tally, total}
 use Rattle.watch_expr.specs.View.{◌>>=◌}
 
 -- ---- a whole list of values

@@ -1,7 +1,7 @@
-pub mod InsideTally
 pub mod Reads
 pub mod Value
 pub mod View
+pub mod inside
 pub use Rattle.expression_text.specs.Coding
 pub use Rattle.expression_text.specs.Computed
 pub use Rattle.expression_text.specs.Expression

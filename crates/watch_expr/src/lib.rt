@@ -5,7 +5,7 @@
 //! `eval_reads` gives the value with the places that it was read from (`specs/Reads`). The law `reads_low` bounds the globals that
 //! are read, and `reads_tell` says that a value stays where none of its places changed. What a line spells is
 //! `expression_text`, whose calls, laws and definitions are handed on from here. Inside is the tally of an aggregate
-//! (`specs/InsideTally`).
+//! (`specs/inside/ValueTally`).
 #![tactic(auto)]
 
 pub mod laws;

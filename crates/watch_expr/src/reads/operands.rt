@@ -2,7 +2,7 @@
 ghost use Rattle.std.specs.Prelude.{◌≡◌, option_and_then, IfSome};
 ghost use Rattle.watch_expr.specs.Reads.{evaluates_right};
 ghost use Rattle.watch_expr.specs.Value.{decided, loaded_at, one, with_right};
-ghost use Rattle.watch_expr.specs.InsideTally.{HasRoom, added_if, total};
+ghost use Rattle.watch_expr.specs.inside.ValueTally.{HasRoom, added_if, total};
 
 use crate::value::loads::load;
 use crate::value::operators::{decided, one, two};

@@ -1,7 +1,7 @@
 // What an aggregate has made of the values at the nodes so far.
 ghost use Rattle.std.specs.Prelude.{◌≡◌};
 ghost use Rattle.std.specs.Int.{int_max, int_min};
-ghost use Rattle.watch_expr.specs.InsideTally.{HasRoom, added, best, empty_tally, total};
+ghost use Rattle.watch_expr.specs.inside.ValueTally.{HasRoom, added, best, empty_tally, total};
 
 use crate::value::operators::is_zero;
 use expression_text::Agg;

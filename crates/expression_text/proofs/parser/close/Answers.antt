@@ -1,7 +1,7 @@
 use Rattle.std.proofs.Common.{List, [], ◌∷◌, ap, ◌∙◌, refl}
 use Rattle.expression_text.specs.Expression.{expression_of}
 use Rattle.expression_text.specs.Machine.{PendingOperator, Left, Front}
-use Rattle.expression_text.specs.InsideParser.{pile}
+use Rattle.expression_text.specs.inside.Frames.{pile}
 use Rattle.expression_text.specs.declared.stack.Frame.TheVariants as frame
 use Rattle.expression_text.proofs.StackPiles.{close_refused, closed_step, popped}
 use Rattle.expression_text.proofs.parser.close.Goals as goal

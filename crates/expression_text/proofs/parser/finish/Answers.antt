@@ -2,7 +2,7 @@ use Rattle.std.proofs.Common.{sym, ap, ◌∙◌}
 use Rattle.expression_text.specs.Expression.{expression_of}
 use Rattle.expression_text.specs.declared.stack.Mode.{Mode}
 use Rattle.expression_text.specs.Machine.{whole_expression, whole}
-use Rattle.expression_text.specs.InsideParser.{state}
+use Rattle.expression_text.specs.inside.Frames.{state}
 use Rattle.expression_text.proofs.StackPiles.{alone_none, not_empty}
 use Rattle.expression_text.proofs.parser.finish.Goals as goal
 

@@ -2,7 +2,7 @@ use Rattle.std.proofs.Common.{◌≡◌, ℕ, [], sym, ap, ◌∙◌, refl}
 use Rattle.expression_text.specs.Grammar.{left_level}
 use Rattle.expression_text.specs.Expression.{expression_of}
 use Rattle.expression_text.specs.Machine.{settle_operators}
-use Rattle.expression_text.specs.InsideParser.{pile}
+use Rattle.expression_text.specs.inside.Frames.{pile}
 use Rattle.expression_text.specs.declared.stack.Frame.TheVariants as frame
 use Rattle.expression_text.proofs.StackPiles.{chains_refused, operator_taken, popped}
 use Rattle.expression_text.proofs.parser.operator.Goals as goal

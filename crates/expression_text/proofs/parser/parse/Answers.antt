@@ -1,7 +1,7 @@
 use Rattle.std.proofs.Common.{◌<◌, length, arith, sym}
 use Rattle.std.proofs.lemmas.Option.{slice_get_within}
 use Rattle.expression_text.specs.Lexing.{texts}
-use Rattle.expression_text.specs.InsideParser.{state}
+use Rattle.expression_text.specs.inside.Frames.{state}
 use Rattle.expression_text.proofs.ParseResults.{went_on, stopped, all_taken}
 use Rattle.expression_text.proofs.parser.parse.Goals as goal
 

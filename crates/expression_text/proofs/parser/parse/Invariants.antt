@@ -1,6 +1,6 @@
 use Rattle.std.proofs.Common.{◌-◌, length}
 use Rattle.expression_text.specs.Lexing.{texts}
-use Rattle.expression_text.specs.InsideParser.{state}
+use Rattle.expression_text.specs.inside.Frames.{state}
 use Rattle.expression_text.proofs.ParseResults.{Reached}
 use Rattle.expression_text.proofs.parser.parse.Given as goal
 

@@ -1,7 +1,7 @@
 use Rattle.std.proofs.Common.{◌≡◌, [], vec_len}
 use Rattle.expression_text.specs.Expression.{expression_of}
 use Rattle.expression_text.specs.Machine.{settle_operators}
-use Rattle.expression_text.specs.InsideParser.{pile}
+use Rattle.expression_text.specs.inside.Frames.{pile}
 use Rattle.expression_text.proofs.stack.settled.Given as goal
 
 abbrev pub invariant-loop-frame : goal.invariant-loop-frame
