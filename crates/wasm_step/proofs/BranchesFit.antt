@@ -15,7 +15,6 @@ use Rattle.wasm_types.specs.Typing.{typed_instrs}
 use Rattle.wasm_values.specs.Values.{types_of_values}
 use Rattle.wasm_step.specs.Fits.{TargetFits, known, put_type, label_of, Leaves, Fits, AfterFits}
 use Rattle.wasm_stack.specs.Control as Control
-use Rattle.wasm_stack.specs.After.{After, Goes, Stops}
 use Rattle.wasm_stack.specs.Control.{branch, label_at}
 use Rattle.wasm_stack.specs.Thread.{Thread, opened, here}
 use Rattle.wasm_step.proofs.ThreadsFit.{never_none, is_same_equal, pops_type, pops_result, RestOf, labels_at, LeavesAt, goes, branch_fits, return_fits}

@@ -14,8 +14,8 @@ use Rattle.wasm_step.specs.Burst.{Settled, At, Done, BurstResult, at_next, after
 use Rattle.wasm_values.specs.Values.{types_of_values}
 use Rattle.wasm_store.specs.Suits.{Suits}
 use Rattle.wasm_step.specs.Fits.{Leaves, Fits, HaltFits, AfterFits, BurstFits, StandsFit}
-use Rattle.wasm_step.specs.Reduce.{Both, instr_row, reduce}
-use Rattle.wasm_stack.specs.After.{Halt, Traps, After, Goes, Stops, limited, at_trap}
+use Rattle.wasm_step.specs.Reduce.{Both, instr_row}
+use Rattle.wasm_stack.specs.After.{After, Goes, Stops, limited, at_trap}
 use Rattle.wasm_stack.specs.Control.{ended}
 use Rattle.wasm_store.specs.Store.{Store}
 use Rattle.wasm_stack.specs.Thread.{Thread, with_operand, fits_limits, depth}

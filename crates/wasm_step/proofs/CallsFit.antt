@@ -25,8 +25,7 @@ use Rattle.wasm_store.specs.Suits.{Suits}
 use Rattle.wasm_step.specs.Fits.{known, put_type, label_of, Leaves, FramesFit, Fits, AfterFits, CallFits}
 use Rattle.wasm_step.specs.Reduce as Reduce
 use Rattle.wasm_types.specs.Functions.{TypesAgree, imported_type, own_type, type_of, same_types, same_type, own_func}
-use Rattle.wasm_stack.specs.After.{After, Goes, Stops, Calls, Sticks, at_trap, go_on}
-use Rattle.wasm_stack.specs.Control.{with_result}
+use Rattle.wasm_stack.specs.After.{Stops, Calls, at_trap, go_on}
 use Rattle.wasm_store.specs.Store.{Store}
 use Rattle.wasm_step.specs.Strand.{IsResult, library_result, first_result}
 use Rattle.wasm_stack.specs.Thread as Thread'

@@ -20,10 +20,9 @@ use Rattle.wasm_values.specs.Values.{type_of_value, types_of_values}
 use Rattle.wasm_step.specs.Fits.{known, Leaves, AfterFits}
 use Rattle.wasm_values.specs.Numeric.{Computed, Gives, Fails, IsNone, is_unary, unary, binary}
 use Rattle.wasm_stack.specs.Rows as Rows
-use Rattle.wasm_step.specs.Reduce.{Both, keep}
-use Rattle.wasm_stack.specs.After.{Halt, Sticks, Traps, After, Goes, Stops, on_i32, on_top, with_top}
-use Rattle.wasm_stack.specs.Rows.{put_computed, numeric, chosen, got}
-use Rattle.wasm_stack.specs.Control.{branch, on_test, label_at}
+use Rattle.wasm_stack.specs.After.{Sticks, After, Goes, Stops, on_i32, on_top, with_top}
+use Rattle.wasm_stack.specs.Rows.{put_computed, numeric, got}
+use Rattle.wasm_stack.specs.Control.{on_test}
 use Rattle.wasm_stack.specs.Thread.{Thread, with_operand}
 use Rattle.wasm_step.proofs.ThreadsFit.{never_none, pops_type, RestOf, labels_at, LeavesAt, goes}
 use Rattle.wasm_step.proofs.Opcodes.{ComputedFits, TakesFit, FitsOf, operator_fits}

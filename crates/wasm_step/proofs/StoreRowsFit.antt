@@ -22,7 +22,7 @@ use Rattle.wasm_store.specs.Suits.{Suits}
 use Rattle.wasm_step.specs.Fits.{known, IsContext, Fits, AfterFits}
 use Rattle.wasm_step.specs.Reduce as Reduce
 use Rattle.wasm_step.specs.Reduce.{Both, keep}
-use Rattle.wasm_stack.specs.After.{After, Goes, Stops, Sticks, at_trap}
+use Rattle.wasm_stack.specs.After.{Goes, Stops, Sticks, at_trap}
 use Rattle.wasm_store.specs.Store.{Store, with_global, with_growth}
 use Rattle.wasm_stack.specs.Thread.{Thread, with_operand}
 use Rattle.wasm_step.proofs.ThreadsFit.{never_none, pops_type, RestOf, LeavesAt, goes}

@@ -6,7 +6,7 @@ use Rattle.wasm_types.specs.declared.code.Value.{Value}
 use Rattle.wasm_types.specs.declared.code.Value.TheVariants.{I32, I64}
 use Rattle.wasm_types.specs.declared.code.ValType.{ValType}
 use Rattle.wasm_types.specs.declared.code.ValType.TheVariants as types
-use Rattle.wasm_types.specs.Code.{Trees, End}
+use Rattle.wasm_types.specs.Code.{End}
 use Rattle.wasm_types.specs.Context.{Context}
 use Rattle.wasm_types.specs.Labels.{Labels}
 use Rattle.wasm_types.specs.Maybe.{◌>>=◌}
