@@ -189,6 +189,8 @@ class Specs:
                 text = read(path)
                 foreign = {name: there for name, there in imports(text).items() if there[0] != crate}
                 first |= self.at_home(there for there in foreign.values() if there[2])
+                if path.endswith("Lib.antt"):  # it passes on whole files
+                    first |= {home for home in self.homes.values() if (*home[:2], None) in foreign.values()}
                 first |= self.at_home(cited(text, {name: there for name, there in foreign.items() if not there[2]}))
         return first
 
