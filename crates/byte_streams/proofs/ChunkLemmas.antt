@@ -10,26 +10,26 @@ use Rattle.std.proofs.lemmas.Nat.{from_le_bytes-to_le_bytes_2, from_le_bytes-to_
 use Rattle.std.proofs.lemmas.Slice.Eq.{starts_is}
 use Rattle.fri_bytes.specs.Laws.{AreBytes}
 use Rattle.byteorder.specs.Endian.{little_number}
-use Rattle.byte_streams.specs.Chunk.{IsChunk, IsNoChunk, Piece, chunk_at, chunk_bytes, chunk_magic, piece_in}
+use Rattle.byte_streams.specs.Chunk.{IsChunk, IsNoChunk, StreamPiece, chunk_at, chunk_bytes, chunk_magic, piece_in}
 
 -- ---- a chunk is found
 
-piece_in-chunk : (piece : Piece) → piece.stream < 2 ^ 16 → piece.offset < 2 ^ 64 → piece_in (chunk_bytes piece) ≡ piece
+piece_in-chunk : (piece : StreamPiece) → piece.stream < 2 ^ 16 → piece.offset < 2 ^ 64 → piece_in (chunk_bytes piece) ≡ piece
 unfolding piece_in chunk_bytes
 piece_in-chunk piece stream offset =
-    let by_stream : ℕ → Piece = λ s. record { stream = s; offset = from_le_bytes w64 (to_le_bytes w64 piece.offset); bytes = piece.bytes } in
-    let by_offset : ℕ → Piece = λ o. record { stream = piece.stream; offset = o; bytes = piece.bytes } in
+    let by_stream : ℕ → StreamPiece = λ s. record { stream = s; offset = from_le_bytes w64 (to_le_bytes w64 piece.offset); bytes = piece.bytes } in
+    let by_offset : ℕ → StreamPiece = λ o. record { stream = piece.stream; offset = o; bytes = piece.bytes } in
     ap by_stream (from_le_bytes-to_le_bytes_2 piece.stream stream) ∙ ap by_offset (from_le_bytes-to_le_bytes_8 piece.offset offset)
 
-is_long : (piece : Piece) → nat_le 14 (length (chunk_bytes piece)) ≡ true
+is_long : (piece : StreamPiece) → nat_le 14 (length (chunk_bytes piece)) ≡ true
 unfolding chunk_bytes
 is_long piece = grind (arith, nat_tests)
 
-begins : (piece : Piece) → starts_with nat_eq (chunk_bytes piece) chunk_magic ≡ true
+begins : (piece : StreamPiece) → starts_with nat_eq (chunk_bytes piece) chunk_magic ≡ true
 unfolding chunk_bytes
 begins piece = refl
 
-pub chunk_at-chunk : (payload : List ℕ) (piece : Piece) → IsChunk payload piece → chunk_at payload ≡ Some piece
+pub chunk_at-chunk : (payload : List ℕ) (piece : StreamPiece) → IsChunk payload piece → chunk_at payload ≡ Some piece
 unfolding chunk_at
 chunk_at-chunk payload piece h = ap chunk_at h.spelled ∙ rw (is_long piece, begins piece, piece_in-chunk piece h.stream h.offset) refl
 
@@ -91,8 +91,8 @@ pub record Reads (payload : List ℕ) (stream offset : ℕ) : Type 0 where
 piece_in-read : (payload : List ℕ) (stream offset : ℕ) → Reads payload stream offset → piece_in payload ≡ record { stream = stream; offset = offset; bytes = drop 14 payload }
 unfolding piece_in
 piece_in-read payload stream offset h =
-    let by_stream : ℕ → Piece = λ s. record { stream = s; offset = from_le_bytes w64 (drop 6 payload); bytes = drop 14 payload } in
-    let by_offset : ℕ → Piece = λ o. record { stream = stream; offset = o; bytes = drop 14 payload } in
+    let by_stream : ℕ → StreamPiece = λ s. record { stream = s; offset = from_le_bytes w64 (drop 6 payload); bytes = drop 14 payload } in
+    let by_offset : ℕ → StreamPiece = λ o. record { stream = stream; offset = o; bytes = drop 14 payload } in
     let s : from_le_bytes w16 (drop 4 payload) ≡ stream = omega (arith, h.stream_read) in
     let o : from_le_bytes w64 (drop 6 payload) ≡ offset = omega (arith, h.offset_read) in
     ap by_stream s ∙ ap by_offset o

@@ -4,12 +4,12 @@ use Rattle.std.specs.Prelude.{◌==◌, ◌&&◌, ◌||◌, if◌then◌else◌,
 use Rattle.std.specs.FinMap as map
 use Rattle.std.proofs.lemmas.Bool.{cond-true}
 use Rattle.std.proofs.lemmas.List.{append-nil, append_assoc, map-append, replicate_more}
-use Rattle.byte_streams.specs.declared.mark.Mark.TheVariants.{Counted, Plain, Strange}
-use Rattle.byte_streams.specs.Chunk.{Piece, chunk_at}
-use Rattle.byte_streams.specs.Keeping.{is_written_to, kept_of, with_sent_piece, with_stream_sent}
-use Rattle.byte_streams.specs.Keys.{Contents, chunk_of, key_of}
-use Rattle.byte_streams.specs.Stands.{KeptTraffic, StandsFor, contents}
-use Rattle.byte_streams.specs.Traffic.{Sending, Sent, StreamName, SendOrReceive, Written, numbers_below, send_that_counts, counted_send, continues_or_repeats, is_covered, is_listed, is_to_stream, is_stream, latest, mark_of_send, stream_of, written}
+use Rattle.byte_streams.specs.declared.mark.PayloadMark.TheVariants.{Counted, Plain, Strange}
+use Rattle.byte_streams.specs.Chunk.{StreamPiece, chunk_at}
+use Rattle.byte_streams.specs.Keeping.{is_written_to, kept_contents_of, with_sent_piece, with_stream_sent}
+use Rattle.byte_streams.specs.Keys.{StreamContents, chunk_of, stream_key_of}
+use Rattle.byte_streams.specs.Stands.{KeptTraffic, StandsFor, stream_contents}
+use Rattle.byte_streams.specs.Traffic.{SentPayload, Sent, StreamName, SendOrReceive, WrittenPiece, numbers_below, send_that_counts, counted_send, continues_or_repeats, is_covered_position, is_listed_stream, is_to_stream, is_stream, latest_written, mark_of_send, stream_of, written_stream}
 use Rattle.byte_streams.proofs.ReceivedPositions.{listed_contents, uncovered}
 use Rattle.byte_streams.proofs.TreeMaps.{by_sender_exact, by_stream_exact}
 use Rattle.byte_streams.proofs.KeptStands.{StandsFor-same, Unchanged, kept_contents, listed_same, same_sender, same_stream}
@@ -21,30 +21,30 @@ cond_same : {A : Type 0} (b : Bool) (x : A) → cond b x x ≡ x
 cond_same true x = refl
 cond_same false x = refl
 
-uncounted : (s : Sending) (early : List SendOrReceive) → send_that_counts s (chunk_at s.payload) early ≡ None → Unchanged (Sent s) early
+uncounted : (s : SentPayload) (early : List SendOrReceive) → send_that_counts s (chunk_at s.payload) early ≡ None → Unchanged (Sent s) early
 uncounted s early none = record {
-  listed = λ name. ap (λ (c : Option Written). is_to_stream name s c || is_listed name early) none;
+  listed = λ name. ap (λ (c : Option WrittenPiece). is_to_stream name s c || is_listed_stream name early) none;
   written = λ name. written-other name s early (ap (is_to_stream name s) none);
   covered = λ name i. refl;
   sends = λ from clock.
-      ap (λ (c : Option Written). cond ((s.from == from) && (s.clock == clock)) (latest c (counted_send from clock early)) (counted_send from clock early)) none
+      ap (λ (c : Option WrittenPiece). cond ((s.from == from) && (s.clock == clock)) (latest_written c (counted_send from clock early)) (counted_send from clock early)) none
       ∙ cond_same ((s.from == from) && (s.clock == clock)) (counted_send from clock early);
 }
 
-pub sent_plain : (kept : KeptTraffic) (s : Sending) (early : List SendOrReceive) → chunk_at s.payload ≡ None → StandsFor kept early
+pub sent_plain : (kept : KeptTraffic) (s : SentPayload) (early : List SendOrReceive) → chunk_at s.payload ≡ None → StandsFor kept early
     → StandsFor kept (Sent s ∷ early) × (Plain ≡ mark_of_send s early)
 sent_plain kept s early none h = (StandsFor-same kept (Sent s) early (uncounted s early (rw none refl)) h, rw none refl)
 
 -- whether it goes on, by what is kept
-goes_on_kept : (kept : KeptTraffic) (s : Sending) (early : List SendOrReceive) (piece : Piece) → StandsFor kept early
-    → is_written_to (key_of (stream_of s piece)) piece kept.streams ≡ continues_or_repeats piece (written (stream_of s piece) early)
-goes_on_kept kept s early piece h = ap (λ (c : Contents). continues_or_repeats piece c.written) (kept_contents kept early (stream_of s piece) h)
+goes_on_kept : (kept : KeptTraffic) (s : SentPayload) (early : List SendOrReceive) (piece : StreamPiece) → StandsFor kept early
+    → is_written_to (stream_key_of (stream_of s piece)) piece kept.streams ≡ continues_or_repeats piece (written_stream (stream_of s piece) early)
+goes_on_kept kept s early piece h = ap (λ (c : StreamContents). continues_or_repeats piece c.written) (kept_contents kept early (stream_of s piece) h)
 
-pub sent_strange : (kept : KeptTraffic) (s : Sending) (early : List SendOrReceive) (piece : Piece) → chunk_at s.payload ≡ Some piece
-    → is_written_to (key_of (stream_of s piece)) piece kept.streams ≡ false → StandsFor kept early
+pub sent_strange : (kept : KeptTraffic) (s : SentPayload) (early : List SendOrReceive) (piece : StreamPiece) → chunk_at s.payload ≡ Some piece
+    → is_written_to (stream_key_of (stream_of s piece)) piece kept.streams ≡ false → StandsFor kept early
     → StandsFor kept (Sent s ∷ early) × (Strange ≡ mark_of_send s early)
 sent_strange kept s early piece at apart h =
-    let off : continues_or_repeats piece (written (stream_of s piece) early) ≡ false = sym (goes_on_kept kept s early piece h) ∙ apart in
+    let off : continues_or_repeats piece (written_stream (stream_of s piece) early) ≡ false = sym (goes_on_kept kept s early piece h) ∙ apart in
     (StandsFor-same kept (Sent s) early (uncounted s early (rw (at, off) refl)) h, rw (at, off) refl)
 
 -- ---- one that counts
@@ -59,13 +59,13 @@ map_below f n (suc k) none =
     ∙ append_assoc (map f (numbers_below n)) (replicate k false) (false ∷ [])
     ∙ ap (λ (l : List Bool). map f (numbers_below n) ++ l) (replicate_more k false ∙ ap (λ (m : ℕ). replicate m false) (let e : k + 1 ≡ suc k = omega arith in e))
 
-module _ (s : Sending) (early : List SendOrReceive) (w : Written) (h : Counts s early w) where
-  contents_end : (b : Bool) → (w.piece.offset == length (written (stream_of s w.piece) early)) ≡ b
-      → contents (stream_of s w.piece) (Sent s ∷ early) ≡ with_sent_piece w.piece (contents (stream_of s w.piece) early)
+module _ (s : SentPayload) (early : List SendOrReceive) (w : WrittenPiece) (h : Counts s early w) where
+  contents_end : (b : Bool) → (w.piece.offset == length (written_stream (stream_of s w.piece) early)) ≡ b
+      → stream_contents (stream_of s w.piece) (Sent s ∷ early) ≡ with_sent_piece w.piece (stream_contents (stream_of s w.piece) early)
   contents_end b at =
-      let before = written (stream_of s w.piece) early in
-      let f = is_covered (stream_of s w.piece) early in
-      let with_bytes : List ℕ → Contents = λ l. record { written = l; covered = map f (numbers_below (length l)) } in
+      let before = written_stream (stream_of s w.piece) early in
+      let f = is_covered_position (stream_of s w.piece) early in
+      let with_bytes : List ℕ → StreamContents = λ l. record { written = l; covered = map f (numbers_below (length l)) } in
       let grown : map f (numbers_below (length (before ++ w.piece.bytes))) ≡ map f (numbers_below (length before)) ++ replicate (length w.piece.bytes) false =
       ap (λ (n : ℕ). map f (numbers_below n)) (length-append before w.piece.bytes) ∙ map_below f (length before) (length w.piece.bytes) (uncovered (stream_of s w.piece) early) in
       ap with_bytes (written-counts s early w h)
@@ -74,29 +74,29 @@ module _ (s : Sending) (early : List SendOrReceive) (w : Written) (h : Counts s 
         | false ↦ λ e. rw e (ap with_bytes (append-nil before))
       ]) at
 
-  pub contents_counts : contents (stream_of s w.piece) (Sent s ∷ early) ≡ with_sent_piece w.piece (contents (stream_of s w.piece) early)
+  pub contents_counts : stream_contents (stream_of s w.piece) (Sent s ∷ early) ≡ with_sent_piece w.piece (stream_contents (stream_of s w.piece) early)
   contents_counts = contents_end _ refl
 
   -- what the streams have then
   stream_at : (kept : KeptTraffic) (name : StreamName) → StandsFor kept early
-      → map.get (with_stream_sent (key_of (stream_of s w.piece)) w.piece kept.streams) (key_of name) ≡ listed_contents name (Sent s ∷ early)
+      → map.get (with_stream_sent (stream_key_of (stream_of s w.piece)) w.piece kept.streams) (stream_key_of name) ≡ listed_contents name (Sent s ∷ early)
   stream_at kept name stands =
-      map.get-insert by_stream_exact.total kept.streams (key_of (stream_of s w.piece)) (with_sent_piece w.piece (kept_of (key_of (stream_of s w.piece)) kept.streams)) (key_of name)
-      ∙ ap (λ (b : Bool). cond b (Some (with_sent_piece w.piece (kept_of (key_of (stream_of s w.piece)) kept.streams))) (map.get kept.streams (key_of name)))
+      map.get-insert by_stream_exact.total kept.streams (stream_key_of (stream_of s w.piece)) (with_sent_piece w.piece (kept_contents_of (stream_key_of (stream_of s w.piece)) kept.streams)) (stream_key_of name)
+      ∙ ap (λ (b : Bool). cond b (Some (with_sent_piece w.piece (kept_contents_of (stream_key_of (stream_of s w.piece)) kept.streams))) (map.get kept.streams (stream_key_of name)))
       (same_stream name s.from s.to w.piece.stream)
       ∙ by_name _ refl where
         by_name : (b : Bool) → is_stream name s.from s.to w.piece.stream ≡ b
-            → cond b (Some (with_sent_piece w.piece (kept_of (key_of (stream_of s w.piece)) kept.streams))) (map.get kept.streams (key_of name)) ≡ listed_contents name (Sent s ∷ early)
+            → cond b (Some (with_sent_piece w.piece (kept_contents_of (stream_key_of (stream_of s w.piece)) kept.streams))) (map.get kept.streams (stream_key_of name)) ≡ listed_contents name (Sent s ∷ early)
         by_name true is =
-            ap (λ (c : Contents). Some (with_sent_piece w.piece c)) (kept_contents kept early (stream_of s w.piece) stands)
+            ap (λ (c : StreamContents). Some (with_sent_piece w.piece c)) (kept_contents kept early (stream_of s w.piece) stands)
             ∙ ap Some (sym contents_counts)
-            ∙ sym (cond-true (is_listed (stream_of s w.piece) (Sent s ∷ early)) (Some (contents (stream_of s w.piece) (Sent s ∷ early))) None (listed-counts s early w h))
+            ∙ sym (cond-true (is_listed_stream (stream_of s w.piece) (Sent s ∷ early)) (Some (stream_contents (stream_of s w.piece) (Sent s ∷ early))) None (listed-counts s early w h))
             ∙ ap (λ (n : StreamName). listed_contents n (Sent s ∷ early)) (sym (same_name name s.from s.to w.piece.stream is))
         by_name false other =
             let no : is_to_stream name s (send_that_counts s (chunk_at s.payload) early) ≡ false =
             ap (is_to_stream name s) (counted_is s early w h) ∙ ap (λ (to : ℕ). is_stream name s.from to w.piece.stream) h.to ∙ other in
             stands.streams name
-            ∙ sym (listed_same name (Sent s) early (ap (λ (b : Bool). b || is_listed name early) no) (written-other name s early no) (λ i. refl))
+            ∙ sym (listed_same name (Sent s) early (ap (λ (b : Bool). b || is_listed_stream name early) no) (written-other name s early no) (λ i. refl))
 
   send_at : (kept : KeptTraffic) (from clock : ℕ) → StandsFor kept early
       → map.get (map.insert kept.sends (s.from, s.clock) (chunk_of w)) (from, clock) ≡ option_map chunk_of (counted_send from clock (Sent s ∷ early))
@@ -105,17 +105,17 @@ module _ (s : Sending) (early : List SendOrReceive) (w : Written) (h : Counts s 
       ∙ ap (λ (b : Bool). cond b (Some (chunk_of w)) (map.get kept.sends (from, clock))) (same_sender s.from s.clock from clock)
       ∙ by_key ((s.from == from) && (s.clock == clock)) where
         by_key : (b : Bool) → cond b (Some (chunk_of w)) (map.get kept.sends (from, clock))
-            ≡ option_map chunk_of (cond b (latest (send_that_counts s (chunk_at s.payload) early) (counted_send from clock early)) (counted_send from clock early))
-        by_key true = sym (ap (λ (c : Option Written). option_map chunk_of (latest c (counted_send from clock early))) (counted_is s early w h))
+            ≡ option_map chunk_of (cond b (latest_written (send_that_counts s (chunk_at s.payload) early) (counted_send from clock early)) (counted_send from clock early))
+        by_key true = sym (ap (λ (c : Option WrittenPiece). option_map chunk_of (latest_written c (counted_send from clock early))) (counted_is s early w h))
         by_key false = stands.sends from clock
 
-pub sent_counted : (kept : KeptTraffic) (s : Sending) (early : List SendOrReceive) (piece : Piece) → chunk_at s.payload ≡ Some piece
-    → is_written_to (key_of (stream_of s piece)) piece kept.streams ≡ true → StandsFor kept early
+pub sent_counted : (kept : KeptTraffic) (s : SentPayload) (early : List SendOrReceive) (piece : StreamPiece) → chunk_at s.payload ≡ Some piece
+    → is_written_to (stream_key_of (stream_of s piece)) piece kept.streams ≡ true → StandsFor kept early
     → StandsFor (record {
-      streams = with_stream_sent (key_of (stream_of s piece)) piece kept.streams;
+      streams = with_stream_sent (stream_key_of (stream_of s piece)) piece kept.streams;
       sends = map.insert kept.sends (s.from, s.clock) (chunk_of (record { to = s.to; piece = piece }));
     }) (Sent s ∷ early) × (Counted ≡ mark_of_send s early)
 sent_counted kept s early piece at on h =
-    let going : continues_or_repeats piece (written (stream_of s piece) early) ≡ true = sym (goes_on_kept kept s early piece h) ∙ on in
+    let going : continues_or_repeats piece (written_stream (stream_of s piece) early) ≡ true = sym (goes_on_kept kept s early piece h) ∙ on in
     let is : Counts s early (record { to = s.to; piece = piece }) = record { chunk = at; to = refl; goes_on = going } in
     (record { streams = λ name. stream_at s early _ is kept name h; sends = λ from clock. send_at s early _ is kept from clock h }, rw (at, going) refl)

@@ -4,10 +4,10 @@ use Rattle.std.specs.Prelude.{◌==◌, ◌&&◌, if◌then◌else◌, option_ma
 use Rattle.std.specs.Cmp.{tied_then}
 use Rattle.std.specs.Ordering.{eq_by_cmp, is_eq, nat_cmp, ordering_then}
 use Rattle.std.proofs.lemmas.Bool.Decides.{nat_tests}
-use Rattle.byte_streams.specs.Keeping.{kept_of, or_empty}
-use Rattle.byte_streams.specs.Keys.{by_process_and_clock, by_stream, chunk_of, key_of}
-use Rattle.byte_streams.specs.Stands.{KeptTraffic, StandsFor, contents}
-use Rattle.byte_streams.specs.Traffic.{StreamName, SendOrReceive, numbers_below, counted_send, is_covered, is_listed, is_stream, written}
+use Rattle.byte_streams.specs.Keeping.{kept_contents_of, contents_or_empty}
+use Rattle.byte_streams.specs.Keys.{by_process_and_clock, by_stream, chunk_of, stream_key_of}
+use Rattle.byte_streams.specs.Stands.{KeptTraffic, StandsFor, stream_contents}
+use Rattle.byte_streams.specs.Traffic.{StreamName, SendOrReceive, numbers_below, counted_send, is_covered_position, is_listed_stream, is_stream, written_stream}
 use Rattle.byte_streams.proofs.ReceivedPositions.{listed_contents}
 use Rattle.byte_streams.proofs.WrittenBytes.{unlisted}
 
@@ -19,7 +19,7 @@ same_number a b = grind (arith, nat_tests)
 other_number : (a b : ℕ) → is_eq (nat_cmp a b) ≡ (b == a)
 other_number a b = grind (arith, nat_tests)
 
-pub same_stream : (name : StreamName) (from to number : ℕ) → eq_by_cmp by_stream (key_of name) (from, (to, number)) ≡ is_stream name from to number
+pub same_stream : (name : StreamName) (from to number : ℕ) → eq_by_cmp by_stream (stream_key_of name) (from, (to, number)) ≡ is_stream name from to number
 same_stream name from to number =
     sym (tied_then (nat_cmp name.from from) (ordering_then (nat_cmp name.to to) (nat_cmp name.number number)))
     ∙ ap (λ (b : Bool). is_eq (nat_cmp name.from from) && b) (sym (tied_then (nat_cmp name.to to) (nat_cmp name.number number)))
@@ -30,25 +30,25 @@ same_sender p clock q at = sym (tied_then (nat_cmp q p) (nat_cmp at clock)) ∙ 
 
 -- ---- what is kept of a stream
 
-pub kept_contents : (kept : KeptTraffic) (early : List SendOrReceive) (name : StreamName) → StandsFor kept early → kept_of (key_of name) kept.streams ≡ contents name early
-kept_contents kept early name h = ap or_empty (h.streams name) ∙ by_listed _ refl where
-  by_listed : (b : Bool) → is_listed name early ≡ b → or_empty (listed_contents name early) ≡ contents name early
+pub kept_contents : (kept : KeptTraffic) (early : List SendOrReceive) (name : StreamName) → StandsFor kept early → kept_contents_of (stream_key_of name) kept.streams ≡ stream_contents name early
+kept_contents kept early name h = ap contents_or_empty (h.streams name) ∙ by_listed _ refl where
+  by_listed : (b : Bool) → is_listed_stream name early ≡ b → contents_or_empty (listed_contents name early) ≡ stream_contents name early
   by_listed true is = rw is refl
   by_listed false is =
       let none = unlisted name early is in
-      rw is (sym (λ j. record { written = none j; covered = map (is_covered name early) (numbers_below (length (none j))) }))
+      rw is (sym (λ j. record { written = none j; covered = map (is_covered_position name early) (numbers_below (length (none j))) }))
 
 -- ---- traffic that changes nothing
 
 pub record Unchanged (t : SendOrReceive) (early : List SendOrReceive) : Type 0 where
-  pub listed : (name : StreamName) → is_listed name (t ∷ early) ≡ is_listed name early
-  pub written : (name : StreamName) → written name (t ∷ early) ≡ written name early
-  pub covered : (name : StreamName) (i : ℕ) → is_covered name (t ∷ early) i ≡ is_covered name early i
+  pub listed : (name : StreamName) → is_listed_stream name (t ∷ early) ≡ is_listed_stream name early
+  pub written : (name : StreamName) → written_stream name (t ∷ early) ≡ written_stream name early
+  pub covered : (name : StreamName) (i : ℕ) → is_covered_position name (t ∷ early) i ≡ is_covered_position name early i
   pub sends : (from clock : ℕ) → counted_send from clock (t ∷ early) ≡ counted_send from clock early
 
 -- nor of one stream
-pub listed_same : (name : StreamName) (t : SendOrReceive) (early : List SendOrReceive) → is_listed name (t ∷ early) ≡ is_listed name early → written name (t ∷ early) ≡ written name early
-    → ((i : ℕ) → is_covered name (t ∷ early) i ≡ is_covered name early i) → listed_contents name (t ∷ early) ≡ listed_contents name early
+pub listed_same : (name : StreamName) (t : SendOrReceive) (early : List SendOrReceive) → is_listed_stream name (t ∷ early) ≡ is_listed_stream name early → written_stream name (t ∷ early) ≡ written_stream name early
+    → ((i : ℕ) → is_covered_position name (t ∷ early) i ≡ is_covered_position name early i) → listed_contents name (t ∷ early) ≡ listed_contents name early
 listed_same name t early l w c = λ j. if l j then Some (record { written = w j; covered = map (λ (i : ℕ). c i j) (numbers_below (length (w j))) }) else None
 
 pub StandsFor-same : (kept : KeptTraffic) (t : SendOrReceive) (early : List SendOrReceive) → Unchanged t early → StandsFor kept early → StandsFor kept (t ∷ early)

@@ -6,11 +6,11 @@ use Rattle.std.specs.List.{prefix_len, take_while}
 use Rattle.std.proofs.lemmas.List.{length-take}
 use Rattle.std.proofs.lemmas.List.Folds.{length-prefix_len}
 use Rattle.std.proofs.lemmas.Option.{same_Some}
-use Rattle.byte_streams.specs.Keys.{Contents, chunk_of, key_of}
+use Rattle.byte_streams.specs.Keys.{StreamContents, chunk_of, stream_key_of}
 use Rattle.byte_streams.specs.Laws.{IsReadOf, IsUnsent, ReadIsKept, UnsentIsFree}
 use Rattle.byte_streams.specs.Lines.{covered_front}
-use Rattle.byte_streams.specs.Stands.{KeptTraffic, StandsFor, contents}
-use Rattle.byte_streams.specs.Traffic.{Received, Sent, StreamName, SendOrReceive, numbers_below, counted_send, is_covered, is_listed, read_count, written}
+use Rattle.byte_streams.specs.Stands.{KeptTraffic, StandsFor, stream_contents}
+use Rattle.byte_streams.specs.Traffic.{Received, Sent, StreamName, SendOrReceive, numbers_below, counted_send, is_covered_position, is_listed_stream, read_count, written_stream}
 use Rattle.byte_streams.proofs.CoveredPositions.{length-below}
 
 -- ---- a send that was not made
@@ -32,29 +32,29 @@ prefix_len-map f (x ∷ xs) = ap (λ (n : ℕ). cond (f x) (1 + n) 0) (prefix_le
 length-take_while : {A : Type 0} (p : A → Bool) (xs : List A) → length (take_while p xs) ≡ prefix_len p xs
 length-take_while p xs = length-prefix_len p xs
 
-front_count : (name : StreamName) (traffic : List SendOrReceive) → covered_front (contents name traffic) ≡ read_count name traffic
+front_count : (name : StreamName) (traffic : List SendOrReceive) → covered_front (stream_contents name traffic) ≡ read_count name traffic
 front_count name traffic =
-    let positions = numbers_below (length (written name traffic)) in
-    length-take_while (λ (is : Bool). is) (map (is_covered name traffic) positions) ∙ prefix_len-map (is_covered name traffic) positions
-    ∙ sym (length-take_while (is_covered name traffic) positions)
+    let positions = numbers_below (length (written_stream name traffic)) in
+    length-take_while (λ (is : Bool). is) (map (is_covered_position name traffic) positions) ∙ prefix_len-map (is_covered_position name traffic) positions
+    ∙ sym (length-take_while (is_covered_position name traffic) positions)
 
-read_within : (name : StreamName) (traffic : List SendOrReceive) → read_count name traffic ≤ length (written name traffic)
+read_within : (name : StreamName) (traffic : List SendOrReceive) → read_count name traffic ≤ length (written_stream name traffic)
 read_within name traffic =
-    let positions = numbers_below (length (written name traffic)) in
-    omega (arith, length-take (prefix_len (is_covered name traffic) positions) positions, length-below (length (written name traffic)))
+    let positions = numbers_below (length (written_stream name traffic)) in
+    omega (arith, length-take (prefix_len (is_covered_position name traffic) positions) positions, length-below (length (written_stream name traffic)))
 
-kept_is : (kept : KeptTraffic) (traffic : List SendOrReceive) (name : StreamName) (c : Contents) → StandsFor kept traffic → map.get kept.streams (key_of name) ≡ Some c
-    → contents name traffic ≡ c
-kept_is kept traffic name c h has = by_listed (is_listed name traffic) (sym (h.streams name) ∙ has) where
-  by_listed : (b : Bool) → (if b then Some (contents name traffic) else None) ≡ Some c → contents name traffic ≡ c
-  by_listed true e = same_Some (contents name traffic) c e
+kept_is : (kept : KeptTraffic) (traffic : List SendOrReceive) (name : StreamName) (c : StreamContents) → StandsFor kept traffic → map.get kept.streams (stream_key_of name) ≡ Some c
+    → stream_contents name traffic ≡ c
+kept_is kept traffic name c h has = by_listed (is_listed_stream name traffic) (sym (h.streams name) ∙ has) where
+  by_listed : (b : Bool) → (if b then Some (stream_contents name traffic) else None) ≡ Some c → stream_contents name traffic ≡ c
+  by_listed true e = same_Some (stream_contents name traffic) c e
   by_listed false e = absurd cc
 
 pub read_kept : ReadIsKept
 read_kept kept traffic name c h has =
-    subst (λ (d : Contents). IsReadOf d name traffic) (kept_is kept traffic name c h has)
+    subst (λ (d : StreamContents). IsReadOf d name traffic) (kept_is kept traffic name c h has)
     (record {
-      bytes = ap (λ (n : ℕ). take n (written name traffic)) (front_count name traffic);
+      bytes = ap (λ (n : ℕ). take n (written_stream name traffic)) (front_count name traffic);
       count = front_count name traffic;
       within = read_within name traffic;
       written = refl;

@@ -4,25 +4,25 @@ use Rattle.std.specs.FinMap as map
 use Rattle.std.specs.Ordering.{nat_cmp, ordering_then}
 use Rattle.std.specs.Prelude.{ℕ, Bool, List, length, refl}
 use Rattle.std.specs.declared.cmp.Ordering.{Ordering}
-use Rattle.byte_streams.specs.Traffic.{StreamName, Written}
+use Rattle.byte_streams.specs.Traffic.{StreamName, WrittenPiece}
 use Rattle.byte_streams.specs.declared.send_map.SentChunk.{SentChunk}
 
 -- by the process that writes, by the one that reads, and by number
 abbrev pub StreamKey : Type 0
 StreamKey = ℕ × (ℕ × ℕ)
 
-abbrev pub key_of : StreamName → StreamKey
-key_of name = (name.from, (name.to, name.number))
+abbrev pub stream_key_of : StreamName → StreamKey
+stream_key_of name = (name.from, (name.to, name.number))
 
 abbrev pub by_stream : StreamKey → StreamKey → Ordering
 by_stream x y = ordering_then (nat_cmp x.0 y.0) (ordering_then (nat_cmp x.1.0 y.1.0) (nat_cmp x.1.1 y.1.1))
 
 -- what was written to a stream, and which of its positions are covered
-pub record Contents : Type 0 where
+pub record StreamContents : Type 0 where
   pub written : List ℕ
   pub covered : List Bool
 
-abbrev pub contents_code : Coded Contents
+abbrev pub contents_code : Coded StreamContents
 contents_code =
     code_by (List ℕ × List Bool) (coded× (coded_list coded_ℕ) (coded_list coded_bool))
     (λ c. (c.written, c.covered))
@@ -30,13 +30,13 @@ contents_code =
     (λ _. refl)
 
 abbrev pub ContentsByStream : Type 0
-ContentsByStream = map.FinMap by_stream Contents
+ContentsByStream = map.FinMap by_stream StreamContents
 
 abbrev pub streams_code : Coded ContentsByStream
 streams_code = map.code (coded× coded_ℕ (coded× coded_ℕ coded_ℕ)) contents_code
 
 -- of a send that counts: where it goes to, its stream, its offset and how many bytes it has, which are part of what was written
-abbrev pub chunk_of : Written → SentChunk
+abbrev pub chunk_of : WrittenPiece → SentChunk
 chunk_of w = record { to = w.to; stream = w.piece.stream; offset = w.piece.offset; count = length w.piece.bytes }
 
 abbrev pub sent_code : Coded SentChunk

@@ -2,12 +2,12 @@
 use Rattle.std.specs.Prelude.{◌≡◌, ℕ, ◌<◌, ◌≤◌, ◌==◌, ◌&&◌, Bool, false, List, ◌∷◌, ◌++◌, length, take, Some, None}
 use Rattle.std.specs.FinMap as map
 use Rattle.std.specs.List.{AllByRecursion}
-use Rattle.byte_streams.specs.declared.mark.Mark.TheVariants.{Plain, Counted, Strange}
+use Rattle.byte_streams.specs.declared.mark.PayloadMark.TheVariants.{Plain, Counted, Strange}
 use Rattle.byte_streams.specs.Chunk.{chunk_at}
-use Rattle.byte_streams.specs.Keys.{Contents, key_of}
+use Rattle.byte_streams.specs.Keys.{StreamContents, stream_key_of}
 use Rattle.byte_streams.specs.Lines.{covered_front, read_of}
 use Rattle.byte_streams.specs.Stands.{KeptTraffic, StandsFor}
-use Rattle.byte_streams.specs.Traffic.{Receiving, Received, Sending, Sent, StreamName, SendOrReceive, Written, counted_send, mark_of_receive, mark_of_send, read_bytes, read_count, written}
+use Rattle.byte_streams.specs.Traffic.{ReceivedPayload, Received, SentPayload, Sent, StreamName, SendOrReceive, WrittenPiece, counted_send, mark_of_receive, mark_of_send, read_bytes, read_count, written_stream}
 
 -- this is a send of the process at this clock
 abbrev pub is_send_at : ℕ → ℕ → SendOrReceive → Bool
@@ -24,20 +24,20 @@ UnsentIsFree =
     → map.get kept.sends (from, clock) ≡ None
 
 -- what is read of a stream that is kept is what was read of it: a front of what was written
-pub record IsReadOf (c : Contents) (name : StreamName) (traffic : List SendOrReceive) : Type 0 where
+pub record IsReadOf (c : StreamContents) (name : StreamName) (traffic : List SendOrReceive) : Type 0 where
   pub bytes : read_of c ≡ read_bytes name traffic
   pub count : covered_front c ≡ read_count name traffic
-  pub within : read_count name traffic ≤ length (written name traffic)
-  pub written : c.written ≡ written name traffic
+  pub within : read_count name traffic ≤ length (written_stream name traffic)
+  pub written : c.written ≡ written_stream name traffic
 
 abbrev pub ReadIsKept : Type 0
 ReadIsKept =
-    (kept : KeptTraffic) (traffic : List SendOrReceive) (name : StreamName) (c : Contents) → StandsFor kept traffic
-    → map.get kept.streams (key_of name) ≡ Some c → IsReadOf c name traffic
+    (kept : KeptTraffic) (traffic : List SendOrReceive) (name : StreamName) (c : StreamContents) → StandsFor kept traffic
+    → map.get kept.streams (stream_key_of name) ≡ Some c → IsReadOf c name traffic
 
 -- the payload is the front, so many bytes long, of what the send that the tag names brought to this process
-pub record IsFrontOf (r : Receiving) (early : List SendOrReceive) (count : ℕ) : Type 0 where
-  pub sent : Written
+pub record IsFrontOf (r : ReceivedPayload) (early : List SendOrReceive) (count : ℕ) : Type 0 where
+  pub sent : WrittenPiece
   pub payload : List ℕ
   pub counted : counted_send r.tag.sender r.tag.clock early ≡ Some sent
   pub chunk : chunk_at payload ≡ Some sent.piece
@@ -46,18 +46,18 @@ pub record IsFrontOf (r : Receiving) (early : List SendOrReceive) (count : ℕ) 
 
 -- such a front counts where it has room for a chunk
 abbrev pub FrontsCount : Type 0
-FrontsCount = (r : Receiving) (early : List SendOrReceive) (count : ℕ) → IsFrontOf r early count → 14 ≤ length r.payload → mark_of_receive r early ≡ Counted
+FrontsCount = (r : ReceivedPayload) (early : List SendOrReceive) (count : ℕ) → IsFrontOf r early count → 14 ≤ length r.payload → mark_of_receive r early ≡ Counted
 
 -- and what has none is plain
 abbrev pub ShortIsPlain : Type 0
-ShortIsPlain = (r : Receiving) (early : List SendOrReceive) → length r.payload < 14 → mark_of_receive r early ≡ Plain
+ShortIsPlain = (r : ReceivedPayload) (early : List SendOrReceive) → length r.payload < 14 → mark_of_receive r early ≡ Plain
 
 -- the front of a payload that is no chunk is plain too
 abbrev pub PlainFronts : Type 0
-PlainFronts = (r : Receiving) (early : List SendOrReceive) (payload : List ℕ) (count : ℕ) → chunk_at payload ≡ None → r.payload ≡ take count payload → mark_of_receive r early ≡ Plain
+PlainFronts = (r : ReceivedPayload) (early : List SendOrReceive) (payload : List ℕ) (count : ℕ) → chunk_at payload ≡ None → r.payload ≡ take count payload → mark_of_receive r early ≡ Plain
 
 -- a process took a front of what this send brought to it, and its sender made no later one at that clock
-pub record IsTakenOf (r : Receiving) (s : Sending) (later : List SendOrReceive) (count : ℕ) : Type 0 where
+pub record IsTakenOf (r : ReceivedPayload) (s : SentPayload) (later : List SendOrReceive) (count : ℕ) : Type 0 where
   pub sender : r.tag.sender ≡ s.from
   pub clock : r.tag.clock ≡ s.clock
   pub by : r.by ≡ s.to
@@ -67,5 +67,5 @@ pub record IsTakenOf (r : Receiving) (s : Sending) (later : List SendOrReceive) 
 -- such a receive is strange only where the send is
 abbrev pub StrangeBySend : Type 0
 StrangeBySend =
-    (r : Receiving) (s : Sending) (later early : List SendOrReceive) (count : ℕ) → IsTakenOf r s later count
+    (r : ReceivedPayload) (s : SentPayload) (later early : List SendOrReceive) (count : ℕ) → IsTakenOf r s later count
     → mark_of_receive r (later ++ Sent s ∷ early) ≡ Strange → mark_of_send s early ≡ Strange

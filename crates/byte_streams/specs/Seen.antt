@@ -1,7 +1,7 @@
 -- What code has at hand, as contracts see it.
 use Rattle.byte_streams.specs.declared.chunk.Chunk.{Chunk}
-use Rattle.byte_streams.specs.Chunk.{Piece}
+use Rattle.byte_streams.specs.Chunk.{StreamPiece}
 
 -- the piece whose bytes are lent
-abbrev pub piece_of : Chunk → Piece
+abbrev pub piece_of : Chunk → StreamPiece
 piece_of c = record { stream = c.stream; offset = c.offset; bytes = c.bytes.now }

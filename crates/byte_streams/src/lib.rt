@@ -18,5 +18,5 @@ mod streams;
 
 pub use chunk::{Chunk, read_chunk};
 pub use line::StreamLine;
-pub use mark::Mark;
+pub use mark::PayloadMark;
 pub use streams::Streams;

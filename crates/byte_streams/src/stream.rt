@@ -3,7 +3,7 @@ ghost use Rattle.std.specs.Prelude.{◌≡◌, ◌≤◌, length, IfOk, OnOk, if
 ghost use Rattle.byte_streams.specs.Keeping.{empty_contents, with_cover, with_sent_piece, with_written};
 ghost use Rattle.byte_streams.specs.Lines.{covered_front, read_of};
 ghost use Rattle.byte_streams.specs.Seen.{piece_of};
-ghost use Rattle.byte_streams.specs.Traffic.{continues_or_repeats, stands_in};
+ghost use Rattle.byte_streams.specs.Traffic.{continues_or_repeats, piece_stands_in};
 
 use crate::chunk::Chunk;
 use std::alloc::{AllocError, Global};
@@ -18,9 +18,9 @@ pub(crate) struct Stream {
 
 impl Model for Stream {
     ghost use Rattle.std.specs.Prelude.{◌≡◌, length};
-    ghost use Rattle.byte_streams.specs.Keys.{Contents, contents_code};
+    ghost use Rattle.byte_streams.specs.Keys.{StreamContents, contents_code};
 
-    ghost Value = { Contents };
+    ghost Value = { StreamContents };
 
     ghost coded = { contents_code };
 
@@ -66,7 +66,7 @@ impl Stream {
 
     // Whether the piece lies within what was written and is what is there.
     fn has(&self, chunk: &Chunk<'_>) -> bool
-        ensures { result ≡ stands_in (piece_of chunk.now) self.now.written }
+        ensures { result ≡ piece_stands_in (piece_of chunk.now) self.now.written }
     {
         let written = self.written.as_slice();
         chunk.offset <= written.len() as u64
@@ -75,7 +75,7 @@ impl Stream {
 
     // A piece that is taken covers its positions, where it is what is there. Says whether it is.
     pub(crate) fn cover(&mut self, chunk: &Chunk<'_>) -> bool
-        ensures stands { result ≡ stands_in (piece_of chunk.now) self.old.written }
+        ensures stands { result ≡ piece_stands_in (piece_of chunk.now) self.old.written }
         ensures contents { self.new ≡ (if result then with_cover (piece_of chunk.now) self.old else self.old) }
     {
         if !self.has(chunk) {

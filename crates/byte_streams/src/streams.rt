@@ -3,11 +3,11 @@ ghost use Rattle.std.specs.Prelude.{◌≡◌, ◌∷◌, [], None, IfOk, List, 
 ghost use Rattle.std.specs.FinMap as map;
 ghost use Rattle.byte_streams.specs.Lines.{stream_lines, read_of};
 ghost use Rattle.byte_streams.specs.Stands.{StandsFor};
-ghost use Rattle.byte_streams.specs.Traffic.{Received, Receiving, Sending, Sent, SendOrReceive, mark_of_receive, mark_of_send};
+ghost use Rattle.byte_streams.specs.Traffic.{Received, ReceivedPayload, SentPayload, Sent, SendOrReceive, mark_of_receive, mark_of_send};
 
 use crate::chunk::read_chunk;
 use crate::line::StreamLine;
-use crate::mark::Mark;
+use crate::mark::PayloadMark;
 use crate::send_map::{SendMap, SentChunk};
 use crate::stream_map::StreamMap;
 use lamport_tag::Tag;
@@ -22,11 +22,11 @@ pub struct Streams {
 }
 
 impl Model for Streams {
-    ghost use Rattle.byte_streams.specs.Stands.{KeptTraffic, kept_code};
+    ghost use Rattle.byte_streams.specs.Stands.{KeptTraffic, kept_traffic_code};
 
     ghost Value = { KeptTraffic };
 
-    ghost coded = { kept_code };
+    ghost coded = { kept_traffic_code };
 
     ghost view = { λ s. record { streams = s.streams; sends = s.sends } };
 }
@@ -50,15 +50,15 @@ impl Streams {
         clock: u64,
         to: u32,
         payload: &[u8],
-    ) -> Result<Mark, AllocError>
+    ) -> Result<PayloadMark, AllocError>
         requires { map.get self.old.sends (from, clock) ≡ None }
-        ensures { let s : Sending = record { from = from; clock = clock; to = to; payload = payload.now } in IfOk result (λ mark. (early : List SendOrReceive) → StandsFor self.old early → StandsFor self.new (Sent s ∷ early) × (mark ≡ mark_of_send s early)) }
+        ensures { let s : SentPayload = record { from = from; clock = clock; to = to; payload = payload.now } in IfOk result (λ mark. (early : List SendOrReceive) → StandsFor self.old early → StandsFor self.new (Sent s ∷ early) × (mark ≡ mark_of_send s early)) }
     {
         let Some(chunk) = read_chunk(payload) else {
-            return Ok(Mark::Plain);
+            return Ok(PayloadMark::Plain);
         };
         if !self.streams.write(from, to, &chunk)? {
-            return Ok(Mark::Strange);
+            return Ok(PayloadMark::Strange);
         }
         let sent = SentChunk {
             to,
@@ -67,22 +67,22 @@ impl Streams {
             count: chunk.bytes.len() as u64,
         };
         self.sends.add(from, clock, sent)?;
-        Ok(Mark::Counted)
+        Ok(PayloadMark::Counted)
     }
 
     /// A process took a payload after this tag. The streams are not used again after want of memory.
-    pub fn received(&mut self, by: u32, tag: Tag, payload: &[u8]) -> Result<Mark, AllocError>
-        ensures { let r : Receiving = record { by = by; tag = tag; payload = payload.now } in IfOk result (λ mark. (early : List SendOrReceive) → StandsFor self.old early → StandsFor self.new (Received r ∷ early) × (mark ≡ mark_of_receive r early)) }
+    pub fn received(&mut self, by: u32, tag: Tag, payload: &[u8]) -> Result<PayloadMark, AllocError>
+        ensures { let r : ReceivedPayload = record { by = by; tag = tag; payload = payload.now } in IfOk result (λ mark. (early : List SendOrReceive) → StandsFor self.old early → StandsFor self.new (Received r ∷ early) × (mark ≡ mark_of_receive r early)) }
     {
         let Some(chunk) = read_chunk(payload) else {
-            return Ok(Mark::Plain);
+            return Ok(PayloadMark::Plain);
         };
         if !self.sends.is_within(tag.sender, tag.clock, by, &chunk)
             || !self.streams.cover(tag.sender, by, &chunk)
         {
-            return Ok(Mark::Strange);
+            return Ok(PayloadMark::Strange);
         }
-        Ok(Mark::Counted)
+        Ok(PayloadMark::Counted)
     }
 
     /// A line for each stream with a send that counts.

@@ -1,7 +1,7 @@
 -- Reading a log entry by entry.
 use Rattle.std.proofs.Common.{length, sym, ap, ◌∙◌, subst}
 use Rattle.fri_bytes.specs.Laws.{ExactReaders}
-use Rattle.call_log.specs.Walk.{IsEnd, EntryLeads, Leads}
+use Rattle.call_log.specs.Walk.{IsEndOfLog, EntryLeads, LeadsToEntry}
 use Rattle.call_log.proofs.AllEntries.{entries_of-next, entries_of-none, rest_of-next, rest_of-none, shorter}
 use Rattle.call_log.proofs.EntryLemmas.{entry_at-found}
 
@@ -9,13 +9,13 @@ module _ (readers : ExactReaders) where
   pub step : EntryLeads
   step left e next found =
       let there = entry_at-found left e next found in
-      subst (Leads left e) (sym there.left_is) (record {
+      subst (LeadsToEntry left e) (sym there.left_is) (record {
         shorter = shorter left.version left.last left.bytes e next.bytes there.spelled;
         entries = entries_of-next readers left e next.bytes there.shaped there.spelled;
         rest = rest_of-next readers left e next.bytes there.shaped there.spelled;
       })
 
-  pub end : IsEnd
+  pub end : IsEndOfLog
   end left none = record {
     entries = entries_of-none readers left none;
     rest = rest_of-none readers left none;

@@ -15,8 +15,8 @@ use Rattle.lib_calls.specs.Entry.{IsNumberIf, IsStringIf, IsTagIf, HasArguments}
 use Rattle.call_log.specs.declared.version.Version.{Version}
 use Rattle.call_log.specs.declared.version.Version.TheVariants.{One, Two}
 use Rattle.call_log.specs.Version.{if_below, clock_above, clock_at, clock_bytes, clock_gap, number_at, number_bytes}
-use Rattle.call_log.specs.Entry.{number_if, string_if, flagged, tag_if, argument_bytes}
-use Rattle.call_log.specs.Reading.{number_if_at, call_at, string_at, string_if_at, tag_fields_at, flagged_at, tag_if_at}
+use Rattle.call_log.specs.Entry.{number_if, string_if, flagged_tag, tag_if, argument_bytes}
+use Rattle.call_log.specs.Reading.{number_if_at, call_at, string_at, string_if_at, tag_fields_at, flagged_tag_at, tag_if_at}
 
 -- bytes in front of others are in range where all are
 pub front_in_range : (front rest : List ℕ) → AreBytes (front ++ rest) → AreBytes front
@@ -238,31 +238,31 @@ module _ (readers : ExactReaders) where
     found = tag_found v;
   }
 
-  flagged_again : (v : Version) (tag : Option Tag) (rest : List ℕ) → IsTagIf true tag → flagged_at v (flagged v tag ++ rest) ≡ Some (tag, rest)
-  unfolding flagged_at
+  flagged_again : (v : Version) (tag : Option Tag) (rest : List ℕ) → IsTagIf true tag → flagged_tag_at v (flagged_tag v tag ++ rest) ≡ Some (tag, rest)
+  unfolding flagged_tag_at
   flagged_again v None rest fits = refl
   flagged_again v (Some tag) rest fits = next _ _ (tag, rest) _ ((tag_field v).again tag rest fits) refl
 
-  flagged_found : (v : Version) (bytes : List ℕ) (tag : Option Tag) (rest : List ℕ) → AreBytes bytes → flagged_at v bytes ≡ Some (tag, rest) → IsTagIf true tag × (bytes ≡ flagged v tag ++ rest)
-  unfolding flagged_at
+  flagged_found : (v : Version) (bytes : List ℕ) (tag : Option Tag) (rest : List ℕ) → AreBytes bytes → flagged_tag_at v bytes ≡ Some (tag, rest) → IsTagIf true tag × (bytes ≡ flagged_tag v tag ++ rest)
+  unfolding flagged_tag_at
   flagged_found v bytes tag rest are e =
       let flag = bind_some _ _ _ e in
       let front = byte_field.found bytes flag.0.0 flag.0.1 are flag.1 in
       elim (chosen (eqb flag.0.0 0) _ _ _ flag.2) [
         | inl none ↦
             let zero : flag.0.0 ≡ 0 = eqb-true _ _ none.0 in
-            subst (λ (x : Option Tag × List ℕ). IsTagIf true x.0 × (bytes ≡ flagged v x.0 ++ x.1)) (same_Some (None, flag.0.1) (tag, rest) none.1)
+            subst (λ (x : Option Tag × List ℕ). IsTagIf true x.0 × (bytes ≡ flagged_tag v x.0 ++ x.1)) (same_Some (None, flag.0.1) (tag, rest) none.1)
             (tt, front.1 ∙ ap (λ (b : ℕ). b ∷ flag.0.1) zero)
         | inr some ↦
             let one = kept _ _ _ some.1 in
             let there = bind_some _ _ _ one.1 in
             let read = (tag_field v).found flag.0.1 there.0.0 there.0.1 (bytes_after byte_field bytes flag.0.0 flag.0.1 are flag.1) there.1 in
             let is : flag.0.0 ≡ 1 = eqb-true _ _ one.0 in
-            subst (λ (x : Option Tag × List ℕ). IsTagIf true x.0 × (bytes ≡ flagged v x.0 ++ x.1)) (same_Some (Some there.0.0, there.0.1) (tag, rest) there.2)
+            subst (λ (x : Option Tag × List ℕ). IsTagIf true x.0 × (bytes ≡ flagged_tag v x.0 ++ x.1)) (same_Some (Some there.0.0, there.0.1) (tag, rest) there.2)
             (read.0, front.1 ∙ ap (λ (b : ℕ). b ∷ flag.0.1) is ∙ ap (λ (t : List ℕ). 1 ∷ t) read.1)
       ]
 
-  pub flagged_field : (v : Version) → ReadsBack (IsTagIf true) (flagged v) (flagged_at v)
+  pub flagged_field : (v : Version) → ReadsBack (IsTagIf true) (flagged_tag v) (flagged_tag_at v)
   flagged_field v = record { again = flagged_again v; found = flagged_found v }
 
   pub tag_if_field : (v : Version) (has : Bool) → ReadsBack (IsTagIf has) (tag_if v has) (tag_if_at v has)

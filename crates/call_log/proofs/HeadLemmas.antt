@@ -14,7 +14,7 @@ use Rattle.call_log.specs.declared.version.Version.TheVariants.{One, Two}
 use Rattle.call_log.specs.Version.{version_number, version_numbered}
 use Rattle.call_log.specs.Head.{Head, IsHead, BeginsNoHead, head_bytes}
 use Rattle.fri_text.specs.Name.{is_name}
-use Rattle.call_log.specs.Reading.{mark_at, name_at, read_head}
+use Rattle.call_log.specs.Reading.{log_mark_at, name_at, read_head}
 use Rattle.call_log.specs.Log.{Unread, unread_after_head, head_at, head_in}
 use Rattle.call_log.proofs.FieldLemmas.{bind_some, rest_in_range, ReadsBack, bytes_after, onto, concat-append, next, when_true, kept, chosen, le_field, byte_field}
 use Rattle.call_log.proofs.ShapeTests.{and_true, both_true, head_from_test, is_head-from}
@@ -35,7 +35,7 @@ record Steps (bytes : List ℕ) (h : Head) (rest : List ℕ) : Type 0 where
   after_version : List ℕ
   after_count : List ℕ
   after_process : List ℕ
-  magic : mark_at (codes "LLOG") bytes ≡ Some (codes "LLOG", after_magic)
+  magic : log_mark_at (codes "LLOG") bytes ≡ Some (codes "LLOG", after_magic)
   version : le_at w32 after_magic ≡ Some (version_number h.version, after_version)
   count : le_at w32 after_version ≡ Some (h.count, after_count)
   process : le_at w32 after_count ≡ Some (h.process, after_process)
@@ -74,12 +74,12 @@ read_head-from bytes h rest s =
 module _ (readers : ExactReaders) where
   -- ---- the magic bytes
 
-  mark_again : (mark rest : List ℕ) → mark_at mark (mark ++ rest) ≡ Some (mark, rest)
+  mark_again : (mark rest : List ℕ) → log_mark_at mark (mark ++ rest) ≡ Some (mark, rest)
   mark_again mark rest =
       next _ _ (mark, rest) _ ((readers.piece (length mark)).again mark mark rest (refl, refl))
       (when_true _ _ _ _ ((bytes_eq-Decides mark mark).1 refl) refl)
 
-  mark_found : (mark bytes piece rest : List ℕ) → mark_at mark bytes ≡ Some (piece, rest) → bytes ≡ mark ++ rest
+  mark_found : (mark bytes piece rest : List ℕ) → log_mark_at mark bytes ≡ Some (piece, rest) → bytes ≡ mark ++ rest
   mark_found mark bytes piece rest e =
       let read = bind_some _ _ _ e in
       let same = kept _ _ _ read.2 in

@@ -14,7 +14,7 @@ use Rattle.call_log.specs.declared.version.Version.{Version}
 use Rattle.call_log.specs.declared.version.Version.TheVariants.{One, Two}
 use Rattle.call_log.specs.Version.{clock_bytes, clock_gap, number_bytes}
 use Rattle.call_log.specs.Entry.{argument_bytes, body_bytes, number_if, string_if, tag_if}
-use Rattle.call_log.specs.Laws.{IsCommon, IsNear, NoLonger}
+use Rattle.call_log.specs.Laws.{IsCommonEntry, IsNearTag, NoLonger}
 use Rattle.call_log.proofs.EntrySizes.{body_size, encoding_size, length-argument_bytes, length-clock_bytes, length-concat, length-number_bytes, length-short_bytes, length-tag_if}
 
 -- ---- numbers
@@ -69,7 +69,7 @@ tag_few tag low sent =
     omega (arith, length-append (number_bytes Two w32 tag.sender) (number_bytes Two w64 tag.clock), short_few 0 tag.sender (omega arith), short_few 8 tag.clock (omega arith))
 
 -- what is more at the reply or the clock is less at the clock or the tag
-clock_reply_tag : (last : ℕ) (e : Entry) → IsShaped e → IsCommon last e
+clock_reply_tag : (last : ℕ) (e : Entry) → IsShaped e → IsCommonEntry last e
     → length (clock_bytes Two last e.clock) + length (number_bytes Two w64 e.reply) + length (tag_if Two (has_tag e.call.kind) e.tag) ≤ 12 + length (tag_if One (has_tag e.call.kind) e.tag)
 clock_reply_tag last e shaped common = by_tag (has_tag e.call.kind) e.tag refl shaped.tag
   where
@@ -83,14 +83,14 @@ clock_reply_tag last e shaped common = by_tag (has_tag e.call.kind) e.tag refl s
     by_tag true None is fits = omega (arith, untagged true is)
     by_tag false None is fits = omega (arith, untagged false is)
     by_tag true (Some tag) is fits =
-        let n : IsNear last e tag = common.tagged tag is in
+        let n : IsNearTag last e tag = common.tagged tag is in
         let near : clock_gap last e.clock < 2 ^ 63 = gap_below last e.clock (2 ^ 63) common.later shaped.clock (omega (arith, n.clock)) in
         omega (arith, short_few 8 (clock_gap last e.clock) (omega arith), short_few 2 e.reply (omega (arith, n.reply)), tag_few tag n.sender n.sent)
     by_tag false (Some tag) is fits = absurd cc
 
 -- ---- the entry
 
-body_small : (last : ℕ) (e : Entry) → IsCommon last e → length (body_bytes Two last e) < 2097152
+body_small : (last : ℕ) (e : Entry) → IsCommonEntry last e → length (body_bytes Two last e) < 2097152
 body_small last e common =
     summed _ _ _ _ _ _ _ _ (length-clock_bytes Two last e.clock).few (length-number_bytes Two w16 e.thread).few (length-argument_bytes Two e.call) (length-number_bytes Two w64 e.reply).few
     (string_small _ e.outgoing common.outgoing) (string_small _ e.incoming common.incoming) (length-tag_if Two _ e.tag) (body_size Two last e)

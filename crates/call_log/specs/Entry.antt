@@ -21,13 +21,13 @@ abbrev pub string_if : Version → Bool → List ℕ → List ℕ
 string_if v has bytes = if has then number_bytes v w32 (length bytes) ++ bytes else []
 
 -- the flag 0, or the flag 1 and the tag's sender and clock
-abbrev pub flagged : Version → Option Tag → List ℕ
-flagged v None = 0 ∷ []
-flagged v (Some tag) = 1 ∷ (number_bytes v w32 tag.sender ++ number_bytes v w64 tag.clock)
+abbrev pub flagged_tag : Version → Option Tag → List ℕ
+flagged_tag v None = 0 ∷ []
+flagged_tag v (Some tag) = 1 ∷ (number_bytes v w32 tag.sender ++ number_bytes v w64 tag.clock)
 
 -- whether there is a tag, and which, where the kind may have one
 abbrev pub tag_if : Version → Bool → Option Tag → List ℕ
-tag_if v has tag = if has then flagged v tag else []
+tag_if v has tag = if has then flagged_tag v tag else []
 
 -- the arguments that the kind has
 unfoldable pub argument_bytes : Version → Call → List ℕ

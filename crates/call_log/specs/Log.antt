@@ -35,14 +35,14 @@ abbrev pub unread_after_entry : Unread → Entry → List ℕ → Unread
 unread_after_entry left e bytes = record { version = left.version; last = e.clock; bytes = bytes }
 
 -- what is left is these entries and then the rest, and there is no longer list of entries
-pub record Holds (left : Unread) (entries : List Entry) (rest : List ℕ) : Type 0 where
+pub record HoldsEntries (left : Unread) (entries : List Entry) (rest : List ℕ) : Type 0 where
   pub shaped : All IsShaped entries
   pub spelled : left.bytes ≡ encodings left.version left.last entries ++ rest
   pub longest : BeginsNoEntry left.version (clock_after left.last entries) rest
 
 -- a log of version 2 with this head but for the version, and these entries
-abbrev pub rewritten : Head → List Entry → List ℕ
-rewritten head entries = head_bytes (record head { version = Two }) ++ encodings Two 0 entries
+abbrev pub rewritten_log : Head → List Entry → List ℕ
+rewritten_log head entries = head_bytes (record head { version = Two }) ++ encodings Two 0 entries
 
 -- ---- what is at the front of some bytes, as functions
 
@@ -96,26 +96,26 @@ pub record EntriesAndRest : Type 0 where
   pub rest : List ℕ
 
 -- and this entry in front of them
-abbrev pub with_first : Entry → EntriesAndRest → EntriesAndRest
-with_first e w = record w { entries = e ∷ w.entries }
+abbrev pub with_first_entry : Entry → EntriesAndRest → EntriesAndRest
+with_first_entry e w = record w { entries = e ∷ w.entries }
 
 -- the entry that was found in front of those that follow, or none, and then all bytes are left
-abbrev pub walk_then : (Unread → EntriesAndRest) → List ℕ → Option (Entry × Unread) → EntriesAndRest
-walk_then more bytes None = record { entries = []; rest = bytes }
-walk_then more bytes (Some x) = with_first x.0 (more x.1)
+abbrev pub entries_walk_then : (Unread → EntriesAndRest) → List ℕ → Option (Entry × Unread) → EntriesAndRest
+entries_walk_then more bytes None = record { entries = []; rest = bytes }
+entries_walk_then more bytes (Some x) = with_first_entry x.0 (more x.1)
 
 -- at most so many entries at the front of what is left
-unfoldable pub walk_within : ℕ → Unread → EntriesAndRest
-walk_within zero left = record { entries = []; rest = left.bytes }
-walk_within (suc limit) left = walk_then (walk_within limit) left.bytes (entry_at left)
+unfoldable pub entries_walk_within : ℕ → Unread → EntriesAndRest
+entries_walk_within zero left = record { entries = []; rest = left.bytes }
+entries_walk_within (suc limit) left = entries_walk_then (entries_walk_within limit) left.bytes (entry_at left)
 
 -- all entries at the front of what is left, which are no more than it has bytes
 unfoldable pub entries_of : Unread → List Entry
-entries_of left = (walk_within (length left.bytes) left).entries
+entries_of left = (entries_walk_within (length left.bytes) left).entries
 
 -- the bytes after all of them
-unfoldable pub rest_of : Unread → List ℕ
-rest_of left = (walk_within (length left.bytes) left).rest
+unfoldable pub rest_of_log : Unread → List ℕ
+rest_of_log left = (entries_walk_within (length left.bytes) left).rest
 
 -- the test of `IsHead`
 unfoldable pub is_head : Head → Bool

@@ -20,9 +20,9 @@ abbrev pub ◌>>=◌ : {A B : Type 0} → Option A → (A → Option B) → Opti
 o >>= f = option_and_then f o
 
 -- what a reader that may stop half way gives: the value at the front and what follows it
-abbrev pub Gives : {A : Type 0} → Option A → CursorState → Option (A × List ℕ) → Type 0
-Gives None new found = found ≡ None
-Gives (Some x) new found = found ≡ Some (x, new.left)
+abbrev pub GivesField : {A : Type 0} → Option A → CursorState → Option (A × List ℕ) → Type 0
+GivesField None new found = found ≡ None
+GivesField (Some x) new found = found ≡ Some (x, new.left)
 
 -- ---- an entry
 
@@ -56,15 +56,15 @@ tag_fields_at v bytes = do
   Some (record { sender = sender.0; clock = clock.0 }, clock.1)
 
 -- a tag after its flag, or the flag that there is none
-unfoldable pub flagged_at : Version → List ℕ → Option (Option Tag × List ℕ)
-flagged_at v bytes = do
+unfoldable pub flagged_tag_at : Version → List ℕ → Option (Option Tag × List ℕ)
+flagged_tag_at v bytes = do
   flag ← byte_at bytes
   if flag.0 == 0 then Some (None, flag.1) else
       (if flag.0 == 1 then tag_fields_at v flag.1 >>= (λ tag. Some (Some tag.0, tag.1)) else None)
 
 -- the same, where the kind may have a tag
 abbrev pub tag_if_at : Version → Bool → List ℕ → Option (Option Tag × List ℕ)
-tag_if_at v has bytes = if has then flagged_at v bytes else Some (None, bytes)
+tag_if_at v has bytes = if has then flagged_tag_at v bytes else Some (None, bytes)
 
 -- an entry that is the whole of the bytes, without its length, after an entry with the clock `last`
 unfoldable pub body_at : Version → ℕ → List ℕ → Option Entry
@@ -102,8 +102,8 @@ read_entry v last bytes = do
 -- ---- a head
 
 -- the bytes that are to be at the front, and the bytes after them
-abbrev pub mark_at : List ℕ → List ℕ → Option (List ℕ × List ℕ)
-mark_at mark bytes = piece_at (length mark) bytes >>= (λ piece. if bytes_eq piece.0 mark then Some piece else None)
+abbrev pub log_mark_at : List ℕ → List ℕ → Option (List ℕ × List ℕ)
+log_mark_at mark bytes = piece_at (length mark) bytes >>= (λ piece. if bytes_eq piece.0 mark then Some piece else None)
 
 -- a name after its length
 unfoldable pub name_at : List ℕ → Option (List ℕ × List ℕ)
@@ -115,7 +115,7 @@ name_at bytes = do
 -- a head at the front, and the bytes after it
 unfoldable pub read_head : List ℕ → Option (Head × List ℕ)
 read_head bytes = do
-  magic ← mark_at (codes "LLOG") bytes
+  magic ← log_mark_at (codes "LLOG") bytes
   number ← le_at w32 magic.1
   version ← version_numbered number.0
   count ← le_at w32 number.1

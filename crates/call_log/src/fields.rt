@@ -2,7 +2,7 @@
 ghost use Rattle.std.specs.Prelude.{◌≡◌, option_map};
 ghost use Rattle.lib_calls.specs.Kinds.{argument_count as argument_count_of, has_incoming as has_incoming_of, has_outgoing as has_outgoing_of, has_tag as has_tag_of};
 ghost use Rattle.call_log.specs.Kind.{is_kind as is_kind_of};
-ghost use Rattle.call_log.specs.Reading.{Gives, call_at, flagged_at, number_if_at, string_at, string_if_at, tag_fields_at, tag_if_at};
+ghost use Rattle.call_log.specs.Reading.{GivesField, call_at, flagged_tag_at, number_if_at, string_at, string_if_at, tag_fields_at, tag_if_at};
 
 use crate::number::{read_u32, read_u64};
 use crate::version::Version;
@@ -58,7 +58,7 @@ pub(crate) fn has_tag(number: u8) -> bool
 #[tactic(auto, unfolding(crate::specs::Reading::call_at))]
 #[inline(always)]
 pub(crate) fn read_call(cursor: &mut Cursor<'_>, version: Version, kind: u8) -> Option<Call>
-    ensures { Gives result cursor.new (call_at version kind cursor.old.left) }
+    ensures { GivesField result cursor.new (call_at version kind cursor.old.left) }
 {
     let count = argument_count(kind);
     let a0 = read_number_if(cursor, version, 0 < count)?;
@@ -70,7 +70,7 @@ pub(crate) fn read_call(cursor: &mut Cursor<'_>, version: Version, kind: u8) -> 
 // A number, where there is one, else 0.
 #[inline(always)]
 fn read_number_if(cursor: &mut Cursor<'_>, version: Version, has: bool) -> Option<u64>
-    ensures { Gives result cursor.new (number_if_at version has cursor.old.left) }
+    ensures { GivesField result cursor.new (number_if_at version has cursor.old.left) }
 {
     if has {
         read_u64(cursor, version)
@@ -86,7 +86,7 @@ pub(crate) fn read_string_if<'a>(
     version: Version,
     has: bool,
 ) -> Option<&'a [u8]>
-    ensures { Gives (option_map (λ x. x.now) result) cursor.new (string_if_at version has cursor.old.left) }
+    ensures { GivesField (option_map (λ x. x.now) result) cursor.new (string_if_at version has cursor.old.left) }
 {
     if has {
         read_string(cursor, version)
@@ -99,7 +99,7 @@ pub(crate) fn read_string_if<'a>(
 #[tactic(auto, unfolding(crate::specs::Reading::string_at))]
 #[inline(always)]
 fn read_string<'a>(cursor: &mut Cursor<'a>, version: Version) -> Option<&'a [u8]>
-    ensures { Gives (option_map (λ x. x.now) result) cursor.new (string_at version cursor.old.left) }
+    ensures { GivesField (option_map (λ x. x.now) result) cursor.new (string_at version cursor.old.left) }
 {
     let size = read_u32(cursor, version)?;
     if size >= 1 << 31 {
@@ -115,7 +115,7 @@ pub(crate) fn read_tag_if(
     version: Version,
     has: bool,
 ) -> Option<Option<Tag>>
-    ensures { Gives result cursor.new (tag_if_at version has cursor.old.left) }
+    ensures { GivesField result cursor.new (tag_if_at version has cursor.old.left) }
 {
     if has {
         read_flagged(cursor, version)
@@ -125,10 +125,10 @@ pub(crate) fn read_tag_if(
 }
 
 // A tag after its flag, or the flag that there is none.
-#[tactic(auto, unfolding(crate::specs::Reading::flagged_at))]
+#[tactic(auto, unfolding(crate::specs::Reading::flagged_tag_at))]
 #[inline(always)]
 fn read_flagged(cursor: &mut Cursor<'_>, version: Version) -> Option<Option<Tag>>
-    ensures { Gives result cursor.new (flagged_at version cursor.old.left) }
+    ensures { GivesField result cursor.new (flagged_tag_at version cursor.old.left) }
 {
     match cursor.byte()? {
         0 => Some(None),
@@ -141,7 +141,7 @@ fn read_flagged(cursor: &mut Cursor<'_>, version: Version) -> Option<Option<Tag>
 #[tactic(auto, unfolding(crate::specs::Reading::tag_fields_at))]
 #[inline(always)]
 fn read_tag(cursor: &mut Cursor<'_>, version: Version) -> Option<Tag>
-    ensures { Gives result cursor.new (tag_fields_at version cursor.old.left) }
+    ensures { GivesField result cursor.new (tag_fields_at version cursor.old.left) }
 {
     let sender = read_u32(cursor, version)?;
     let clock = read_u64(cursor, version)?;

@@ -1,7 +1,7 @@
 // The head of a log.
 ghost use Rattle.std.specs.Prelude.{◌≡◌, ◌++◌, IfSome, IfNone, option_map};
 ghost use Rattle.call_log.specs.Head.{BeginsNoHead, IsHead, head_bytes, head_of};
-ghost use Rattle.call_log.specs.Reading.{Gives, name_at, read_head as head_read};
+ghost use Rattle.call_log.specs.Reading.{GivesField, name_at, read_head as head_read};
 
 use crate::version::Version;
 use fri_bytes::Cursor;
@@ -40,7 +40,7 @@ pub(crate) fn read_head(bytes: &[u8]) -> Option<(LogHead<'_>, &[u8])>
 // The fields of a head, one after the other.
 #[tactic(auto, unfolding(crate::specs::Reading::read_head))]
 fn read_fields<'a>(cursor: &mut Cursor<'a>) -> Option<LogHead<'a>>
-    ensures { Gives (option_map head_of result) cursor.new (head_read cursor.old.left) }
+    ensures { GivesField (option_map head_of result) cursor.new (head_read cursor.old.left) }
 {
     if cursor.take(MAGIC.len())? != MAGIC {
         return None;
@@ -64,7 +64,7 @@ fn read_fields<'a>(cursor: &mut Cursor<'a>) -> Option<LogHead<'a>>
 // A name after its length.
 #[tactic(auto, unfolding(crate::specs::Reading::name_at))]
 fn read_name<'a>(cursor: &mut Cursor<'a>) -> Option<&'a [u8]>
-    ensures { Gives (option_map (λ x. x.now) result) cursor.new (name_at cursor.old.left) }
+    ensures { GivesField (option_map (λ x. x.now) result) cursor.new (name_at cursor.old.left) }
 {
     let size = cursor.byte()?;
     let name = cursor.take(size as usize)?;

@@ -1,6 +1,6 @@
 // The laws of logs, as calls that do nothing.
 ghost use Rattle.call_log.specs.Laws.{ExactLogs, NoLonger, RewrittenIsRead};
-ghost use Rattle.call_log.specs.Walk.{EntryLeads, IsEnd};
+ghost use Rattle.call_log.specs.Walk.{EntryLeads, IsEndOfLog};
 
 /// The functions that say what is in a log give what the bytes spell, and nothing else.
 pub fn exact_logs()
@@ -27,7 +27,7 @@ pub fn rewritten_is_read()
 /// is no entry, and all bytes are the rest.
 pub fn entry_by_entry()
     ensures step { EntryLeads }
-    ensures end { IsEnd }
+    ensures end { IsEndOfLog }
 {
     fri_bytes::laws::exact_readers();
 }

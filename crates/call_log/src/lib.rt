@@ -7,7 +7,7 @@
 //!
 //! Contracts see a log as its head and what is left of it (`Unread` of specs/Log): the version, the clock of the
 //! entry that was read last, and the bytes after that entry. For any bytes after a head of either
-//! version `entries_of` is the longest list of entries whose encodings are there, and `rest_of` is what
+//! version `entries_of` is the longest list of entries whose encodings are there, and `rest_of_log` is what
 //! follows them. `exact_logs` says that reading gives exactly what is there and that what was
 //! written is read back, `entry_by_entry` how one entry more changes it, `rewritten_is_read` the same of `rewrite`, and `no_longer`
 //! that version 2 takes no more bytes for the entry of an event.

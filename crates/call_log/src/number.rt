@@ -2,7 +2,7 @@
 ghost use Rattle.std.specs.Prelude.{◌≡◌, ◌^◌, ◌<◌, ◌≤◌, ◌++◌, length, take, IfSome, OnErr, OnOk};
 ghost use Rattle.std.specs.Int.{w16, w32, w64};
 ghost use Rattle.fri_bytes.specs.Short.{short_at};
-ghost use Rattle.call_log.specs.Reading.{Gives};
+ghost use Rattle.call_log.specs.Reading.{GivesField};
 ghost use Rattle.call_log.specs.Version.{if_below, clock_at, clock_bytes, number_at, number_bytes};
 
 use crate::version::Version;
@@ -12,7 +12,7 @@ use std::alloc::AllocError;
 // The next number of 16 bits.
 #[inline(always)]
 pub(crate) fn read_u16(cursor: &mut Cursor<'_>, version: Version) -> Option<u16>
-    ensures { Gives result cursor.new (number_at version w16 cursor.old.left) }
+    ensures { GivesField result cursor.new (number_at version w16 cursor.old.left) }
 {
     match version {
         Version::One => cursor.u16_le(),
@@ -23,7 +23,7 @@ pub(crate) fn read_u16(cursor: &mut Cursor<'_>, version: Version) -> Option<u16>
 // The next number of 32 bits.
 #[inline(always)]
 pub(crate) fn read_u32(cursor: &mut Cursor<'_>, version: Version) -> Option<u32>
-    ensures { Gives result cursor.new (number_at version w32 cursor.old.left) }
+    ensures { GivesField result cursor.new (number_at version w32 cursor.old.left) }
 {
     match version {
         Version::One => cursor.u32_le(),
@@ -34,7 +34,7 @@ pub(crate) fn read_u32(cursor: &mut Cursor<'_>, version: Version) -> Option<u32>
 // The next number of 64 bits.
 #[inline(always)]
 pub(crate) fn read_u64(cursor: &mut Cursor<'_>, version: Version) -> Option<u64>
-    ensures { Gives result cursor.new (number_at version w64 cursor.old.left) }
+    ensures { GivesField result cursor.new (number_at version w64 cursor.old.left) }
 {
     match version {
         Version::One => cursor.u64_le(),
@@ -45,7 +45,7 @@ pub(crate) fn read_u64(cursor: &mut Cursor<'_>, version: Version) -> Option<u64>
 // The next short number, which is below the limit.
 #[inline(always)]
 fn read_below(cursor: &mut Cursor<'_>, limit: u64) -> Option<u64>
-    ensures found { Gives result cursor.new (if_below limit (short_at cursor.old.left)) }
+    ensures found { GivesField result cursor.new (if_below limit (short_at cursor.old.left)) }
     ensures small { IfSome result (λ number. number < limit) }
 {
     let number = cursor.short_u64()?;
@@ -55,7 +55,7 @@ fn read_below(cursor: &mut Cursor<'_>, limit: u64) -> Option<u64>
 // The clock of the next entry, after an entry with the clock `last`.
 #[inline(always)]
 pub(crate) fn read_clock(cursor: &mut Cursor<'_>, version: Version, last: u64) -> Option<u64>
-    ensures { Gives result cursor.new (clock_at version last cursor.old.left) }
+    ensures { GivesField result cursor.new (clock_at version last cursor.old.left) }
 {
     match version {
         Version::One => cursor.u64_le(),

@@ -2,7 +2,7 @@
 ghost use Rattle.std.specs.Prelude.{◌≡◌, ◌^◌, ◌<◌, ◌≤◌, ◌++◌, ◌&&◌, nat_lt, length, map, take, Some, OnOk, OnErr};
 ghost use Rattle.std.specs.List.{concat};
 ghost use Rattle.lib_calls.specs.Entry.{IsStringIf, IsTagIf, entry_of, IsShaped};
-ghost use Rattle.call_log.specs.Entry.{argument_bytes, body_bytes, encoding, flagged, front_bytes, number_if, reply_bytes, string_if, tag_if};
+ghost use Rattle.call_log.specs.Entry.{argument_bytes, body_bytes, encoding, flagged_tag, front_bytes, number_if, reply_bytes, string_if, tag_if};
 ghost use Rattle.call_log.specs.declared.version.Version.TheVariants.{Two};
 ghost use Rattle.call_log.specs.Version.{clock_gap};
 ghost use Rattle.call_log.specs.Head.{IsHead, head_bytes, head_of};
@@ -267,7 +267,7 @@ fn put_tag_if(
 // Adds a tag after the flag that there is one, or some of that where memory runs out.
 #[inline(always)]
 fn put_tag(out: &mut Vec<u8>, version: Version, tag: Tag) -> Result<(), AllocError>
-    ensures ok { OnOk result (out.new.items ≡ out.old.items ++ flagged version (Some tag)) }
+    ensures ok { OnOk result (out.new.items ≡ out.old.items ++ flagged_tag version (Some tag)) }
     ensures err { OnErr result (take (length out.old.items) out.new.items ≡ out.old.items) }
 {
     put_byte(out, 1)?;

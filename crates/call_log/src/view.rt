@@ -4,7 +4,7 @@ ghost use Rattle.lib_calls.specs.Entry.{IsShaped, entry_of};
 ghost use Rattle.call_log.specs.Entry.{BeginsNoEntry, encoding};
 ghost use Rattle.call_log.specs.Head.{BeginsNoHead, IsHead, head_bytes, head_of};
 ghost use Rattle.call_log.specs.Limits.{least_entry};
-ghost use Rattle.call_log.specs.Log.{entries_of, entry_at, head_at, rest_of};
+ghost use Rattle.call_log.specs.Log.{entries_of, entry_at, head_at, rest_of_log};
 
 use crate::entry::read_entry;
 use crate::head::{BadHead, LogHead, read_head};
@@ -84,8 +84,8 @@ impl<'a> LogView<'a> {
         // It is the first of all entries, and the others are those of what is left.
         ensures entries { MatchOption result (entries_of self.old.left ≡ [])
             (λ e. entries_of self.old.left ≡ entry_of e ∷ entries_of self.new.left) }
-        ensures rest { rest_of self.old.left ≡ rest_of self.new.left }
-        ensures end { IfNone result (rest_of self.new.left ≡ self.new.left.bytes) }
+        ensures rest { rest_of_log self.old.left ≡ rest_of_log self.new.left }
+        ensures end { IfNone result (rest_of_log self.new.left ≡ self.new.left.bytes) }
         ensures shorter { IfSome result (λ _. length self.new.left.bytes + least_entry ≤ length self.old.left.bytes) }
     {
         fri_bytes::laws::exact_readers();

@@ -9,7 +9,7 @@ use Rattle.std.proofs.lemmas.Bool.{cases_lt, cases_order}
 use Rattle.std.proofs.lemmas.Bool.Decides.{Decides-eqb, nat_tests}
 use Rattle.std.proofs.lemmas.List.Sorted.{searched}
 use Rattle.std.proofs.lemmas.Option.{get_or_from_slice_get, same_Some, slice_get-get_or, slice_get_within}
-use Rattle.causal_cut.specs.Asks.{AreRising, number_among}
+use Rattle.causal_cut.specs.Asks.{AreRisingClocks, number_among}
 use Rattle.causal_cut.proofs.ListPlaces.{first_is, none_is}
 
 pub all_get : {A : Type 0} (P : A → Type 0) (xs : List A) (k : ℕ) (x : A) → AllByRecursion P xs → slice_get xs k ≡ Some x → P x
@@ -17,7 +17,7 @@ all_get P [] k x all at = absurd (cc)
 all_get P (y ∷ xs) zero x all at = subst P (same_Some y x at) all.0
 all_get P (y ∷ xs) (suc k) x all at = all_get P xs k x all.1 at
 
-pub rising_get : (cs : List ℕ) (i k x y : ℕ) → AreRising cs → i < k → slice_get cs i ≡ Some x → slice_get cs k ≡ Some y → x < y
+pub rising_get : (cs : List ℕ) (i k x y : ℕ) → AreRisingClocks cs → i < k → slice_get cs i ≡ Some x → slice_get cs k ≡ Some y → x < y
 rising_get [] i k x y rising less at_i at_k = absurd (cc)
 rising_get (c ∷ cs) i zero x y rising less at_i at_k = absurd (omega (arith, less))
 rising_get (c ∷ cs) zero (suc k) x y rising less at_i at_k = omega (arith, all_get (λ d. c < d) cs k y rising.0 at_k, same_Some c x at_i)
@@ -26,7 +26,7 @@ rising_get (c ∷ cs) (suc i) (suc k) x y rising less at_i at_k = rising_get cs 
 not_less : (x y : ℕ) → x < y → (x == y) ≡ false
 not_less x y less = grind (arith, nat_tests)
 
-pub number_found : (clock : ℕ) (cs : List ℕ) (i : ℕ) → AreRising cs → slice_get cs i ≡ Some clock → number_among clock cs ≡ Some (i + 1)
+pub number_found : (clock : ℕ) (cs : List ℕ) (i : ℕ) → AreRisingClocks cs → slice_get cs i ≡ Some clock → number_among clock cs ≡ Some (i + 1)
 number_found clock cs i rising at = ap (option_map suc) (first_is (λ c. c == clock) cs i (record {
   item = clock;
   at = at;
@@ -37,7 +37,7 @@ number_found clock cs i rising at = ap (option_map suc) (first_is (λ c. c == cl
 pub number_none : (clock : ℕ) (cs : List ℕ) → ((k x : ℕ) → slice_get cs k ≡ Some x → (x == clock) ≡ false) → number_among clock cs ≡ None
 number_none clock cs none = ap (option_map suc) (none_is (λ c. c == clock) cs none)
 
-level : (cs : List ℕ) → AreRising cs → (i j : ℕ) → i ≤ j → j < length cs → get_or cs i 0 ≤ get_or cs j 0
+level : (cs : List ℕ) → AreRisingClocks cs → (i j : ℕ) → i ≤ j → j < length cs → get_or cs i 0 ≤ get_or cs j 0
 level cs rising i j most within = elim (cases_order i j) [
   | inl same ↦ omega (arith, ap (λ k. get_or cs k 0) same)
   | inr apart ↦ elim apart [
@@ -61,7 +61,7 @@ differs cs clock i below above k x at =
       not_same x y less = grind (arith, nat_tests)
 
 -- what a search gives
-pub number_searched : (clock : ℕ) (cs : List ℕ) (r : Result ℕ ℕ) → IsBinarySearchResult (λ y. nat_cmp y clock) cs r → AreRising cs → number_among clock cs ≡ option_map (λ i. i + 1) (result_ok r)
+pub number_searched : (clock : ℕ) (cs : List ℕ) (r : Result ℕ ℕ) → IsBinarySearchResult (λ y. nat_cmp y clock) cs r → AreRisingClocks cs → number_among clock cs ≡ option_map (λ i. i + 1) (result_ok r)
 number_searched clock cs (Ok i) is rising =
     let found = searched cs clock (Ok i) is (level cs rising) in
     number_found clock cs i rising (slice_get-get_or cs i 0 found.0 ∙ ap Some found.1)

@@ -7,7 +7,7 @@ use Rattle.std.proofs.lemmas.List.Folds.{list_all-append}
 use Rattle.std.proofs.lemmas.Option.{same_Some}
 use Rattle.lib_calls.specs.declared.entry.Entry.{Entry}
 use Rattle.group_order.specs.Order.{list_of}
-use Rattle.proc_replay.specs.Course.{ahead}
+use Rattle.proc_replay.specs.Course.{entries_ahead}
 use Rattle.proc_replay.specs.Replaying.{Replaying}
 use Rattle.causal_cut.specs.Past.{events_within}
 use Rattle.causal_cut.proofs.Families.{at}
@@ -29,17 +29,17 @@ module _ (test : Entry → Bool) where
   abbrev pub EachPasses : (ℕ → List Entry) → List ℕ → Type 0
   EachPasses own family = (node m : ℕ) (e : Entry) → m < at family node → slice_get (own node) m ≡ Some e → IsTrue (test e)
 
-  pub each_passes : (start : List Replaying) (family : List ℕ) → IsTrue (list_all test (events_within start family)) → EachPasses (list_of (map ahead start)) family
+  pub each_passes : (start : List Replaying) (family : List ℕ) → IsTrue (list_all test (events_within start family)) → EachPasses (list_of (map entries_ahead start)) family
   each_passes [] family all node m e within there = absurd (cc)
   each_passes (r ∷ rs) [] all node m e within there = absurd (omega (arith, within))
   each_passes (r ∷ rs) (n ∷ ns) all zero m e within there =
-      take_passes n (ahead r) (and_parts (list_all test (take n (ahead r))) (list_all test (events_within rs ns)) (sym (list_all-append test (take n (ahead r)) (events_within rs ns)) ∙ all)).0 m e within there
+      take_passes n (entries_ahead r) (and_parts (list_all test (take n (entries_ahead r))) (list_all test (events_within rs ns)) (sym (list_all-append test (take n (entries_ahead r)) (events_within rs ns)) ∙ all)).0 m e within there
   each_passes (r ∷ rs) (n ∷ ns) all (suc node) m e within there =
-      each_passes rs ns (and_parts (list_all test (take n (ahead r))) (list_all test (events_within rs ns)) (sym (list_all-append test (take n (ahead r)) (events_within rs ns)) ∙ all)).1 node m e within there
+      each_passes rs ns (and_parts (list_all test (take n (entries_ahead r))) (list_all test (events_within rs ns)) (sym (list_all-append test (take n (entries_ahead r)) (events_within rs ns)) ∙ all)).1 node m e within there
 
-  pub passes_each : (start : List Replaying) (family : List ℕ) → EachPasses (list_of (map ahead start)) family → IsTrue (list_all test (events_within start family))
+  pub passes_each : (start : List Replaying) (family : List ℕ) → EachPasses (list_of (map entries_ahead start)) family → IsTrue (list_all test (events_within start family))
   passes_each [] family each = refl
   passes_each (r ∷ rs) [] each = refl
   passes_each (r ∷ rs) (n ∷ ns) each =
-      list_all-append test (take n (ahead r)) (events_within rs ns)
-      ∙ and_from (list_all test (take n (ahead r))) (list_all test (events_within rs ns)) (passes_take n (ahead r) (each 0)) (passes_each rs ns (λ node. each (suc node)))
+      list_all-append test (take n (entries_ahead r)) (events_within rs ns)
+      ∙ and_from (list_all test (take n (entries_ahead r))) (list_all test (events_within rs ns)) (passes_take n (entries_ahead r) (each 0)) (passes_each rs ns (λ node. each (suc node)))

@@ -5,9 +5,9 @@ use Rattle.std.specs.List.{AllByRecursion}
 use Rattle.std.proofs.lemmas.Bool.Decides.{Decides-eqb, nat_tests}
 use Rattle.std.proofs.lemmas.Option.{same_Some}
 use Rattle.lib_calls.specs.declared.entry.Entry.{Entry}
-use Rattle.group_order.specs.Order.{IsSorted, NodeEvent, of_node, precedes}
+use Rattle.group_order.specs.Order.{IsSorted, NodeEvent, of_node, event_precedes}
 use Rattle.group_state.specs.Place.{entry_clock}
-use Rattle.causal_cut.specs.Asks.{AreRising}
+use Rattle.causal_cut.specs.Asks.{AreRisingClocks}
 
 abbrev entry_in : NodeEvent Entry → Entry
 entry_in e = e.entry
@@ -90,12 +90,12 @@ all_take P (suc n) (x ∷ xs) all = (all.0, all_take P n xs all.1)
 pub sorted_take : (n : ℕ) (es : List (NodeEvent Entry)) → IsSorted entry_clock es → IsSorted entry_clock (take n es)
 sorted_take zero es sorted = tt
 sorted_take (suc n) [] sorted = tt
-sorted_take (suc n) (e ∷ es) sorted = (all_take (λ f. precedes entry_clock e f ≡ true) n es sorted.0, sorted_take n es sorted.1)
+sorted_take (suc n) (e ∷ es) sorted = (all_take (λ f. event_precedes entry_clock e f ≡ true) n es sorted.0, sorted_take n es sorted.1)
 
-less_clock : (e f : NodeEvent Entry) (node : ℕ) → precedes entry_clock e f ≡ true → e.node ≡ node → (f.node == node) ≡ true → e.entry.clock < f.entry.clock
+less_clock : (e f : NodeEvent Entry) (node : ℕ) → event_precedes entry_clock e f ≡ true → e.node ≡ node → (f.node == node) ≡ true → e.entry.clock < f.entry.clock
 less_clock e f node before of same = grind (arith, nat_tests)
 
-above_own : (node : ℕ) (e : NodeEvent Entry) (es : List (NodeEvent Entry)) → e.node ≡ node → AllByRecursion (λ f. precedes entry_clock e f ≡ true) es
+above_own : (node : ℕ) (e : NodeEvent Entry) (es : List (NodeEvent Entry)) → e.node ≡ node → AllByRecursion (λ f. event_precedes entry_clock e f ≡ true) es
     → AllByRecursion (λ clock. e.entry.clock < clock) (map entry_clock (of_node node es))
 above_own node e [] of before = tt
 above_own node e (f ∷ es) of before = by_test (above_own node e es of before.1) (f.node == node) (less_clock e f node before.0 of) where
@@ -104,10 +104,10 @@ above_own node e (f ∷ es) of before = by_test (above_own node e es of before.1
   by_test rest true less = (less refl, rest)
   by_test rest false less = rest
 
-pub own_rises : (node : ℕ) (es : List (NodeEvent Entry)) → IsSorted entry_clock es → AreRising (map entry_clock (of_node node es))
+pub own_rises : (node : ℕ) (es : List (NodeEvent Entry)) → IsSorted entry_clock es → AreRisingClocks (map entry_clock (of_node node es))
 own_rises node [] sorted = tt
 own_rises node (e ∷ es) sorted = by_test (own_rises node es sorted.1) (e.node == node) (λ is. above_own node e es ((Decides-eqb e.node node).0 is) sorted.0) where
-  by_test : AreRising (map entry_clock (of_node node es)) → (b : Bool) → (b ≡ true → AllByRecursion (λ clock. e.entry.clock < clock) (map entry_clock (of_node node es)))
-      → AreRising (map entry_clock (with_first e es node b))
+  by_test : AreRisingClocks (map entry_clock (of_node node es)) → (b : Bool) → (b ≡ true → AllByRecursion (λ clock. e.entry.clock < clock) (map entry_clock (of_node node es)))
+      → AreRisingClocks (map entry_clock (with_first e es node b))
   by_test rest true above = (above refl, rest)
   by_test rest false above = rest

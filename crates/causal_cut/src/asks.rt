@@ -2,7 +2,7 @@
 ghost use Rattle.std.specs.Prelude.{◌≡◌, ◌==◌, ◌<◌, ◌≤◌, ◌++◌, IfOk, OnOk, length, position};
 ghost use Rattle.std.specs.Option.{option_to_list};
 ghost use Rattle.group_state.specs.Moves.{event_of};
-ghost use Rattle.causal_cut.specs.Asks.{AreClocks, ask_of, processes};
+ghost use Rattle.causal_cut.specs.Asks.{AreClocks, ask_of, process_numbers};
 
 use crate::clocks::Clocks;
 use group_state::GroupEvent;
@@ -20,8 +20,11 @@ pub(crate) struct Ask {
 }
 
 /// The number of each node's process.
-pub(crate) fn processes(alloc: Global, parts: &[Replayer<'_, '_>]) -> Result<Vec<u32>, AllocError>
-    ensures { IfOk result (λ numbers. numbers.items ≡ processes parts.now) }
+pub(crate) fn process_numbers(
+    alloc: Global,
+    parts: &[Replayer<'_, '_>],
+) -> Result<Vec<u32>, AllocError>
+    ensures { IfOk result (λ numbers. numbers.items ≡ process_numbers parts.now) }
 {
     let mut numbers = Vec::new(alloc);
     for part in parts {

@@ -1,6 +1,6 @@
 // The clocks of the events so far.
 ghost use Rattle.std.specs.Prelude.{◌≡◌, ◌<◌, ◌^◌, [], IfOk, OnOk, length, map, replicate, slice_index_or};
-ghost use Rattle.causal_cut.specs.Asks.{AreRising, number_among, with_clock};
+ghost use Rattle.causal_cut.specs.Asks.{AreRisingClocks, number_among, with_node_clock};
 
 use std::alloc::{AllocError, Global};
 use std::marker::Model;
@@ -34,7 +34,7 @@ impl Clocks {
     /// The node had an event with this clock.
     pub(crate) fn add(&mut self, node: u32, clock: u64) -> Result<(), AllocError>
         requires { node < length self.old }
-        ensures { OnOk result (self.new ≡ with_clock self.old node clock) }
+        ensures { OnOk result (self.new ≡ with_node_clock self.old node clock) }
     {
         self.of[node as usize].push(clock)?;
         Ok(())
@@ -52,7 +52,7 @@ impl Clocks {
     /// The number of the node's event with this clock, from 1. None comes exactly where there is none.
     pub(crate) fn number(&self, node: u32, clock: u64) -> Option<u64>
         requires node { node < length self.now }
-        requires rises { AreRising (slice_index_or self.now node []) }
+        requires rises { AreRisingClocks (slice_index_or self.now node []) }
         ensures { result ≡ number_among clock (slice_index_or self.now node []) }
     {
         let index = self.of[node as usize].binary_search(&clock).ok()?;

@@ -5,7 +5,7 @@ ghost use Rattle.causal_cut.specs.Laws.{IsLeastPast};
 ghost use Rattle.causal_cut.specs.Past.{lengths_or_none};
 ghost use Rattle.causal_cut.specs.Seen.{IsCutError};
 
-use crate::asks::processes;
+use crate::asks::process_numbers;
 use crate::refusal::CutError;
 use crate::settle::least_family;
 use crate::walk::walk;
@@ -60,7 +60,7 @@ pub fn least_cut(
     ensures least { IfOk result (λ cut. IsLeastPast parts.entry.items node event cut.kept) }
     ensures fits { IfOk result (λ _. PartsFit parts.entry.items) }
 {
-    let processes = processes(alloc, &parts)?;
+    let processes = process_numbers(alloc, &parts)?;
     let group = Group::begin(alloc, parts)?;
     let walked = walk(alloc, group, &processes)?;
     let accepted = walked.counts;

@@ -1,15 +1,15 @@
 // How long a family must be for what its events ask for.
 ghost use Rattle.std.specs.Prelude.{◌≡◌, ◌<◌, IfOk, length};
-ghost use Rattle.causal_cut.specs.Asks.{AreOfNodes, alone, follow, settled};
+ghost use Rattle.causal_cut.specs.Asks.{AreOfNodes, lengths_of_one, follow_ask, settled_family};
 
 use crate::asks::Ask;
 use std::alloc::{AllocError, Global};
 
 // Gives a family what an event asks for, where it holds that event.
-fn follow(lengths: &mut [u64], ask: &Ask)
+fn follow_ask(lengths: &mut [u64], ask: &Ask)
     requires node { ask.now.node < length lengths.old }
     requires of { ask.now.of < length lengths.old }
-    ensures { lengths.new ≡ follow ask.now lengths.old }
+    ensures { lengths.new ≡ follow_ask ask.now lengths.old }
 {
     if ask.number <= lengths[ask.node as usize] {
         let length = &mut lengths[ask.of as usize];
@@ -21,10 +21,10 @@ fn follow(lengths: &mut [u64], ask: &Ask)
 // comes before it.
 fn settle(lengths: &mut [u64], asks: &[Ask])
     requires { AreOfNodes (length lengths.old) asks.now }
-    ensures { lengths.new ≡ settled asks.now lengths.old }
+    ensures { lengths.new ≡ settled_family asks.now lengths.old }
 {
     for ask in asks.iter().rev() {
-        follow(lengths, ask);
+        follow_ask(lengths, ask);
     }
 }
 
@@ -38,7 +38,7 @@ pub(crate) fn least_family(
 ) -> Result<Vec<u64>, AllocError>
     requires node { node < nodes }
     requires asks { AreOfNodes nodes asks.now }
-    ensures { IfOk result (λ family. family.items ≡ settled asks.now (alone nodes node event)) }
+    ensures { IfOk result (λ family. family.items ≡ settled_family asks.now (lengths_of_one nodes node event)) }
 {
     let mut family = Vec::from_elem(alloc, 0, nodes)?;
     family[node as usize] = event;

@@ -1,7 +1,7 @@
 // The walk over the events of a group.
 ghost use Rattle.std.specs.Prelude.{◌≡◌, IfOk};
 ghost use Rattle.group_state.specs.Place.{PartsFit};
-ghost use Rattle.causal_cut.specs.Asks.{AreAsks, processes};
+ghost use Rattle.causal_cut.specs.Asks.{AreAsks, process_numbers};
 ghost use Rattle.causal_cut.specs.Past.{accepted_counts};
 
 use crate::asks::{Ask, push_ask};
@@ -23,7 +23,7 @@ pub(crate) fn walk(
     numbers: &[u32],
 ) -> Result<Walked, AllocError>
     requires at { group.at ≡ 0 }
-    requires numbers { numbers.now ≡ processes group.start }
+    requires numbers { numbers.now ≡ process_numbers group.start }
     ensures asks { IfOk result (λ walked. AreAsks group.entry.start walked.asks.items) }
     ensures counts { IfOk result (λ walked. walked.counts.items ≡ accepted_counts group.entry.start) }
     ensures fits { IfOk result (λ _. PartsFit group.entry.start) }

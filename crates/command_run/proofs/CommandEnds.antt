@@ -3,7 +3,7 @@ use Rattle.std.proofs.Common.{◌≡◌, ◌≢◌, ◌++◌, ℕ, List, [], Boo
 use Rattle.std.specs.Result.{IsOk}
 use Rattle.std.proofs.lemmas.Grind.{common_steps}
 use Rattle.std.proofs.lemmas.Option.{same_Some}
-use Rattle.fri_outside.specs.Outside.{Folder, Counts, Rose}
+use Rattle.fri_outside.specs.Outside.{Folder, Counts, CountRose}
 use Rattle.fri_outside.specs.Terminal.{Hearing}
 use Rattle.fri_outside.specs.Several.{with_files}
 use Rattle.command_run.specs.declared.status.Status.{Status}
@@ -13,27 +13,27 @@ use Rattle.command_run.specs.declared.refusal.WorkText.TheVariants as answered
 use Rattle.command_run.specs.declared.refusal.StopCause.{StopCause}
 use Rattle.command_run.specs.declared.refusal.StopCause.TheVariants as refusal
 use Rattle.command_run.specs.Outcome.{CommandOutcome, NotACommand, refused_line, usage_line, outcome_status, outcome_text, writes_of}
-use Rattle.command_run.specs.Run.{CallEnds, FaultsTold, Finished, Outside, Performed, expectation, file_state}
-use Rattle.command_run.specs.Call.{CountsFaults, DivergesOnlyIf, FaultStatus, FinishesCall, IsAnswerResult, IsAnswerStatus, LeavesFiles, MakesWorkFiles, Prints, PrintsAbsent, PrintsLast, PrintsRefusal, Raises, TellsOutcome, said_after, status_and_text, output_state}
+use Rattle.command_run.specs.Run.{CallEnds, TellsFaults, FinishedCommand, Outside, PerformedCommand, expectation, file_state}
+use Rattle.command_run.specs.Call.{CountsFaults, DivergesOnlyIf, FaultStatus, FinishesCall, IsAnswerResult, IsAnswerStatus, LeavesFiles, MakesWorkFiles, PrintsText, PrintsAbsent, PrintsAfterFiles, PrintsRefusal, RaisesCount, TellsOutcome, failed_says_after, status_and_text, output_state}
 use Rattle.command_run.specs.CountLaws.{counted_faults}
 use Rattle.command_run.specs.FileLaws.{same_changes, same_others}
-use Rattle.command_run.specs.OutcomeLaws.{none_left, prints_none}
+use Rattle.command_run.specs.OutcomeLaws.{no_file_left, prints_none}
 use Rattle.command_run.proofs.MadeFiles.{all_changes, makes_others}
 
 text_ends : (ended : Result WorkText StopCause) (answer : Status) (outcome : CommandOutcome) (before after : Option (List ℕ))
     → TellsOutcome outcome ended
-    → IfSome (status_and_text ended) (λ a. Prints answer a.1 before after)
+    → IfSome (status_and_text ended) (λ a. PrintsText answer a.1 before after)
     → IfNone (status_and_text ended) (after ≡ before)
     → FaultStatus ended answer
-    → Prints answer (outcome_text outcome) before after
+    → PrintsText answer (outcome_text outcome) before after
 text_ends (Ok (answered.Done text)) answer outcome before after (work, is, same, diverged) prints silent fault =
-    subst (λ t. Prints answer t before after) (same ∙ sym (ap outcome_text is)) prints
+    subst (λ t. PrintsText answer t before after) (same ∙ sym (ap outcome_text is)) prints
 text_ends (Ok (answered.Diverged text)) answer outcome before after (work, is, same, diverged) prints silent fault =
-    subst (λ t. Prints answer t before after) (same ∙ sym (ap outcome_text is)) prints
+    subst (λ t. PrintsText answer t before after) (same ∙ sym (ap outcome_text is)) prints
 text_ends (Err (refusal.Refused file why)) answer outcome before after (done, is, none) prints silent fault =
-    subst (λ t. Prints answer t before after) (ap (λ t. t ++ refused_line (string_bytes file) why) (sym none) ∙ sym (ap outcome_text is)) prints
+    subst (λ t. PrintsText answer t before after) (ap (λ t. t ++ refused_line (string_bytes file) why) (sym none) ∙ sym (ap outcome_text is)) prints
 text_ends (Err (refusal.Absent file)) answer outcome before after is prints silent fault =
-    subst (λ o. Prints answer (outcome_text o) before after) (sym is) prints
+    subst (λ o. PrintsText answer (outcome_text o) before after) (sym is) prints
 text_ends (Err refusal.ReadFault) answer outcome before after is prints silent fault =
     prints_none answer _ before after (λ h. subst IsAnswerStatus fault h) silent
 text_ends (Err refusal.WriteFault) answer outcome before after is prints silent fault =
@@ -54,11 +54,11 @@ files_end (Err refusal.NoMemory) answer files before after makes fault = record 
 
 refusal_ends : (ended : Result WorkText StopCause) (answer : Status) (before after : Option (List ℕ)) (old new : Counts)
     → IfSome (status_and_text ended) (λ a. IsAnswerStatus answer → answer ≡ a.0)
-    → IfSome (status_and_text ended) (λ a. Prints answer a.1 before after)
+    → IfSome (status_and_text ended) (λ a. PrintsText answer a.1 before after)
     → FaultStatus ended answer
-    → IfErr ended (Raises old new)
+    → IfErr ended (RaisesCount old new)
     → answer ≡ ends.Refused
-    → PrintsRefusal before after (λ file. Rose old.misses new.misses)
+    → PrintsRefusal before after (λ file. CountRose old.misses new.misses)
 refusal_ends (Ok (answered.Done text)) answer before after old new answers prints fault cause is =
     let e : ends.Refused ≡ ends.Done = sym is ∙ answers (subst IsAnswerStatus (sym is) tt) in cc
 refusal_ends (Ok (answered.Diverged text)) answer before after old new answers prints fault cause is =
@@ -100,7 +100,7 @@ is_end (Err refusal.NoMemory) answer fault is = subst IsAnswerStatus fault is
 -- the text of an absent file
 absent_ends : (ended : Result WorkText StopCause) (answer : Status) (before after : Option (List ℕ))
     → IfSome (status_and_text ended) (λ a. IsAnswerStatus answer → answer ≡ a.0)
-    → IfSome (status_and_text ended) (λ a. Prints answer a.1 before after)
+    → IfSome (status_and_text ended) (λ a. PrintsText answer a.1 before after)
     → FaultStatus ended answer
     → answer ≡ ends.Absent
     → PrintsAbsent before after
@@ -116,7 +116,7 @@ absent_ends (Err refusal.NoMemory) answer before after answers prints fault is =
 last_ends : (ended : Result WorkText StopCause) (files : List (List ℕ × List ℕ)) (printed printed_after : Option (List ℕ)) (before after : Option Folder)
     → MakesWorkFiles ended files before after
     → IfNone (status_and_text ended) (printed_after ≡ printed)
-    → PrintsLast files printed printed_after before after
+    → PrintsAfterFiles files printed printed_after before after
 last_ends (Ok (answered.Done text)) files printed printed_after before after makes silent = inr makes
 last_ends (Ok (answered.Diverged text)) files printed printed_after before after makes silent = inr makes
 last_ends (Err (refusal.Refused file why)) files printed printed_after before after makes silent = inr makes
@@ -129,9 +129,9 @@ last_ends (Err refusal.NoMemory) files printed printed_after before after makes 
 reads_end : (ended : Result WorkText StopCause) (answer : Status) (old new : Counts)
     → IfSome (status_and_text ended) (λ _. answer ≢ ends.ReadFault)
     → FaultStatus ended answer
-    → IfErr ended (Raises old new)
+    → IfErr ended (RaisesCount old new)
     → answer ≡ ends.ReadFault
-    → Rose old.reads new.reads
+    → CountRose old.reads new.reads
 reads_end (Ok (answered.Done text)) answer old new other fault cause is = absurd (other is)
 reads_end (Ok (answered.Diverged text)) answer old new other fault cause is = absurd (other is)
 reads_end (Err (refusal.Refused file why)) answer old new other fault cause is = absurd (other is)
@@ -144,7 +144,7 @@ reads_end (Err refusal.NoMemory) answer old new other fault cause is = let e = s
 
 -- a text was written, or its write failed, or memory ran out
 pub said_faults : (answer : Status) (old new : Outside) → new.counts.reads ≡ old.counts.reads → new.counts.writes ≡ old.counts.writes → new.hearing ≡ old.hearing
-    → new.out_faults ≡ said_after old.out_faults answer → (answer ≢ ends.ReadFault) → FaultsTold answer old new
+    → new.out_faults ≡ failed_says_after old.out_faults answer → (answer ≢ ends.ReadFault) → TellsFaults answer old new
 said_faults ends.Done old new r w h s other = counted_faults new _ _ _ _ r w (ap (λ (n : Hearing). n.faults) h) s
 said_faults ends.Diverged old new r w h s other = counted_faults new _ _ _ _ r w (ap (λ (n : Hearing). n.faults) h) s
 said_faults ends.Usage old new r w h s other = counted_faults new _ _ _ _ r w (ap (λ (n : Hearing). n.faults) h) s
@@ -155,14 +155,14 @@ said_faults ends.WriteFault old new r w h s other = inr (counted_faults new _ _ 
 said_faults ends.NoMemory old new r w h s other = counted_faults new _ _ _ _ r w (ap (λ (n : Hearing). n.faults) h) s
 
 ended_faults : (ended : Result WorkText StopCause) (answer : Status) (old new : Outside) → CountsFaults old.counts new.counts ended → FinishesCall ended answer (output_state old.taken old.out_faults) (output_state new.taken new.out_faults)
-    → new.hearing ≡ old.hearing → FaultsTold answer old new
+    → new.hearing ≡ old.hearing → TellsFaults answer old new
 ended_faults (Ok (answered.Done text)) answer old new c f h = said_faults answer old new c.reads c.writes h f.counted f.read_fault
 ended_faults (Ok (answered.Diverged text)) answer old new c f h = said_faults answer old new c.reads c.writes h f.counted f.read_fault
 ended_faults (Err (refusal.Refused file why)) answer old new c f h = said_faults answer old new c.reads c.writes h f.counted f.read_fault
 ended_faults (Err (refusal.Absent file)) answer old new c f h = said_faults answer old new c.reads c.writes h f.counted f.read_fault
-ended_faults (Err refusal.ReadFault) answer old new c f h = subst (λ (a : Status). FaultsTold a old new) (sym f.fault) (inl (counted_faults new _ _ _ _ c.reads c.writes (ap (λ (n : Hearing). n.faults) h) f.quiet))
-ended_faults (Err refusal.WriteFault) answer old new c f h = subst (λ (a : Status). FaultsTold a old new) (sym f.fault) (inl (counted_faults new _ _ _ _ c.reads c.writes (ap (λ (n : Hearing). n.faults) h) f.quiet))
-ended_faults (Err refusal.NoMemory) answer old new c f h = subst (λ (a : Status). FaultsTold a old new) (sym f.fault) (counted_faults new _ _ _ _ c.reads c.writes (ap (λ (n : Hearing). n.faults) h) f.quiet)
+ended_faults (Err refusal.ReadFault) answer old new c f h = subst (λ (a : Status). TellsFaults a old new) (sym f.fault) (inl (counted_faults new _ _ _ _ c.reads c.writes (ap (λ (n : Hearing). n.faults) h) f.quiet))
+ended_faults (Err refusal.WriteFault) answer old new c f h = subst (λ (a : Status). TellsFaults a old new) (sym f.fault) (inl (counted_faults new _ _ _ _ c.reads c.writes (ap (λ (n : Hearing). n.faults) h) f.quiet))
+ended_faults (Err refusal.NoMemory) answer old new c f h = subst (λ (a : Status). TellsFaults a old new) (sym f.fault) (counted_faults new _ _ _ _ c.reads c.writes (ap (λ (n : Hearing). n.faults) h) f.quiet)
 
 -- ---- which statuses never come
 
@@ -208,7 +208,7 @@ done_ends (Err refusal.NoMemory) answer answers fault is = let e = sym is ∙ fa
 
 module _ (expected : Option CommandOutcome) (written : Folder → List (List ℕ)) where
   call_ends : (may_diverge : Bool) (ended : Result WorkText StopCause) (answer : Status) (old new : Outside)
-      → Performed (expectation expected written may_diverge) (file_state old.told old.counts) (file_state new.told new.counts) ended
+      → PerformedCommand (expectation expected written may_diverge) (file_state old.told old.counts) (file_state new.told new.counts) ended
       → FinishesCall ended answer (output_state old.taken old.out_faults) (output_state new.taken new.out_faults)
       → new.hearing ≡ old.hearing
       → CallEnds expected written old new answer
@@ -233,10 +233,10 @@ module _ (expected : Option CommandOutcome) (written : Folder → List (List ℕ
 
   -- a result whose text was printed
   pub finishes : (may_diverge : Bool) (ended : Result WorkText StopCause) (answer : Status) (old new : Outside)
-      → Performed (expectation expected written may_diverge) (file_state old.told old.counts) (file_state new.told new.counts) ended
+      → PerformedCommand (expectation expected written may_diverge) (file_state old.told old.counts) (file_state new.told new.counts) ended
       → FinishesCall ended answer (output_state old.taken old.out_faults) (output_state new.taken new.out_faults)
       → new.hearing ≡ old.hearing
-      → Finished (expectation expected written may_diverge) ended old new answer
+      → FinishedCommand (expectation expected written may_diverge) ended old new answer
   finishes may_diverge ended answer old new p f unheard = record {
     call = call_ends may_diverge ended answer old new p f unheard;
     is_command = not_usage ended answer f.status f.fault;
@@ -268,16 +268,16 @@ module _ (expected : Option CommandOutcome) (written : Folder → List (List ℕ
 -- words that are no command
 pub words_end : (answer : Status) (old new : Outside) → new.told ≡ old.told
     → (IsAnswerStatus answer → answer ≡ ends.Usage)
-    → Prints answer usage_line old.taken new.taken
+    → PrintsText answer usage_line old.taken new.taken
     → (answer ≢ ends.ReadFault)
     → new.counts ≡ old.counts
-    → new.out_faults ≡ said_after old.out_faults answer
+    → new.out_faults ≡ failed_says_after old.out_faults answer
     → new.hearing ≡ old.hearing
     → CallEnds (Some (Err NotACommand)) (λ folder. []) old new answer
 words_end answer old new same usage prints reads counts writes unheard = record {
   status = λ o e h. usage h ∙ ap outcome_status (same_Some _ _ e);
-  text = λ o e. subst (λ o. Prints answer (outcome_text o) old.taken new.taken) (same_Some _ _ e) prints;
-  files = λ o e. none_left answer o _ _ (sym (ap writes_of (same_Some _ _ e))) same;
+  text = λ o e. subst (λ o. PrintsText answer (outcome_text o) old.taken new.taken) (same_Some _ _ e) prints;
+  files = λ o e. no_file_left answer o _ _ (sym (ap writes_of (same_Some _ _ e))) same;
   others = same_others _ _ _ same;
   idle = λ _. same;
   prints_last = λ o e. inr (same ∙ ap (λ w. with_files w old.told) (ap writes_of (same_Some _ _ e)));
@@ -285,7 +285,7 @@ words_end answer old new same usage prints reads counts writes unheard = record 
   absent = λ is. let e : ends.Absent ≡ ends.Usage = sym is ∙ usage (subst IsAnswerStatus (sym is) tt) in cc;
   absent_text = λ is. let e : ends.Absent ≡ ends.Usage = sym is ∙ usage (subst IsAnswerStatus (sym is) tt) in absurd (usage_not_absent e);
   read_fault = λ is. absurd (reads is);
-  write_fault = λ is. inr (omega (arith, writes ∙ ap (said_after old.out_faults) is));
+  write_fault = λ is. inr (omega (arith, writes ∙ ap (failed_says_after old.out_faults) is));
   out_fault = λ o e is. inr (same ∙ ap (λ w. with_files w old.told) (ap writes_of (same_Some _ _ e)));
 } where
   usage_not_absent : ends.Absent ≡ ends.Usage → ⊥

@@ -8,7 +8,7 @@ use Rattle.std.specs.declared.cmp.Ordering.TheVariants.{Less, Equal, Greater}
 use Rattle.std.specs.Cmp.Lexicographic.{slice_cmp, nat_list_cmp_total}
 use Rattle.std.specs.FinMap.{insert, get, get-insert, slice_cmp-IsAntisymmetric, nat_cmp-IsAntisymmetric}
 use Rattle.fri_outside.specs.Outside.{Folder, with_file}
-use Rattle.fri_outside.specs.Several.{with_files, IsLeft, ChangesOnly, OthersStay}
+use Rattle.fri_outside.specs.Several.{with_files, IsLeftFile, ChangesOnlyFiles, OtherFilesStay}
 use Rattle.command_run.specs.declared.refusal.WorkText.{WorkText}
 use Rattle.command_run.specs.declared.refusal.StopCause.{StopCause}
 use Rattle.command_run.specs.declared.refusal.StopCause.TheVariants as refusal
@@ -27,9 +27,9 @@ is_same : (q name : List ℕ) → eq_by_cmp (slice_cmp nat_cmp) q name ≡ true 
 is_same q name tied = slice_cmp-IsAntisymmetric nat_cmp-IsAntisymmetric q name (equal_from_is_eq _ tied)
 
 -- a file that was set to some of its front: that name has it, and the others are as before
-is_left : (old : Folder) (name bytes : List ℕ) (n : ℕ) (q : List ℕ) → IsLeft old ((name, bytes) ∷ []) (insert old name (take n bytes)) q
+is_left : (old : Folder) (name bytes : List ℕ) (n : ℕ) (q : List ℕ) → IsLeftFile old ((name, bytes) ∷ []) (insert old name (take n bytes)) q
 is_left old name bytes n q =
-    elim (eq_by_cmp (slice_cmp nat_cmp) q name) as (λ b. eq_by_cmp (slice_cmp nat_cmp) q name ≡ b → IsLeft old ((name, bytes) ∷ []) (insert old name (take n bytes)) q) [
+    elim (eq_by_cmp (slice_cmp nat_cmp) q name) as (λ b. eq_by_cmp (slice_cmp nat_cmp) q name ≡ b → IsLeftFile old ((name, bytes) ∷ []) (insert old name (take n bytes)) q) [
       | true ↦ λ tied. let same : q ≡ name = is_same q name tied in
           inr (bytes, (0, lit< tt, ap (λ k. (k, bytes)) (sym same)), (n, get-insert nat_list_cmp_total old name (take n bytes) q ∙ ap (λ b. cond b (Some (take n bytes)) (get old q)) tied))
       | false ↦ λ differs. inl (get-insert nat_list_cmp_total old name (take n bytes) q ∙ ap (λ b. cond b (Some (take n bytes)) (get old q)) differs)
@@ -40,18 +40,18 @@ first_of_one zero x y h e = e
 first_of_one (suc k) x y h e = absurd (omega arith)
 
 -- a name in a folder with one file more
-more_left : (old now new : Folder) (file : List ℕ × List ℕ) (files : List (List ℕ × List ℕ)) (q : List ℕ) → now ≡ insert old file.0 file.1 → IsLeft now files new q → IsLeft old (file ∷ files) new q
+more_left : (old now new : Folder) (file : List ℕ × List ℕ) (files : List (List ℕ × List ℕ)) (q : List ℕ) → now ≡ insert old file.0 file.1 → IsLeftFile now files new q → IsLeftFile old (file ∷ files) new q
 more_left old now new file files q is (inl same) = one_more (is_left old file.0 file.1 (length file.1) q) where
   here : get new q ≡ get (insert old file.0 (take (length file.1) file.1)) q
   here = same ∙ ap (λ s. get s q) is ∙ ap (λ b. get (insert old file.0 b) q) (sym (take-length file.1))
 
-  one_more : IsLeft old ((file.0, file.1) ∷ []) (insert old file.0 (take (length file.1) file.1)) q → IsLeft old (file ∷ files) new q
+  one_more : IsLeftFile old ((file.0, file.1) ∷ []) (insert old file.0 (take (length file.1) file.1)) q → IsLeftFile old (file ∷ files) new q
   one_more (inl before) = inl (here ∙ before)
   one_more (inr (bytes, (k, inside, at), (n, has))) = inr (bytes, (0, omega arith, first_of_one k file (q, bytes) inside at), (n, here ∙ has))
 more_left old now new file files q is (inr (bytes, (k, inside, at), n)) = inr (bytes, (suc k, omega arith, at), n)
 
 -- files that are made are made in part
-pub all_changes : (files : List (List ℕ × List ℕ)) (before after : Option Folder) → after ≡ with_files files before → ChangesOnly before files after
+pub all_changes : (files : List (List ℕ × List ℕ)) (before after : Option Folder) → after ≡ with_files files before → ChangesOnlyFiles before files after
 all_changes [] before after e = same_changes before after [] e
 all_changes (file ∷ files) before after e = record {
   each = λ old told.
@@ -60,7 +60,7 @@ all_changes (file ∷ files) before after e = record {
 }
 
 -- whatever the outcome of a command, it changed only the files that it was to make
-pub makes_changes : (ended : Result WorkText StopCause) (files : List (List ℕ × List ℕ)) (before after : Option Folder) → MakesWorkFiles ended files before after → ChangesOnly before files after
+pub makes_changes : (ended : Result WorkText StopCause) (files : List (List ℕ × List ℕ)) (before after : Option Folder) → MakesWorkFiles ended files before after → ChangesOnlyFiles before files after
 makes_changes (Ok answer) files before after makes = all_changes files before after makes
 makes_changes (Err (refusal.Refused file why)) files before after makes = all_changes files before after makes
 makes_changes (Err (refusal.Absent file)) files before after makes = all_changes files before after makes
@@ -77,13 +77,13 @@ name_among files file (k, inside, at) = (k, rw length-map inside, at_name files 
   at_name (x ∷ files) (suc k) file e = at_name files k file e
 
 -- where these files alone changed, no other name did
-pub changes_others : (files : Folder → List (List ℕ × List ℕ)) (before after : Option Folder) → ((folder : Folder) → before ≡ Some folder → ChangesOnly before (files folder) after) → OthersStay (λ folder. map (λ f. f.0) (files folder)) before after
+pub changes_others : (files : Folder → List (List ℕ × List ℕ)) (before after : Option Folder) → ((folder : Folder) → before ≡ Some folder → ChangesOnlyFiles before (files folder) after) → OtherFilesStay (λ folder. map (λ f. f.0) (files folder)) before after
 changes_others files before after changes = record {
   each = λ old told.
       let c = (changes old told).each old told in
       (c.0, c.1, λ name out. stays old c.0 name out (c.2 name));
 } where
-  stays : (old new : Folder) (name : List ℕ) → (Contains (map (λ f. f.0) (files old)) name → ⊥) → IsLeft old (files old) new name → get new name ≡ get old name
+  stays : (old new : Folder) (name : List ℕ) → (Contains (map (λ f. f.0) (files old)) name → ⊥) → IsLeftFile old (files old) new name → get new name ≡ get old name
   stays old new name out (inl same) = same
   stays old new name out (inr (bytes, among, part)) = absurd (out (name_among (files old) (name, bytes) among))
 
@@ -91,7 +91,7 @@ changes_others files before after changes = record {
 pub makes_others : (written : Folder → List (List ℕ)) (expected : Option CommandOutcome) (before after : Option Folder) (ended : Result WorkText StopCause)
     → ((o : CommandOutcome) → expected ≡ Some o → MakesWorkFiles ended (writes_of o) before after)
     → ((folder : Folder) → before ≡ Some folder → WritesOnly written expected before after folder)
-    → OthersStay written before after
+    → OtherFilesStay written before after
 makes_others written expected before after ended makes names = record {
   each = λ old told. by_names old told (names old told);
 } where

@@ -11,7 +11,7 @@ use Rattle.command_run.specs.declared.refusal.Reason.{Reason}
 use Rattle.command_run.specs.declared.refusal.Reason.TheVariants as reason
 use Rattle.command_run.specs.declared.refusal.StopCause.{StopCause}
 use Rattle.command_run.specs.declared.refusal.StopCause.TheVariants as refusal
-use Rattle.command_run.specs.Call.{RefusesFile, StopsAs}
+use Rattle.command_run.specs.Call.{RefusesFile, StopsAsCause}
 use Rattle.command_run.specs.Inputs.{valid_module}
 use Rattle.command_run.specs.Fault.{fault_of, reason_of}
 
@@ -40,7 +40,7 @@ module _ (exact : ExactFault) where
   no_start m first = caused_by m invalid.NoStart (λ e. absurd cc) first
 
 -- what is refused so is what is expected
-pub fault_stops : (name : List ℕ) (m : Module) (why : Reason) (r : StopCause) → fault_of m ≡ Some why → RefusesFile name why r → StopsAs (valid_module name m) r
+pub fault_stops : (name : List ℕ) (m : Module) (why : Reason) (r : StopCause) → fault_of m ≡ Some why → RefusesFile name why r → StopsAsCause (valid_module name m) r
 fault_stops name m why (refusal.Refused file found) is (named, same) = rw (is, named, same) refl
 fault_stops name m why refusal.NoMemory is named = tt
 fault_stops name m why other is named = absurd named

@@ -17,7 +17,7 @@ use Rattle.command_run.specs.Inputs.{module_in, module_unless_refused, spelled_m
 use Rattle.command_run.specs.Laws.{ReadsModules}
 use Rattle.command_run.specs.Limits.{most_module}
 use Rattle.command_run.specs.Outcome.{CommandStop, and_then, bytes_or_stop, file_of}
-use Rattle.command_run.specs.OutcomeLaws.{follows, same_Ok}
+use Rattle.command_run.specs.OutcomeLaws.{result_follows, same_Ok_value}
 use Rattle.command_run.specs.Valid.{IsFileWithin}
 use Rattle.command_run.proofs.ModuleFaults.{no_fault}
 
@@ -39,13 +39,13 @@ unfolding fault_of fault
 no_fault_found m none = no_reason (is_with_floats m) _ _ (is_over_limit m) (has_no_start m) none
 
 passed : (name : List ℕ) (m given : Module) (why : Option Reason) → module_unless_refused name m why ≡ Ok given → (why ≡ None) × (m ≡ given)
-passed name m given None is = (refl, same_Ok (module_unless_refused name m None) m given refl is)
+passed name m given None is = (refl, same_Ok_value (module_unless_refused name m None) m given refl is)
 passed name m given (Some why) is = cc
 
 module_valid : ExactFault → (folder : Folder) (name : List ℕ) (m : Module) → module_in folder name ≡ Ok m → IsValid m
 module_valid exact folder name m is =
-    let bytes = follows (file_of folder name most_module) _ m is in
-    let spelled = follows (spelled_module name (module_of_bytes bytes.given)) (valid_module name) m bytes.comes in
+    let bytes = result_follows (file_of folder name most_module) _ m is in
+    let spelled = result_follows (spelled_module name (module_of_bytes bytes.given)) (valid_module name) m bytes.comes in
     let p = passed name spelled.given m (fault_of spelled.given) spelled.comes in
     subst IsValid p.1 ((exact.none spelled.given).0 (no_fault_found spelled.given p.0))
 

@@ -1,8 +1,8 @@
 -- What a call says of its status, of what it printed, and of the files after it.
 use Rattle.std.specs.Prelude.{⊤, ◌≡◌, ◌≢◌, ◌⊎◌, ℕ, List, [], ◌++◌, string_bytes, Bool, IsTrue, Option, Some, None, take, IfSome, IfNone, MatchResult, Result, Ok, Err, true, false}
 use Rattle.std.specs.Io.KnownBytes.{append_known}
-use Rattle.fri_outside.specs.Outside.{Folder, Counts, Rose, raised}
-use Rattle.fri_outside.specs.Several.{with_files, ChangesOnly}
+use Rattle.fri_outside.specs.Outside.{Folder, Counts, CountRose, raised_count}
+use Rattle.fri_outside.specs.Several.{with_files, ChangesOnlyFiles}
 use Rattle.fri_outside.specs.declared.files.WriteError.{WriteError}
 use Rattle.fri_outside.specs.declared.files.WriteError.TheVariants as writing
 use Rattle.command_run.specs.declared.status.Status.{Status}
@@ -23,21 +23,21 @@ IsAnswerStatus ends.NoMemory = ⊥
 IsAnswerStatus answer = Unit {0}
 
 -- after an answer the sink took the whole text, and else some of its front
-pub record Prints (answer : Status) (text : List ℕ) (before after : Option (List ℕ)) : Type 0 where
+pub record PrintsText (answer : Status) (text : List ℕ) (before after : Option (List ℕ)) : Type 0 where
   pub whole : IsAnswerStatus answer → after ≡ append_known before text
   pub part : (n : ℕ) × (after ≡ append_known before (take n text))
 
 -- after an answer the files of the work are made; at any status they alone change, each to some of its front
 pub record LeavesFiles (answer : Status) (files : List (List ℕ × List ℕ)) (before after : Option Folder) : Type 0 where
   pub whole : IsAnswerStatus answer → after ≡ with_files files before
-  pub part : ChangesOnly before files after
+  pub part : ChangesOnlyFiles before files after
 
 -- statuses 2, 4 and 5, after which no file has changed. After status 3 the files are those of the refusal
-abbrev pub IsIdle : Status → Type 0
-IsIdle ends.Usage = Unit {0}
-IsIdle ends.Absent = Unit {0}
-IsIdle ends.ReadFault = Unit {0}
-IsIdle answer = ⊥
+abbrev pub IsIdleStatus : Status → Type 0
+IsIdleStatus ends.Usage = Unit {0}
+IsIdleStatus ends.Absent = Unit {0}
+IsIdleStatus ends.ReadFault = Unit {0}
+IsIdleStatus answer = ⊥
 
 -- a sink took the line that refuses a file: for its size only where that file's cause held
 abbrev pub PrintsRefusal : Option (List ℕ) → Option (List ℕ) → (List ℕ → Type 0) → Type 0
@@ -50,8 +50,8 @@ abbrev pub PrintsAbsent : Option (List ℕ) → Option (List ℕ) → Type 0
 PrintsAbsent before after = (file : List ℕ) × (after ≡ append_known before (absent_line file))
 
 -- nothing was printed, or all files that were to be made were made before
-abbrev pub PrintsLast : List (List ℕ × List ℕ) → Option (List ℕ) → Option (List ℕ) → Option Folder → Option Folder → Type 0
-PrintsLast files printed printed_after before after = (printed_after ≡ printed) ⊎ (after ≡ with_files files before)
+abbrev pub PrintsAfterFiles : List (List ℕ × List ℕ) → Option (List ℕ) → Option (List ℕ) → Option Folder → Option Folder → Type 0
+PrintsAfterFiles files printed printed_after before after = (printed_after ≡ printed) ⊎ (after ≡ with_files files before)
 
 -- A COMMAND'S RESULT, before its text is written
 
@@ -65,16 +65,16 @@ IsAnswerResult (Err refusal.WriteFault) = ⊥
 IsAnswerResult (Err refusal.NoMemory) = ⊥
 
 -- a refusal tells the stop at which this comes to no value
-abbrev pub StopsAs : {A : Type 0} → Result A CommandStop → StopCause → Type 0
-StopsAs wanted (refusal.Refused file why) = wanted ≡ Err (refuses_at_once (string_bytes file) why)
-StopsAs wanted (refusal.Absent file) = wanted ≡ Err (Lacks (string_bytes file))
-StopsAs wanted refusal.ReadFault = Unit {0}
-StopsAs wanted refusal.WriteFault = Unit {0}
-StopsAs wanted refusal.NoMemory = Unit {0}
+abbrev pub StopsAsCause : {A : Type 0} → Result A CommandStop → StopCause → Type 0
+StopsAsCause wanted (refusal.Refused file why) = wanted ≡ Err (refuses_at_once (string_bytes file) why)
+StopsAsCause wanted (refusal.Absent file) = wanted ≡ Err (Lacks (string_bytes file))
+StopsAsCause wanted refusal.ReadFault = Unit {0}
+StopsAsCause wanted refusal.WriteFault = Unit {0}
+StopsAsCause wanted refusal.NoMemory = Unit {0}
 
 -- a result tells what is wanted: the value that it shows, or the stop
 abbrev pub TellsResult : {A B : Type 0} → (A → B) → Result B CommandStop → Result A StopCause → Type 0
-TellsResult shown wanted result = MatchResult result (λ value. wanted ≡ Ok (shown value)) (StopsAs wanted)
+TellsResult shown wanted result = MatchResult result (λ value. wanted ≡ Ok (shown value)) (StopsAsCause wanted)
 
 -- a refusal that came before anything was printed
 abbrev pub RefusesWith : CommandOutcome → List ℕ → Reason → Type 0
@@ -108,22 +108,22 @@ TellsOutcome outcome (Err refusal.WriteFault) = Unit {0}
 TellsOutcome outcome (Err refusal.NoMemory) = Unit {0}
 
 -- a refusal has its cause in the counts
-abbrev pub Raises : Counts → Counts → StopCause → Type 0
-Raises old new (refusal.Refused file why) = why ≡ reason.TooLarge → Rose old.misses new.misses
-Raises old new (refusal.Absent file) = Rose old.misses new.misses
-Raises old new refusal.ReadFault = Rose old.reads new.reads
-Raises old new refusal.WriteFault = Rose old.writes new.writes
-Raises old new refusal.NoMemory = Unit {0}
+abbrev pub RaisesCount : Counts → Counts → StopCause → Type 0
+RaisesCount old new (refusal.Refused file why) = why ≡ reason.TooLarge → CountRose old.misses new.misses
+RaisesCount old new (refusal.Absent file) = CountRose old.misses new.misses
+RaisesCount old new refusal.ReadFault = CountRose old.reads new.reads
+RaisesCount old new refusal.WriteFault = CountRose old.writes new.writes
+RaisesCount old new refusal.NoMemory = Unit {0}
 
 -- how many reads failed once a command, or a part of one, came to this: a fault that ended it was counted once, and no
 -- other was
 abbrev pub reads_after : {T : Type 0} → ℕ → Result T StopCause → ℕ
-reads_after count (Err refusal.ReadFault) = raised count
+reads_after count (Err refusal.ReadFault) = raised_count count
 reads_after count result = count
 
 -- how many writes failed, alike
 abbrev pub writes_after : {T : Type 0} → ℕ → Result T StopCause → ℕ
-writes_after count (Err refusal.WriteFault) = raised count
+writes_after count (Err refusal.WriteFault) = raised_count count
 writes_after count result = count
 
 -- no miss was counted where it came to a value
@@ -148,18 +148,18 @@ abbrev pub MakesWorkFiles : Result WorkText StopCause → List (List ℕ × List
 MakesWorkFiles (Ok answer) files before after = after ≡ with_files files before
 MakesWorkFiles (Err (refusal.Refused file why)) files before after = after ≡ with_files files before
 MakesWorkFiles (Err (refusal.Absent file)) files before after = after ≡ with_files files before
-MakesWorkFiles (Err refusal.ReadFault) files before after = ChangesOnly before files after
-MakesWorkFiles (Err refusal.WriteFault) files before after = ChangesOnly before files after
-MakesWorkFiles (Err refusal.NoMemory) files before after = ChangesOnly before files after
+MakesWorkFiles (Err refusal.ReadFault) files before after = ChangesOnlyFiles before files after
+MakesWorkFiles (Err refusal.WriteFault) files before after = ChangesOnlyFiles before files after
+MakesWorkFiles (Err refusal.NoMemory) files before after = ChangesOnlyFiles before files after
 
 -- these files were to be made, and some are made in part where a write or memory failed
-abbrev pub MakesAll : Result ⊤ StopCause → List (List ℕ × List ℕ) → Option Folder → Option Folder → Type 0
-MakesAll (Ok _) files before after = after ≡ with_files files before
-MakesAll (Err refusal.WriteFault) files before after = ChangesOnly before files after
-MakesAll (Err refusal.NoMemory) files before after = ChangesOnly before files after
-MakesAll (Err refusal.ReadFault) files before after = ⊥
-MakesAll (Err (refusal.Refused file why)) files before after = ⊥
-MakesAll (Err (refusal.Absent file)) files before after = ⊥
+abbrev pub MakesAllFiles : Result ⊤ StopCause → List (List ℕ × List ℕ) → Option Folder → Option Folder → Type 0
+MakesAllFiles (Ok _) files before after = after ≡ with_files files before
+MakesAllFiles (Err refusal.WriteFault) files before after = ChangesOnlyFiles before files after
+MakesAllFiles (Err refusal.NoMemory) files before after = ChangesOnlyFiles before files after
+MakesAllFiles (Err refusal.ReadFault) files before after = ⊥
+MakesAllFiles (Err (refusal.Refused file why)) files before after = ⊥
+MakesAllFiles (Err (refusal.Absent file)) files before after = ⊥
 
 -- a divergence is told only where it may be
 abbrev pub DivergesOnlyIf : Bool → Result WorkText StopCause → Type 0
@@ -184,9 +184,9 @@ FaultStatus (Err refusal.NoMemory) answer = answer ≡ ends.NoMemory
 FaultStatus result answer = Unit {0}
 
 -- how many writes of a sink failed by a call that ended so: one, exactly where it ended for that
-abbrev pub said_after : ℕ → Status → ℕ
-said_after count ends.WriteFault = raised count
-said_after count answer = count
+abbrev pub failed_says_after : ℕ → Status → ℕ
+failed_says_after count ends.WriteFault = raised_count count
+failed_says_after count answer = count
 
 -- what a sink took by one moment, as far as it tells, and how often it failed
 pub record OutputState : Type 0 where
@@ -199,10 +199,10 @@ output_state taken faults = record { taken = taken; faults = faults }
 -- the end of a command's result, with its text written
 pub record FinishesCall (ended : Result WorkText StopCause) (answer : Status) (old new : OutputState) : Type 0 where
   pub status : IfSome (status_and_text ended) (λ a. IsAnswerStatus answer → answer ≡ a.0)
-  pub text : IfSome (status_and_text ended) (λ a. Prints answer a.1 old.taken new.taken)
+  pub text : IfSome (status_and_text ended) (λ a. PrintsText answer a.1 old.taken new.taken)
   pub silent : IfNone (status_and_text ended) (new.taken ≡ old.taken)
   pub fault : FaultStatus ended answer
   pub read_fault : IfSome (status_and_text ended) (λ _. answer ≢ ends.ReadFault)
-  pub write_fault : IfSome (status_and_text ended) (λ _. answer ≡ ends.WriteFault → Rose old.faults new.faults)
-  pub counted : IfSome (status_and_text ended) (λ _. new.faults ≡ said_after old.faults answer)
+  pub write_fault : IfSome (status_and_text ended) (λ _. answer ≡ ends.WriteFault → CountRose old.faults new.faults)
+  pub counted : IfSome (status_and_text ended) (λ _. new.faults ≡ failed_says_after old.faults answer)
   pub quiet : IfNone (status_and_text ended) (new.faults ≡ old.faults)

@@ -1,6 +1,6 @@
 -- The outcome of a command: the work that it does, or the stop at which it ends.
 use Rattle.std.specs.Prelude.{ℕ, List, [], ◌++◌, Bool, false, map, decimal, codes, Result, Ok, Err, if◌then◌else◌}
-use Rattle.fri_outside.specs.Outside.{Folder, Found, Missing, Over, Held, found}
+use Rattle.fri_outside.specs.Outside.{Folder, FoundFile, Missing, Over, Held, found_file}
 use Rattle.command_run.specs.declared.status.Status.{Status}
 use Rattle.command_run.specs.declared.status.Status.TheVariants as status
 use Rattle.command_run.specs.declared.refusal.Reason.{Reason}
@@ -13,8 +13,8 @@ pub record CommandWork : Type 0 where
   pub diverged : Bool
 
 -- what was done before a stop, where it comes before all work
-abbrev pub nothing_done : CommandWork
-nothing_done = record { text = []; writes = []; diverged = false }
+abbrev pub no_work_done : CommandWork
+no_work_done = record { text = []; writes = []; diverged = false }
 
 -- why a command does not do its work. A refusal says what was printed and written before it
 pub data CommandStop : Type 0 where
@@ -24,7 +24,7 @@ pub data CommandStop : Type 0 where
 
 -- a refusal before all work
 abbrev pub refuses_at_once : List ℕ → Reason → CommandStop
-refuses_at_once file why = Refuses file why nothing_done
+refuses_at_once file why = Refuses file why no_work_done
 
 abbrev pub CommandOutcome : Type 0
 CommandOutcome = Result CommandWork CommandStop
@@ -35,13 +35,13 @@ and_then (Ok value) next = next value
 and_then (Err stop) next = Err stop
 
 -- the bytes of a file, where it is there and within its limit
-abbrev pub bytes_or_stop : List ℕ → Found → Result (List ℕ) CommandStop
+abbrev pub bytes_or_stop : List ℕ → FoundFile → Result (List ℕ) CommandStop
 bytes_or_stop name Missing = Err (Lacks name)
 bytes_or_stop name Over = Err (refuses_at_once name reason.TooLarge)
 bytes_or_stop name (Held bytes) = Ok bytes
 
 abbrev pub file_of : Folder → List ℕ → ℕ → Result (List ℕ) CommandStop
-file_of folder name limit = bytes_or_stop name (found folder name limit)
+file_of folder name limit = bytes_or_stop name (found_file folder name limit)
 
 -- why a file is refused, as it is printed
 abbrev pub reason_text : Reason → List ℕ

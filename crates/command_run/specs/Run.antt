@@ -1,15 +1,15 @@
 -- What a run of a command says, from one state of the outside to another.
 use Rattle.std.specs.Prelude.{◌≡◌, ◌≢◌, ◌⊎◌, ℕ, Bool, IsTrue, List, Option, Some, Result, IfErr}
 use Rattle.std.specs.Result.{IsOk}
-use Rattle.fri_outside.specs.Outside.{Folder, WhenTold, Counts, Rose, raised}
+use Rattle.fri_outside.specs.Outside.{Folder, WhenTold, Counts, CountRose, raised_count}
 use Rattle.fri_outside.specs.Terminal.{Hearing}
-use Rattle.fri_outside.specs.Several.{with_files, OthersStay}
+use Rattle.fri_outside.specs.Several.{with_files, OtherFilesStay}
 use Rattle.command_run.specs.declared.status.Status.{Status}
 use Rattle.command_run.specs.declared.status.Status.TheVariants as ends
 use Rattle.command_run.specs.declared.refusal.WorkText.{WorkText}
 use Rattle.command_run.specs.declared.refusal.StopCause.{StopCause}
 use Rattle.command_run.specs.Outcome.{CommandOutcome, outcome_status, outcome_text, writes_of, written_names}
-use Rattle.command_run.specs.Call.{CountsFaults, DivergesOnlyIf, IsAnswerResult, IsAnswerStatus, IsIdle, KeepsFolder, LeavesFiles, MakesWorkFiles, Prints, PrintsAbsent, PrintsLast, PrintsRefusal, Raises, TellsOutcome}
+use Rattle.command_run.specs.Call.{CountsFaults, DivergesOnlyIf, IsAnswerResult, IsAnswerStatus, IsIdleStatus, KeepsFolder, LeavesFiles, MakesWorkFiles, PrintsText, PrintsAbsent, PrintsAfterFiles, PrintsRefusal, RaisesCount, TellsOutcome}
 
 -- what is handed in, as far as it tells
 pub record Outside : Type 0 where
@@ -33,10 +33,10 @@ outside told counts hearing taken out_faults = record {
 
 -- no count of faults rose
 pub record NoFault (old new : Outside) : Type 0 where
-  pub reads : Rose old.counts.reads new.counts.reads → ⊥
-  pub writes : Rose old.counts.writes new.counts.writes → ⊥
-  pub input : Rose old.hearing.faults new.hearing.faults → ⊥
-  pub out : Rose old.out_faults new.out_faults → ⊥
+  pub reads : CountRose old.counts.reads new.counts.reads → ⊥
+  pub writes : CountRose old.counts.writes new.counts.writes → ⊥
+  pub input : CountRose old.hearing.faults new.hearing.faults → ⊥
+  pub out : CountRose old.out_faults new.out_faults → ⊥
 
 -- how often a read of files failed, and a write, a read of the input, and a write of the output
 abbrev pub faults_of : Outside → (ℕ × ℕ) × (ℕ × ℕ)
@@ -44,14 +44,14 @@ faults_of o = ((o.counts.reads, o.counts.writes), (o.hearing.faults, o.out_fault
 
 -- a fault is told by the status, and a status of a fault tells one: exactly one was counted. At each other status no
 -- count of faults is another than before
-abbrev pub FaultsTold : Status → Outside → Outside → Type 0
-FaultsTold ends.ReadFault old new =
-    (faults_of new ≡ ((raised old.counts.reads, old.counts.writes), (old.hearing.faults, old.out_faults)))
-    ⊎ (faults_of new ≡ ((old.counts.reads, old.counts.writes), (raised old.hearing.faults, old.out_faults)))
-FaultsTold ends.WriteFault old new =
-    (faults_of new ≡ ((old.counts.reads, raised old.counts.writes), (old.hearing.faults, old.out_faults)))
-    ⊎ (faults_of new ≡ ((old.counts.reads, old.counts.writes), (old.hearing.faults, raised old.out_faults)))
-FaultsTold answer old new = faults_of new ≡ faults_of old
+abbrev pub TellsFaults : Status → Outside → Outside → Type 0
+TellsFaults ends.ReadFault old new =
+    (faults_of new ≡ ((raised_count old.counts.reads, old.counts.writes), (old.hearing.faults, old.out_faults)))
+    ⊎ (faults_of new ≡ ((old.counts.reads, old.counts.writes), (raised_count old.hearing.faults, old.out_faults)))
+TellsFaults ends.WriteFault old new =
+    (faults_of new ≡ ((old.counts.reads, raised_count old.counts.writes), (old.hearing.faults, old.out_faults)))
+    ⊎ (faults_of new ≡ ((old.counts.reads, old.counts.writes), (old.hearing.faults, raised_count old.out_faults)))
+TellsFaults answer old new = faults_of new ≡ faults_of old
 
 -- ---- the end of a call, whatever its command
 
@@ -59,19 +59,19 @@ FaultsTold answer old new = faults_of new ≡ faults_of old
 -- end with this status
 pub record CallEnds (expected : Option CommandOutcome) (written : Folder → List (List ℕ)) (old new : Outside) (answer : Status) : Type 0 where
   pub status : WhenTold expected (λ outcome. IsAnswerStatus answer → answer ≡ outcome_status outcome)
-  pub text : WhenTold expected (λ outcome. Prints answer (outcome_text outcome) old.taken new.taken)
+  pub text : WhenTold expected (λ outcome. PrintsText answer (outcome_text outcome) old.taken new.taken)
   pub files : WhenTold expected (λ outcome. LeavesFiles answer (writes_of outcome) old.told new.told)
-  pub others : OthersStay written old.told new.told
-  pub idle : IsIdle answer → new.told ≡ old.told
+  pub others : OtherFilesStay written old.told new.told
+  pub idle : IsIdleStatus answer → new.told ≡ old.told
   -- nothing is printed before the files are made
-  pub prints_last : WhenTold expected (λ outcome. PrintsLast (writes_of outcome) old.taken new.taken old.told new.told)
-  pub faults : FaultsTold answer old new
-  pub absent : answer ≡ ends.Absent → Rose old.counts.misses new.counts.misses
+  pub prints_last : WhenTold expected (λ outcome. PrintsAfterFiles (writes_of outcome) old.taken new.taken old.told new.told)
+  pub faults : TellsFaults answer old new
+  pub absent : answer ≡ ends.Absent → CountRose old.counts.misses new.counts.misses
   pub absent_text : answer ≡ ends.Absent → PrintsAbsent old.taken new.taken
-  pub read_fault : answer ≡ ends.ReadFault → Rose old.counts.reads new.counts.reads ⊎ Rose old.hearing.faults new.hearing.faults
-  pub write_fault : answer ≡ ends.WriteFault → Rose old.counts.writes new.counts.writes ⊎ Rose old.out_faults new.out_faults
+  pub read_fault : answer ≡ ends.ReadFault → CountRose old.counts.reads new.counts.reads ⊎ CountRose old.hearing.faults new.hearing.faults
+  pub write_fault : answer ≡ ends.WriteFault → CountRose old.counts.writes new.counts.writes ⊎ CountRose old.out_faults new.out_faults
   pub out_fault : WhenTold expected (λ outcome. answer ≡ ends.WriteFault
-      → Rose old.counts.writes new.counts.writes ⊎ (new.told ≡ with_files (writes_of outcome) old.told))
+      → CountRose old.counts.writes new.counts.writes ⊎ (new.told ≡ with_files (writes_of outcome) old.told))
 
 -- ---- a command that prints once, at its end
 
@@ -99,22 +99,22 @@ abbrev pub file_state : Option Folder → Counts → FileState
 file_state told counts = record { told = told; counts = counts }
 
 -- its work is done or was stopped, and nothing is printed yet
-pub record Performed (expected : Expectation) (old new : FileState) (ended : Result WorkText StopCause) : Type 0 where
+pub record PerformedCommand (expected : Expectation) (old new : FileState) (ended : Result WorkText StopCause) : Type 0 where
   pub tells : WhenTold expected.outcome (λ outcome. TellsOutcome outcome ended)
   pub makes : WhenTold expected.outcome (λ outcome. MakesWorkFiles ended (writes_of outcome) old.told new.told)
   pub names : WhenTold old.told (WritesOnly expected.written expected.outcome old.told new.told)
   pub keeps : KeepsFolder ended old.told new.told
   pub diverges : DivergesOnlyIf expected.may_diverge ended
   pub counted : CountsFaults old.counts new.counts ended
-  pub cause : IfErr ended (Raises old.counts new.counts)
+  pub cause : IfErr ended (RaisesCount old.counts new.counts)
 
 -- and its text was printed. It read no input
-pub record Finished (expected : Expectation) (ended : Result WorkText StopCause) (old new : Outside) (answer : Status) : Type 0 where
+pub record FinishedCommand (expected : Expectation) (ended : Result WorkText StopCause) (old new : Outside) (answer : Status) : Type 0 where
   pub call : CallEnds expected.outcome expected.written old new answer
   pub is_command : answer ≢ ends.Usage
   pub diverged : answer ≡ ends.Diverged → IsTrue expected.may_diverge
   pub done : answer ≡ ends.Done → IsOk ended
   pub came_to_end : IsAnswerStatus answer → IsAnswerResult ended
-  pub refused : answer ≡ ends.Refused → PrintsRefusal old.taken new.taken (λ file. Rose old.counts.misses new.counts.misses)
-  pub read : answer ≡ ends.ReadFault → Rose old.counts.reads new.counts.reads
+  pub refused : answer ≡ ends.Refused → PrintsRefusal old.taken new.taken (λ file. CountRose old.counts.misses new.counts.misses)
+  pub read : answer ≡ ends.ReadFault → CountRose old.counts.reads new.counts.reads
   pub unheard : new.hearing ≡ old.hearing

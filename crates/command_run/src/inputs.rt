@@ -6,7 +6,7 @@ ghost use Rattle.wasm_decode.specs.Sections.{module_of_bytes};
 ghost use Rattle.command_run.specs.Outcome.{and_then, file_of};
 ghost use Rattle.guest_process.specs.EventCount.{IsFresh};
 ghost use Rattle.command_run.specs.Inputs.{first_state_of, module_in, spelled_module, valid_module};
-ghost use Rattle.command_run.specs.Call.{CountsFaults, Raises, TellsResult, reads_after, writes_after};
+ghost use Rattle.command_run.specs.Call.{CountsFaults, RaisesCount, TellsResult, reads_after, writes_after};
 
 use crate::refusal::{Reason, StopCause};
 use fri_outside::{FileError, Files};
@@ -17,7 +17,7 @@ use wasm_step::StartError;
 use wasm_types::{Module, ValidModule};
 use wasm_validate::{Invalid, validate};
 
-const MODULE_LIMIT: usize = 4_194_304;
+const MOST_MODULE: usize = 4_194_304;
 
 /// All bytes of a file, within its limit.
 pub fn take_file<F: Files>(
@@ -30,7 +30,7 @@ pub fn take_file<F: Files>(
     ensures answer { WhenTold (F.told files.old) (λ folder. TellsResult (λ bytes. bytes.items) (file_of folder name.now limit) result) }
     ensures same { F.told files.new ≡ F.told files.old }
     ensures counts { CountsFaults (F.counts files.old) (F.counts files.new) result }
-    ensures cause { IfErr result (Raises (F.counts files.old) (F.counts files.new)) }
+    ensures cause { IfErr result (RaisesCount (F.counts files.old) (F.counts files.new)) }
 {
     match files.read(alloc, name, limit) {
         Ok(bytes) => Ok(bytes),
@@ -44,7 +44,7 @@ pub fn take_file<F: Files>(
 // The module that the bytes of a file spell.
 fn spelled(alloc: Global, name: &str, bytes: &[u8]) -> Result<Module, StopCause>
     ensures answer { TellsResult shown (spelled_module name.now (module_of_bytes bytes.now)) result }
-    ensures cause { (old new : Counts) → IfErr result (Raises old new) }
+    ensures cause { (old new : Counts) → IfErr result (RaisesCount old new) }
     ensures still { (n : ℕ) → (reads_after n result ≡ n) × (writes_after n result ≡ n) }
 {
     match decode(alloc, bytes) {
@@ -58,7 +58,7 @@ fn spelled(alloc: Global, name: &str, bytes: &[u8]) -> Result<Module, StopCause>
 #[tactic(auto, using(crate::proofs::ModuleFaults::no_fault, crate::proofs::ModuleFaults::has_float, crate::proofs::ModuleFaults::bad_import, crate::proofs::ModuleFaults::untyped, crate::proofs::ModuleFaults::over_limit, crate::proofs::ModuleFaults::no_start))]
 fn valid(alloc: Global, name: &str, module: Module) -> Result<ValidModule, StopCause>
     ensures answer { TellsResult shown (valid_module name.now (shown «module»)) result }
-    ensures cause { (old new : Counts) → IfErr result (Raises old new) }
+    ensures cause { (old new : Counts) → IfErr result (RaisesCount old new) }
     ensures still { (n : ℕ) → (reads_after n result ≡ n) × (writes_after n result ≡ n) }
 {
     wasm_validate::laws::exact_fault();
@@ -76,7 +76,7 @@ fn valid(alloc: Global, name: &str, module: Module) -> Result<ValidModule, StopC
 // The valid module that the bytes of a file spell.
 fn read_module(alloc: Global, name: &str, bytes: &[u8]) -> Result<ValidModule, StopCause>
     ensures answer { TellsResult shown (and_then (spelled_module name.now (module_of_bytes bytes.now)) (valid_module name.now)) result }
-    ensures cause { (old new : Counts) → IfErr result (Raises old new) }
+    ensures cause { (old new : Counts) → IfErr result (RaisesCount old new) }
     ensures still { (n : ℕ) → (reads_after n result ≡ n) × (writes_after n result ≡ n) }
 {
     let spelled = spelled(alloc, name, bytes)?;
@@ -92,9 +92,9 @@ pub fn take_module<F: Files>(
     ensures answer { WhenTold (F.told files.old) (λ folder. TellsResult shown (module_in folder name.now) result) }
     ensures same { F.told files.new ≡ F.told files.old }
     ensures counts { CountsFaults (F.counts files.old) (F.counts files.new) result }
-    ensures cause { IfErr result (Raises (F.counts files.old) (F.counts files.new)) }
+    ensures cause { IfErr result (RaisesCount (F.counts files.old) (F.counts files.new)) }
 {
-    let bytes = take_file(alloc, name, MODULE_LIMIT, files)?;
+    let bytes = take_file(alloc, name, MOST_MODULE, files)?;
     read_module(alloc, name, &bytes)
 }
 
@@ -110,7 +110,7 @@ pub fn begin_process<'m>(
     requires count { count ≤ 16 }
     ensures answer { TellsResult (λ begun. begun) (first_state_of name.now (shown «module».now) who count) result }
     ensures fresh { IfOk result (IsFresh who count) }
-    ensures cause { (old new : Counts) → IfErr result (Raises old new) }
+    ensures cause { (old new : Counts) → IfErr result (RaisesCount old new) }
     ensures still { (n : ℕ) → (reads_after n result ≡ n) × (writes_after n result ≡ n) }
 {
     guest_process::laws::counting();

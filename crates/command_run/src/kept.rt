@@ -2,7 +2,7 @@
 ghost use Rattle.std.specs.Prelude.{◌≡◌, ℕ, List, IfErr, IfNone, IfOk, IfSome, IsTrue, Ok, OnErr, OnOk, Option, false};
 ghost use Rattle.fri_outside.specs.Outside.{Folder, WhenTold};
 ghost use Rattle.wasm_types.specs.Modules.{module_of as shown};
-ghost use Rattle.command_run.specs.Call.{CountsFaults, Raises, TellsResult};
+ghost use Rattle.command_run.specs.Call.{CountsFaults, RaisesCount, TellsResult};
 ghost use Rattle.command_run.specs.Inputs.{module_in};
 ghost use Rattle.command_run.specs.Kept.{AddsFile, AreOfFiles, has_file};
 
@@ -72,7 +72,7 @@ impl ModuleFiles {
         ensures kept { AreOfFiles (F.told files.old) self.new }
         ensures same { F.told files.new ≡ F.told files.old }
         ensures counts { CountsFaults (F.counts files.old) (F.counts files.new) result }
-        ensures cause { IfErr result (Raises (F.counts files.old) (F.counts files.new)) }
+        ensures cause { IfErr result (RaisesCount (F.counts files.old) (F.counts files.new)) }
     {
         if let Some(module) = self.get(name) {
             return Ok(module.share()?);

@@ -1,7 +1,7 @@
 //! What all commands share: how a call ends, the outcome of a command, and the files of modules.
 //!
 //! A command reads its files by `take_file` and `take_module`, which answer with what stands in them or with a `StopCause`, and
-//! those of its modules by `ModuleFiles`, which reads each once and keeps it. It comes to a `WorkText` or a `StopCause`; `finish` prints that and gives the `Status` (`Finished` of `specs/Run`).
+//! those of its modules by `ModuleFiles`, which reads each once and keeps it. It comes to a `WorkText` or a `StopCause`; `finish` prints that and gives the `Status` (`FinishedCommand` of `specs/Run`).
 //! Contracts see a command's outcome (`specs/Outcome`: its work, or the stop at which it ends) as far as the folder tells
 //! its files, and say of a call's end what `CallEnds` says. `specs/OutcomeLaws`, `FileLaws`, `LineLaws` and `CountLaws` are what
 //! follows from these definitions by computing, for the proofs of the commands.

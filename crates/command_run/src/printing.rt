@@ -2,8 +2,8 @@
 ghost use Rattle.std.specs.Prelude.{◌≡◌, ◌≢◌, ◌++◌, [], ℕ, List, Option, Some, Err, IfOk, OnOk};
 ghost use Rattle.fri_outside.specs.Outside.{Counts, Folder};
 ghost use Rattle.command_run.specs.Outcome.{CommandOutcome, NotACommand, absent_line, reason_text, refused_line};
-ghost use Rattle.command_run.specs.Call.{IsAnswerStatus, Prints, FinishesCall, output_state, said_after};
-ghost use Rattle.command_run.specs.Run.{CallEnds, Expectation, FileState, Finished, Outside, Performed, outside};
+ghost use Rattle.command_run.specs.Call.{IsAnswerStatus, PrintsText, FinishesCall, output_state, failed_says_after};
+ghost use Rattle.command_run.specs.Run.{CallEnds, Expectation, FileState, FinishedCommand, Outside, PerformedCommand, outside};
 
 use crate::refusal::{Reason, StopCause, WorkText};
 use crate::status::Status;
@@ -77,9 +77,9 @@ fn print_absent(alloc: Global, file: &str) -> Result<Text, AllocError>
 fn say<K: Sink>(out: &mut K, text: &[u8], status: Status) -> Status
     requires { IsAnswerStatus status }
     ensures status { IsAnswerStatus result → result ≡ status }
-    ensures text { Prints result text.now (K.taken out.old) (K.taken out.new) }
+    ensures text { PrintsText result text.now (K.taken out.old) (K.taken out.new) }
     ensures read_fault { result ≢ Status.ReadFault }
-    ensures counted { K.faults out.new ≡ said_after (K.faults out.old) result }
+    ensures counted { K.faults out.new ≡ failed_says_after (K.faults out.old) result }
     ensures heard { K.hearing out.new ≡ K.hearing out.old }
 {
     match write_whole(out, text) {
@@ -92,9 +92,9 @@ fn say<K: Sink>(out: &mut K, text: &[u8], status: Status) -> Status
 /// Writes the line that refuses a file.
 pub fn say_refused<K: Sink>(alloc: Global, file: &str, reason: Reason, out: &mut K) -> Status
     ensures status { IsAnswerStatus result → result ≡ Status.Refused }
-    ensures text { Prints result (refused_line file.now reason) (K.taken out.old) (K.taken out.new) }
+    ensures text { PrintsText result (refused_line file.now reason) (K.taken out.old) (K.taken out.new) }
     ensures read_fault { result ≢ Status.ReadFault }
-    ensures counted { K.faults out.new ≡ said_after (K.faults out.old) result }
+    ensures counted { K.faults out.new ≡ failed_says_after (K.faults out.old) result }
     ensures heard { K.hearing out.new ≡ K.hearing out.old }
 {
     match print_refused(alloc, file, reason) {
@@ -105,9 +105,9 @@ pub fn say_refused<K: Sink>(alloc: Global, file: &str, reason: Reason, out: &mut
 
 fn say_absent<K: Sink>(alloc: Global, file: &str, out: &mut K) -> Status
     ensures status { IsAnswerStatus result → result ≡ Status.Absent }
-    ensures text { Prints result (absent_line file.now) (K.taken out.old) (K.taken out.new) }
+    ensures text { PrintsText result (absent_line file.now) (K.taken out.old) (K.taken out.new) }
     ensures read_fault { result ≢ Status.ReadFault }
-    ensures counted { K.faults out.new ≡ said_after (K.faults out.old) result }
+    ensures counted { K.faults out.new ≡ failed_says_after (K.faults out.old) result }
     ensures heard { K.hearing out.new ≡ K.hearing out.old }
 {
     match print_absent(alloc, file) {
@@ -135,7 +135,7 @@ fn print_end<K: Sink>(alloc: Global, ended: Result<WorkText, StopCause>, out: &m
 /// Writes the outcome of a command's result, and ends the call. What the files were before the command and are after it,
 /// and how their faults were counted, is what the command says of its result.
 pub fn finish<K: Sink>(alloc: Global, ended: Result<WorkText, StopCause>, out: &mut K) -> Status
-    ensures { (expected : Expectation) (old new : FileState) → Performed expected old new ended → Finished expected ended
+    ensures { (expected : Expectation) (old new : FileState) → PerformedCommand expected old new ended → FinishedCommand expected ended
         (outside old.told old.counts (K.hearing out.old) (K.taken out.old) (K.faults out.old))
         (outside new.told new.counts (K.hearing out.new) (K.taken out.new) (K.faults out.new))
         result }

@@ -8,7 +8,7 @@ use Rattle.coop_threads.specs.declared.spawn_error.SpawnError.{SpawnError}
 use Rattle.coop_threads.specs.declared.spawn_error.SpawnError.TheVariants.{Full, NoMemory}
 use Rattle.coop_threads.specs.declared.slot.Slot.{Slot}
 use Rattle.coop_threads.specs.declared.slot.Slot.TheVariants.{Kept, Lent, Over}
-use Rattle.coop_threads.specs.Locks.{Holders, holders_after}
+use Rattle.coop_threads.specs.Locks.{LockHolders, holders_after}
 
 -- how many threads a process makes at most
 abbrev pub most_threads : ℕ
@@ -17,13 +17,13 @@ most_threads = 64
 -- the threads that were made, in order, and who holds each lock that is held
 pub record Crew (T : Type 0) : Type 0 where
   pub threads : List (Slot T)
-  pub holders : Holders
+  pub holders : LockHolders
 
 -- what is stored of a thread
-abbrev pub stored : {T : Type 0} → Slot T → Option (Option T)
-stored (Kept value) = Some (Some value)
-stored Lent = Some None
-stored Over = None
+abbrev pub stored_slot : {T : Type 0} → Slot T → Option (Option T)
+stored_slot (Kept value) = Some (Some value)
+stored_slot Lent = Some None
+stored_slot Over = None
 
 -- the thread for which this is stored
 abbrev pub slot_of_thread : {T : Type 0} → Option (Option T) → Slot T
@@ -32,20 +32,20 @@ slot_of_thread (Some None) = Lent
 slot_of_thread None = Over
 
 -- nothing of a thread is lost by that
-pub slot_of-stored : {T : Type 0} (slot : Slot T) → slot_of_thread (stored slot) ≡ slot
+pub slot_of-stored : {T : Type 0} (slot : Slot T) → slot_of_thread (stored_slot slot) ≡ slot
 slot_of-stored (Kept value) = refl
 slot_of-stored Lent = refl
 slot_of-stored Over = refl
 
 -- a thread is stored as the value that it may have, where it is not over
 abbrev pub slot_code : {T : Type 0} → Coded T → Coded (Slot T)
-slot_code {T} code = code_by (Option (Option T)) (coded_option (coded_option code)) stored slot_of_thread slot_of-stored
+slot_code {T} code = code_by (Option (Option T)) (coded_option (coded_option code)) stored_slot slot_of_thread slot_of-stored
 
 -- a crew is stored as the pair of its fields
 abbrev pub crew_code : {T : Type 0} → Coded T → Coded (Crew T)
 crew_code {T} code =
     code_by
-    (List (Slot T) × Holders)
+    (List (Slot T) × LockHolders)
     (coded× (coded_list (slot_code code)) (map.code coded_ℕ coded_ℕ))
     (λ crew. (crew.threads, crew.holders))
     (λ parts. record { threads = parts.0; holders = parts.1 })

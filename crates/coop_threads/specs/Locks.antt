@@ -6,8 +6,8 @@ use Rattle.coop_threads.specs.declared.grip.Grip.{Grip}
 use Rattle.coop_threads.specs.declared.grip.Grip.TheVariants.{Got, Already, Held}
 
 -- the number of the thread that holds a lock, at each lock that is held
-abbrev pub Holders : Type 0
-Holders = map.FinMap nat_cmp ℕ
+abbrev pub LockHolders : Type 0
+LockHolders = map.FinMap nat_cmp ℕ
 
 -- what a thread finds that asks for a lock with this holder
 abbrev pub grip_of : Option ℕ → ℕ → Grip
@@ -15,6 +15,6 @@ grip_of None thread = Got
 grip_of (Some holder) thread = if holder == thread then Already else Held holder
 
 -- the holders after a thread asked for the lock with this holder
-abbrev pub holders_after : Holders → ℕ → ℕ → Option ℕ → Holders
+abbrev pub holders_after : LockHolders → ℕ → ℕ → Option ℕ → LockHolders
 holders_after holders lock thread None = map.insert holders lock thread
 holders_after holders lock thread (Some holder) = holders

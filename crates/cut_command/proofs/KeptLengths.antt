@@ -10,18 +10,18 @@ use Rattle.call_log.specs.Head.{IsHead}
 use Rattle.call_log.specs.Log.{Log}
 use Rattle.guest_process.specs.Fits.{StateFits}
 use Rattle.proc_replay.specs.AtHead.{IsAtHead}
-use Rattle.proc_replay.specs.Course.{ahead}
+use Rattle.proc_replay.specs.Course.{entries_ahead}
 use Rattle.proc_replay.specs.Replaying.{Replaying}
 use Rattle.causal_cut.specs.Laws.{FrontsReplay, IsLeastPast}
-use Rattle.causal_cut.specs.Past.{Lengths, accepted_counts, is_within, least_past, lengths_or_none}
+use Rattle.causal_cut.specs.Past.{Lengths, accepted_counts, is_within_lengths, least_past, lengths_or_none}
 use Rattle.command_run.specs.Outcome.{CommandOutcome}
 use Rattle.log_pairs.specs.Finding.{log_file}
 use Rattle.log_pairs.specs.Pairs.{Loaded, Pair}
 use Rattle.cut_command.specs.declared.fronts.Front.{Front}
 use Rattle.cut_command.specs.declared.past.Past.{Past}
-use Rattle.cut_command.specs.Cut.{cut_files, cut_line, cut_name, cut_of_replays, cut_text, front_of, node_of_process, unless_few, unless_other}
-use Rattle.cut_command.specs.Laws.{IsCut}
-use Rattle.cut_command.specs.Seen.{AreLeast, front_file, fronts_of, front_line, log_of_replay, work_of_past}
+use Rattle.cut_command.specs.Cut.{cut_files, cut_line, cut_name, cut_of_replays, cut_text, log_front_of, node_of_process, unless_few_events, unless_other_process}
+use Rattle.cut_command.specs.Laws.{IsCutLog}
+use Rattle.cut_command.specs.Seen.{AreLeastFronts, front_file, fronts_of, front_line, log_of_replay, work_of_past}
 
 -- ---- log after log
 
@@ -55,19 +55,19 @@ both true true is = (refl, refl)
 both true false is = cc
 both false b is = cc
 
-same_count : (ms ns : List ℕ) → is_within ms ns ≡ true → length ms ≡ length ns
+same_count : (ms ns : List ℕ) → is_within_lengths ms ns ≡ true → length ms ≡ length ns
 same_count [] [] within = refl
 same_count [] (n ∷ ns) within = cc
 same_count (m ∷ ms) [] within = cc
-same_count (m ∷ ms) (n ∷ ns) within = ap suc (same_count ms ns (both (nat_le m n) (is_within ms ns) within).1)
+same_count (m ∷ ms) (n ∷ ns) within = ap suc (same_count ms ns (both (nat_le m n) (is_within_lengths ms ns) within).1)
 
-within_at : (ms ns : List ℕ) (i m n : ℕ) → is_within ms ns ≡ true → slice_get ms i ≡ Some m → slice_get ns i ≡ Some n → m ≤ n
+within_at : (ms ns : List ℕ) (i m n : ℕ) → is_within_lengths ms ns ≡ true → slice_get ms i ≡ Some m → slice_get ns i ≡ Some n → m ≤ n
 within_at [] ns i m n within at other_at = cc
 within_at (x ∷ ms) [] i m n within at other_at = cc
 within_at (x ∷ ms) (y ∷ ns) zero m n within at other_at =
-    let least = leb-true x y (both (nat_le x y) (is_within ms ns) within).0 in
+    let least = leb-true x y (both (nat_le x y) (is_within_lengths ms ns) within).0 in
     subst (λ (n : ℕ). m ≤ n) (same_Some y n other_at) (subst (λ (m : ℕ). m ≤ y) (same_Some x m at) least)
-within_at (x ∷ ms) (y ∷ ns) (suc i) m n within at other_at = within_at ms ns i m n (both (nat_le x y) (is_within ms ns) within).1 at other_at
+within_at (x ∷ ms) (y ∷ ns) (suc i) m n within at other_at = within_at ms ns i m n (both (nat_le x y) (is_within_lengths ms ns) within).1 at other_at
 
 -- ---- the lengths of a least past
 
@@ -82,7 +82,7 @@ pub record FitLogs (start : List Replaying) (lengths : Lengths) : Type 0 where
 
 pub fit_logs : (start : List Replaying) (node event : ℕ) (lengths : Lengths) → lengths_or_none start node event ≡ Some lengths → IsLeastPast start node event lengths.kept → FitLogs start lengths
 fit_logs start node event lengths found least =
-    let counted : length (accepted_counts start) ≡ length start = length-map start (λ r. length (ahead r)) in
+    let counted : length (accepted_counts start) ≡ length start = length-map start (λ r. length (entries_ahead r)) in
     record {
       kept = same_count lengths.kept (accepted_counts start) least.within ∙ counted;
       accepted = ap (λ (l : Lengths). length l.accepted) (sym (lengths_are _ (record { kept = least_past start node event; accepted = accepted_counts start }) lengths found)) ∙ counted;
@@ -101,7 +101,7 @@ files_are [] kept accepted same = refl
 files_are (r ∷ start) [] accepted same = refl
 files_are (r ∷ start) (n ∷ kept) [] same = cc
 files_are (r ∷ start) (n ∷ kept) (m ∷ accepted) same =
-    ap (λ (files : List (List ℕ × List ℕ)). (cut_name r.head.name, front_of r n) ∷ files) (files_are start kept accepted (omega (arith, same)))
+    ap (λ (files : List (List ℕ × List ℕ)). (cut_name r.head.name, log_front_of r n) ∷ files) (files_are start kept accepted (omega (arith, same)))
 
 file_count : (start : List Replaying) (kept : List ℕ) → length kept ≡ length start → length (cut_files start kept) ≡ length start
 file_count [] kept same = refl
@@ -109,7 +109,7 @@ file_count (r ∷ start) [] same = cc
 file_count (r ∷ start) (n ∷ kept) same = ap suc (file_count start kept (omega (arith, same)))
 
 abbrev cut_file : Replaying → ℕ → Option (List ℕ × List ℕ)
-cut_file r n = Some (cut_name r.head.name, front_of r n)
+cut_file r n = Some (cut_name r.head.name, log_front_of r n)
 
 file_at : (start : List Replaying) (kept : List ℕ) (i n : ℕ) (r : Replaying) → slice_get start i ≡ Some r → slice_get kept i ≡ Some n → slice_get (cut_files start kept) i ≡ cut_file r n
 file_at [] kept i n r at kept_at = cc
@@ -125,7 +125,7 @@ read_heads (r ∷ start) [] accepted heads = tt
 read_heads (r ∷ start) (n ∷ kept) [] heads = tt
 read_heads (r ∷ start) (n ∷ kept) (m ∷ accepted) heads = (heads.0.head, read_heads start kept accepted heads.1)
 
-pub all_heads : (node event : ℕ) (start : List Replaying) (fronts : List Front) → All IsAtHead start → AreLeast start node event fronts → All (λ (f : Front). IsHead f.log.head) fronts
+pub all_heads : (node event : ℕ) (start : List Replaying) (fronts : List Front) → All IsAtHead start → AreLeastFronts start node event fronts → All (λ (f : Front). IsHead f.log.head) fronts
 all_heads node event start fronts heads a =
     subst (All (λ (f : Front). IsHead f.log.head)) (sym a.are)
     (All-from_recursion (λ (f : Front). IsHead f.log.head) (fronts_of (map log_of_replay start) a.lengths.kept a.lengths.accepted) (read_heads start a.lengths.kept a.lengths.accepted (recursion_from_All IsAtHead start heads)))
@@ -133,13 +133,13 @@ all_heads node event start fronts heads a =
 at_place : (P : Replaying → Type 0) (start : List Replaying) (i : ℕ) (r : Replaying) → All P start → slice_get start i ≡ Some r → P r
 at_place P start i r all at = subst P (get_or_from_slice_get start i r r at) (all i r (slice_get_within start i r at))
 
-same_files : (start : List Replaying) (node event : ℕ) (fronts : List Front) → (a : AreLeast start node event fronts) → map front_file fronts ≡ cut_files start a.lengths.kept
+same_files : (start : List Replaying) (node event : ℕ) (fronts : List Front) → (a : AreLeastFronts start node event fronts) → map front_file fronts ≡ cut_files start a.lengths.kept
 same_files start node event fronts a =
     let fit = fit_logs start node event a.lengths a.found a.least in
     ap (map front_file) a.are ∙ files_are start a.lengths.kept a.lengths.accepted (fit.kept ∙ sym fit.accepted)
 
-pub is_cut : FrontsReplay → (process event node : ℕ) (start : List Replaying) (past : Past) → All IsAtHead start → node_of_process process start ≡ Some node → AreLeast start node event past.fronts.items
-    → IsCut process event start (work_of_past past)
+pub is_cut : FrontsReplay → (process event node : ℕ) (start : List Replaying) (past : Past) → All IsAtHead start → node_of_process process start ≡ Some node → AreLeastFronts start node event past.fronts.items
+    → IsCutLog process event start (work_of_past past)
 is_cut replays process event node start past heads at a =
     let kept = a.lengths.kept in
     let files = same_files start node event past.fronts.items a in
@@ -152,7 +152,7 @@ is_cut replays process event node start past heads at a =
       files = λ i n r is is_kept. (
         ap (λ (fs : List (List ℕ × List ℕ)). slice_get fs i) files ∙ file_at start kept i n r is is_kept,
         replays r n (at_place IsAtHead start i r heads is) (at_place (λ r. StateFits r.state) start i r a.fits is)
-            (within_at kept (accepted_counts start) i n (length (ahead r)) a.least.within is_kept (slice_get-map (λ r. length (ahead r)) start i ∙ ap (option_map (λ r. length (ahead r))) is)),
+            (within_at kept (accepted_counts start) i n (length (entries_ahead r)) a.least.within is_kept (slice_get-map (λ r. length (entries_ahead r)) start i ∙ ap (option_map (λ r. length (entries_ahead r))) is)),
       );
     }
 
@@ -161,11 +161,11 @@ is_cut replays process event node start past heads at a =
 abbrev done_with : List ℕ → List (List ℕ × List ℕ) → CommandOutcome
 done_with text files = Ok (record { text = text; writes = files; diverged = false })
 
-pub past_works : (pairs : List Pair) (ls : List Loaded) (process event node : ℕ) (start : List Replaying) (past : Past) → node_of_process process start ≡ Some node → AreLeast start node event past.fronts.items
+pub past_works : (pairs : List Pair) (ls : List Loaded) (process event node : ℕ) (start : List Replaying) (past : Past) → node_of_process process start ≡ Some node → AreLeastFronts start node event past.fronts.items
     → past.text ≡ flat_map front_line past.fronts.items → cut_of_replays pairs ls process event start ≡ Ok (work_of_past past)
 past_works pairs ls process event node start past at a says =
     let kept = a.lengths.kept in
-    ap (unless_other pairs ls process event start) at
-    ∙ ap (unless_few (log_file pairs ls process) start) a.found
+    ap (unless_other_process pairs ls process event start) at
+    ∙ ap (unless_few_events (log_file pairs ls process) start) a.found
     ∙ ap (λ (text : List ℕ). done_with text (cut_files start kept)) (sym (says ∙ ap (flat_map front_line) a.are ∙ text_is start kept a.lengths.accepted))
     ∙ ap (done_with past.text) (sym (same_files start node event past.fronts.items a))

@@ -5,13 +5,13 @@ use Rattle.std.proofs.lemmas.List.{take-append-drop}
 use Rattle.std.proofs.lemmas.Option.{same_Some, slice_get-get_or, slice_get-map}
 use Rattle.fri_outside.specs.Laws.{KeepsFiles}
 use Rattle.fri_outside.specs.Outside.{Folder, with_file}
-use Rattle.fri_outside.specs.Several.{AreFronts, ChangesOnly, with_files}
+use Rattle.fri_outside.specs.Several.{AreFileFronts, ChangesOnlyFiles, with_files}
 use Rattle.fri_text.specs.Name.{is_name}
 use Rattle.call_log.specs.Head.{IsHead}
-use Rattle.call_log.specs.Log.{entries_of, rewritten}
+use Rattle.call_log.specs.Log.{entries_of, rewritten_log}
 use Rattle.process_files.specs.PartLaws.{part_fronts}
 use Rattle.process_files.specs.Parts.{AreMadeInPart, made_in_part}
-use Rattle.command_run.specs.FileLaws.{fronts_behind, fronts_of_more, with_more}
+use Rattle.command_run.specs.FileLaws.{fronts_behind, fronts_of_more, with_more_files}
 use Rattle.cut_command.specs.declared.fronts.Front.{Front}
 use Rattle.cut_command.specs.Cut.{cut_name}
 use Rattle.cut_command.specs.Seen.{front_file}
@@ -21,7 +21,7 @@ a_file name bytes = Some (cut_name name, bytes)
 
 -- the file of the log at a place
 pub file_here : (fronts : List Front) (n : ℕ) (front d : Front) (name bytes : List ℕ) → n < length fronts → front ≡ get_or fronts n d → name ≡ front.log.head.name
-    → bytes ≡ rewritten front.log.head (take front.kept (entries_of front.log.left)) → slice_get (map front_file fronts) n ≡ a_file name bytes
+    → bytes ≡ rewritten_log front.log.head (take front.kept (entries_of front.log.left)) → slice_get (map front_file fronts) n ≡ a_file name bytes
 file_here fronts n front d name bytes within is named rewrites =
     slice_get-map front_file fronts n ∙ ap (option_map front_file) (slice_get-get_or fronts n d within ∙ ap Some (sym is))
     ∙ ap (λ (name : List ℕ). a_file name (front_file front).1) (sym named) ∙ ap (a_file name) (sym rewrites)
@@ -55,31 +55,31 @@ pub one_made : (files : Files) (n : ℕ) (file : List ℕ × List ℕ) (before m
     → after ≡ with_file file.0 file.1 mid → after ≡ with_files (take (n + 1) files) before
 one_made files n file before mid after at so_far made =
     let next : suc n ≡ n + 1 = omega arith in
-    made ∙ ap (with_file file.0 file.1) so_far ∙ sym (with_more (take n files) (file ∷ []) before)
+    made ∙ ap (with_file file.0 file.1) so_far ∙ sym (with_more_files (take n files) (file ∷ []) before)
     ∙ ap (λ (fs : Files). with_files fs before) (sym (more_files files n file at) ∙ ap (λ (k : ℕ). take k files) next)
 
-no_fronts : (files : Files) → AreFronts [] files
+no_fronts : (files : Files) → AreFileFronts [] files
 no_fronts files place name bytes at = cc
 
 -- the first files alone
-pub first_made : KeepsFiles → (files : Files) (n : ℕ) (before mid : Option Folder) → mid ≡ with_files (take n files) before → ChangesOnly before files mid
+pub first_made : KeepsFiles → (files : Files) (n : ℕ) (before mid : Option Folder) → mid ≡ with_files (take n files) before → ChangesOnlyFiles before files mid
 first_made keeps files n before mid so_far =
     let first = take n files in
     let made : mid ≡ with_files (first ++ []) before = so_far ∙ ap (λ (fs : Files). with_files fs before) (sym (append-nil first)) in
-    subst (ChangesOnly before files) (sym made)
+    subst (ChangesOnlyFiles before files) (sym made)
     (keeps.left before (first ++ []) files
-    (subst (AreFronts (first ++ [])) (take-append-drop n files) (fronts_behind first [] (drop n files) (no_fronts (drop n files)))))
+    (subst (AreFileFronts (first ++ [])) (take-append-drop n files) (fronts_behind first [] (drop n files) (no_fronts (drop n files)))))
 
 -- and a part of the next one
 pub part_made : KeepsFiles → (files : Files) (n : ℕ) (file : List ℕ × List ℕ) (before mid after : Option Folder) → slice_get files n ≡ Some file → mid ≡ with_files (take n files) before
-    → AreMadeInPart (file ∷ []) mid after → ChangesOnly before files after
+    → AreMadeInPart (file ∷ []) mid after → ChangesOnlyFiles before files after
 part_made keeps files n file before mid after at so_far (inl same) = first_made keeps files n before after (same ∙ so_far)
 part_made keeps files n file before mid after at so_far (inr (k, m, made)) =
     let first = take n files in
     let part = made_in_part (file ∷ []) k m in
     let rest = drop (suc n) files in
-    let all : after ≡ with_files (first ++ part) before = made ∙ ap (with_files part) so_far ∙ sym (with_more first part before) in
-    subst (ChangesOnly before files) (sym all)
+    let all : after ≡ with_files (first ++ part) before = made ∙ ap (with_files part) so_far ∙ sym (with_more_files first part before) in
+    subst (ChangesOnlyFiles before files) (sym all)
     (keeps.left before (first ++ part) files
-    (subst (AreFronts (first ++ part)) (sym (files_around files n file at))
+    (subst (AreFileFronts (first ++ part)) (sym (files_around files n file at))
     (fronts_behind first part (file ∷ rest) (fronts_of_more part (file ∷ []) rest (part_fronts (file ∷ []) k m)))))

@@ -1,7 +1,7 @@
 -- The outcome of `cut`, given the files.
 use Rattle.std.specs.Prelude.{ℕ, false, ◌==◌, List, [], ◌∷◌, ◌++◌, take, decimal, codes, position, Option, Some, None, Ok, Err}
 use Rattle.fri_outside.specs.Outside.{Folder}
-use Rattle.call_log.specs.Log.{entries_of, rewritten}
+use Rattle.call_log.specs.Log.{entries_of, rewritten_log}
 use Rattle.proc_replay.specs.Replaying.{Replaying}
 use Rattle.command_run.specs.declared.refusal.Reason.TheVariants as reason
 use Rattle.command_run.specs.Outcome.{CommandOutcome, CommandWork, and_then, refuses_at_once}
@@ -16,8 +16,8 @@ abbrev pub cut_name : List ℕ → List ℕ
 cut_name name = name ++ codes ".cut"
 
 -- a log of version 2 with the head and the first n entries of a log
-abbrev pub front_of : Replaying → ℕ → List ℕ
-front_of r n = rewritten r.head (take n (entries_of r.left))
+abbrev pub log_front_of : Replaying → ℕ → List ℕ
+log_front_of r n = rewritten_log r.head (take n (entries_of r.left))
 
 -- the process's name, how many of its events are kept, and how many are accepted
 abbrev pub cut_line : List ℕ → ℕ → ℕ → List ℕ
@@ -33,7 +33,7 @@ cut_text (r ∷ rs) (n ∷ kept) (m ∷ accepted) = cut_line r.head.name n m ++ 
 abbrev pub cut_files : List Replaying → List ℕ → List (List ℕ × List ℕ)
 cut_files [] kept = []
 cut_files (r ∷ rs) [] = []
-cut_files (r ∷ rs) (n ∷ kept) = (cut_name r.head.name, front_of r n) ∷ cut_files rs kept
+cut_files (r ∷ rs) (n ∷ kept) = (cut_name r.head.name, log_front_of r n) ∷ cut_files rs kept
 
 abbrev pub cut_work : List Replaying → Lengths → CommandWork
 cut_work start lengths = record { text = cut_text start lengths.kept lengths.accepted; writes = cut_files start lengths.kept; diverged = false }
@@ -45,17 +45,17 @@ abbrev pub node_of_process : ℕ → List Replaying → Option ℕ
 node_of_process process start = position (λ r. r.head.process == process) start
 
 -- the log of the process is refused where it has fewer events
-abbrev pub unless_few : List ℕ → List Replaying → Option Lengths → CommandOutcome
-unless_few file start None = Err (refuses_at_once file reason.NoEvent)
-unless_few file start (Some lengths) = Ok (cut_work start lengths)
+abbrev pub unless_few_events : List ℕ → List Replaying → Option Lengths → CommandOutcome
+unless_few_events file start None = Err (refuses_at_once file reason.NoEvent)
+unless_few_events file start (Some lengths) = Ok (cut_work start lengths)
 
 -- and the first log where none is of the process
-abbrev pub unless_other : List Pair → List Loaded → ℕ → ℕ → List Replaying → Option ℕ → CommandOutcome
-unless_other pairs ls process event start None = Err (refuses_at_once (first_log pairs) reason.NoProcess)
-unless_other pairs ls process event start (Some node) = unless_few (log_file pairs ls process) start (lengths_or_none start node event)
+abbrev pub unless_other_process : List Pair → List Loaded → ℕ → ℕ → List Replaying → Option ℕ → CommandOutcome
+unless_other_process pairs ls process event start None = Err (refuses_at_once (first_log pairs) reason.NoProcess)
+unless_other_process pairs ls process event start (Some node) = unless_few_events (log_file pairs ls process) start (lengths_or_none start node event)
 
 abbrev pub cut_of_replays : List Pair → List Loaded → ℕ → ℕ → List Replaying → CommandOutcome
-cut_of_replays pairs ls process event start = unless_other pairs ls process event start (node_of_process process start)
+cut_of_replays pairs ls process event start = unless_other_process pairs ls process event start (node_of_process process start)
 
 abbrev pub cut_outcome : ℕ → ℕ → List Pair → Folder → CommandOutcome
 cut_outcome process event pairs folder =

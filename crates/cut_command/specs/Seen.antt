@@ -1,6 +1,6 @@
 -- What the values of the code stand for.
 use Rattle.std.specs.Prelude.{◌≡◌, ℕ, false, List, [], ◌∷◌, map, take, Some}
-use Rattle.call_log.specs.Log.{Log, entries_of, rewritten}
+use Rattle.call_log.specs.Log.{Log, entries_of, rewritten_log}
 use Rattle.proc_replay.specs.Replaying.{Replaying}
 use Rattle.group_state.specs.Place.{PartsFit}
 use Rattle.causal_cut.specs.Laws.{IsLeastPast}
@@ -27,10 +27,10 @@ front_line front = cut_line front.log.head.name front.kept front.accepted
 
 -- the file that is made of a log, with what is kept of it
 abbrev pub front_file : Front → List ℕ × List ℕ
-front_file front = (cut_name front.log.head.name, rewritten front.log.head (take front.kept (entries_of front.log.left)))
+front_file front = (cut_name front.log.head.name, rewritten_log front.log.head (take front.kept (entries_of front.log.left)))
 
 -- of each log of a group so much is kept as the event of a node needs
-pub record AreLeast (start : List Replaying) (node event : ℕ) (fronts : List Front) : Type 0 where
+pub record AreLeastFronts (start : List Replaying) (node event : ℕ) (fronts : List Front) : Type 0 where
   pub lengths : Lengths
   pub found : lengths_or_none start node event ≡ Some lengths
   pub least : IsLeastPast start node event lengths.kept

@@ -2,7 +2,7 @@
 ghost use Rattle.std.specs.Prelude.{◌≡◌, All, false, map, option_map, IfErr, IfOk};
 ghost use Rattle.fri_outside.specs.Outside.{WhenTold};
 ghost use Rattle.call_log.specs.Head.{IsHead};
-ghost use Rattle.command_run.specs.Call.{CountsFaults, DivergesOnlyIf, KeepsFolder, MakesWorkFiles, MakesAll, Raises, TellsOutcome};
+ghost use Rattle.command_run.specs.Call.{CountsFaults, DivergesOnlyIf, KeepsFolder, MakesWorkFiles, MakesAllFiles, RaisesCount, TellsOutcome};
 ghost use Rattle.command_run.specs.Outcome.{writes_of};
 ghost use Rattle.log_pairs.specs.Seen.{pair_of};
 ghost use Rattle.cut_command.specs.Cut.{cut_outcome};
@@ -21,9 +21,9 @@ use std::alloc::Global;
 // Makes the files of the logs, one after the other, each with the part of its log that is kept.
 fn write_cuts<F: Files>(alloc: Global, fronts: &[Front<'_>], files: &mut F) -> Result<(), StopCause>
     requires { All (λ front. IsHead front.log.head) fronts.now }
-    ensures made { MakesAll result (map front_file fronts.now) (F.told files.old) (F.told files.new) }
+    ensures made { MakesAllFiles result (map front_file fronts.now) (F.told files.old) (F.told files.new) }
     ensures counts { CountsFaults (F.counts files.old) (F.counts files.new) result }
-    ensures cause { IfErr result (Raises (F.counts files.old) (F.counts files.new)) }
+    ensures cause { IfErr result (RaisesCount (F.counts files.old) (F.counts files.new)) }
 {
     fri_outside::laws::keeps_files();
     for front in fronts {
@@ -48,7 +48,7 @@ pub fn cut<F: Files>(
     ensures keeps { KeepsFolder result (F.told files.old) (F.told files.new) }
     ensures done { DivergesOnlyIf false result }
     ensures counts { CountsFaults (F.counts files.old) (F.counts files.new) result }
-    ensures cause { IfErr result (Raises (F.counts files.old) (F.counts files.new)) }
+    ensures cause { IfErr result (RaisesCount (F.counts files.old) (F.counts files.new)) }
     ensures least { WhenTold (F.told files.old) (λ folder. IfOk result (λ _. CutsToPast process event (map pair_of pairs.now) folder)) }
 {
     let all = load_all(alloc, pairs, files)?;

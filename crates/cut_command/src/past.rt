@@ -2,16 +2,16 @@
 ghost use Rattle.std.specs.Prelude.{◌≡◌, ◌<◌, All, IfErr, IfOk, List, MatchResult, length, map, ℕ};
 ghost use Rattle.fri_outside.specs.Outside.{Counts};
 ghost use Rattle.call_log.specs.Head.{IsHead};
-ghost use Rattle.command_run.specs.Call.{Raises, TellsResult, reads_after, writes_after};
+ghost use Rattle.command_run.specs.Call.{RaisesCount, TellsResult, reads_after, writes_after};
 ghost use Rattle.proc_replay.specs.AtHead.{IsAtHead};
 ghost use Rattle.group_state.specs.Place.{AreParts};
 ghost use Rattle.causal_cut.specs.Past.{lengths_or_none};
 ghost use Rattle.causal_cut.specs.Seen.{IsCutError};
 ghost use Rattle.log_pairs.specs.Pairs.{Loaded as LoadedOf};
-ghost use Rattle.log_pairs.specs.Seen.{AreLoaded, pair_of};
+ghost use Rattle.log_pairs.specs.Seen.{AreLoadedPairs, pair_of};
 ghost use Rattle.cut_command.specs.Cut.{cut_of_replays, node_of_process};
-ghost use Rattle.cut_command.specs.Laws.{IsCut};
-ghost use Rattle.cut_command.specs.Seen.{AreLeast, work_of_past};
+ghost use Rattle.cut_command.specs.Laws.{IsCutLog};
+ghost use Rattle.cut_command.specs.Seen.{AreLeastFronts, work_of_past};
 
 use crate::fronts::{Front, fronts_of, logs_of, print};
 use causal_cut::{CutError, least_cut};
@@ -44,7 +44,7 @@ fn least_fronts<'m>(
 ) -> Result<Vec<Front<'m>>, CutError>
     requires parts { AreParts parts.items }
     requires node { node < length parts.items }
-    ensures { MatchResult result (λ fronts. AreLeast parts.entry.items node event fronts.items)
+    ensures { MatchResult result (λ fronts. AreLeastFronts parts.entry.items node event fronts.items)
         (IsCutError (lengths_or_none parts.entry.items node event)) }
 {
     let logs = logs_of(alloc, &parts)?;
@@ -63,10 +63,10 @@ pub(crate) fn take_past<'m>(
 ) -> Result<Past<'m>, StopCause>
     requires parts { AreParts parts.items }
     requires at_heads { All IsAtHead parts.items }
-    ensures answer { (ls : List LoadedOf) → AreLoaded all.now ls → TellsResult work_of_past (cut_of_replays (map pair_of pairs.now) ls process event parts.entry.items) result }
-    ensures least { IfOk result (λ past. IsCut process event parts.entry.items (work_of_past past)) }
+    ensures answer { (ls : List LoadedOf) → AreLoadedPairs all.now ls → TellsResult work_of_past (cut_of_replays (map pair_of pairs.now) ls process event parts.entry.items) result }
+    ensures least { IfOk result (λ past. IsCutLog process event parts.entry.items (work_of_past past)) }
     ensures heads { IfOk result (λ past. All (λ front. IsHead front.log.head) past.fronts.items) }
-    ensures cause { (old new : Counts) → IfErr result (Raises old new) }
+    ensures cause { (old new : Counts) → IfErr result (RaisesCount old new) }
     ensures still { (n : ℕ) → (reads_after n result ≡ n) × (writes_after n result ≡ n) }
 {
     causal_cut::laws::fronts_replay();

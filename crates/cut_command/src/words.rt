@@ -4,15 +4,15 @@ ghost use Rattle.cut_command.specs.Words.{event_number_of, process_of};
 
 use fri_text::read_decimal;
 
-const LAST_PROCESS: u64 = 15;
+const MOST_PROCESS: u64 = 15;
 
-const LAST_EVENT: u64 = (1 << 63) - 1;
+const MOST_EVENT: u64 = (1 << 63) - 1;
 
 /// The process that the word names: a decimal number from 0 to 15.
 pub fn process_of(word: &str) -> Option<u32>
     ensures { result ≡ process_of word.now }
 {
-    let number = read_decimal(word.as_bytes(), LAST_PROCESS).ok()?;
+    let number = read_decimal(word.as_bytes(), MOST_PROCESS).ok()?;
     u32::try_from(number).ok()
 }
 
@@ -20,7 +20,7 @@ pub fn process_of(word: &str) -> Option<u32>
 pub fn event_number_of(word: &str) -> Option<u64>
     ensures { result ≡ event_number_of word.now }
 {
-    let number = read_decimal(word.as_bytes(), LAST_EVENT).ok()?;
+    let number = read_decimal(word.as_bytes(), MOST_EVENT).ok()?;
     if number == 0 {
         return None;
     }

@@ -2,7 +2,7 @@
 use Rattle.std.proofs.Common.{◌≡◌, ◌⊎◌, ◌∙◌, ℕ, Bool, true, false, cond, List, [], Option, Some, None, option_map, Result, Ok, Err, refl, sym, ap, subst, inl, inr, arith}
 use Rattle.std.specs.Prelude.{⊤, option_and_then}
 use Rattle.std.proofs.lemmas.Option.{same_Some}
-use Rattle.fri_outside.specs.Outside.{Folder, Rose, WhenTold}
+use Rattle.fri_outside.specs.Outside.{Folder, CountRose, WhenTold}
 use Rattle.fri_outside.specs.Several.{with_files}
 use Rattle.fri_text.specs.Line.{lines_of}
 use Rattle.proc_replay.specs.Replaying.{Replaying}
@@ -12,15 +12,15 @@ use Rattle.command_run.specs.declared.status.Status.TheVariants as ends
 use Rattle.command_run.specs.declared.refusal.Reason.TheVariants as reason
 use Rattle.command_run.specs.declared.refusal.StopCause.{StopCause}
 use Rattle.command_run.specs.declared.refusal.StopCause.TheVariants as refusal
-use Rattle.command_run.specs.Call.{CountsFaults, IsAnswerStatus, KeepsFolder, Prints, PrintsRefusal, Raises, StopsAs, said_after}
+use Rattle.command_run.specs.Call.{CountsFaults, IsAnswerStatus, KeepsFolder, PrintsText, PrintsRefusal, RaisesCount, StopsAsCause, failed_says_after}
 use Rattle.command_run.specs.CountLaws.{counted_faults}
 use Rattle.command_run.specs.FileLaws.{same_others}
 use Rattle.command_run.specs.Outcome.{CommandOutcome, Refuses, CommandStop, outcome_status, outcome_text, writes_of}
-use Rattle.command_run.specs.OutcomeLaws.{none_left, stops_make, stops_tell}
-use Rattle.command_run.specs.Run.{FaultsTold, Finished, Outside, Performed, expectation, file_state}
+use Rattle.command_run.specs.OutcomeLaws.{no_file_left, stops_make_files, stops_tell_outcome}
+use Rattle.command_run.specs.Run.{TellsFaults, FinishedCommand, Outside, PerformedCommand, expectation, file_state}
 use Rattle.log_pairs.specs.Pairs.{NoneOpened, Pair, WasOpened, replays_of_pairs}
-use Rattle.debug_command.specs.Conversation.{Converses, NeverOfASession, TerminalState, heard_after}
-use Rattle.debug_command.specs.Debug.{early_lines, input_name, is_large, opened_outcome, session_outcome, spoken}
+use Rattle.debug_command.specs.Conversation.{ConversesInSession, NeverOfASession, TerminalState, heard_after}
+use Rattle.debug_command.specs.Debug.{early_lines, input_name, is_large_input, opened_outcome, session_outcome, spoken_session}
 use Rattle.debug_command.specs.Run.{DebugRun, debug_expected}
 
 -- ---- no session began
@@ -29,25 +29,25 @@ use Rattle.debug_command.specs.Run.{DebugRun, debug_expected}
 stop_is : (begun : Result (List Replaying) CommandStop) (left : Option (List ℕ)) (o : CommandOutcome) (stop : CommandStop) → begun ≡ Err stop → opened_outcome begun left ≡ Some o → o ≡ Err stop
 stop_is begun left o stop is here = sym (same_Some _ _ (sym (ap (λ (r : Result (List Replaying) CommandStop). opened_outcome r left) is) ∙ here))
 
-stops_as : (begun : Result (List Replaying) CommandStop) (left : Option (List ℕ)) (o : CommandOutcome) (e : StopCause) → StopsAs begun e → opened_outcome begun left ≡ Some o → StopsAs o e
+stops_as : (begun : Result (List Replaying) CommandStop) (left : Option (List ℕ)) (o : CommandOutcome) (e : StopCause) → StopsAsCause begun e → opened_outcome begun left ≡ Some o → StopsAsCause o e
 stops_as begun left o (refusal.Refused file why) is here = stop_is begun left o _ is here
 stops_as begun left o (refusal.Absent file) is here = stop_is begun left o _ is here
 stops_as begun left o refusal.ReadFault is here = tt
 stops_as begun left o refusal.WriteFault is here = tt
 stops_as begun left o refusal.NoMemory is here = tt
 
-refused_stops : (pairs : List Pair) (told : Option Folder) (left : Option (List ℕ)) (e : StopCause) → NoneOpened pairs told e → (o : CommandOutcome) → option_and_then (λ folder. opened_outcome (replays_of_pairs folder pairs) left) told ≡ Some o → StopsAs o e
+refused_stops : (pairs : List Pair) (told : Option Folder) (left : Option (List ℕ)) (e : StopCause) → NoneOpened pairs told e → (o : CommandOutcome) → option_and_then (λ folder. opened_outcome (replays_of_pairs folder pairs) left) told ≡ Some o → StopsAsCause o e
 refused_stops pairs None left e stops o here = cc
 refused_stops pairs (Some folder) left e stops o here = stops_as (replays_of_pairs folder pairs) left o e (stops folder refl) here
 
 -- its result is told so
-pub performed : (pairs : List Pair) (e : StopCause) (old new : Outside) → NoneOpened pairs old.told e → Raises old.counts new.counts e
+pub performed : (pairs : List Pair) (e : StopCause) (old new : Outside) → NoneOpened pairs old.told e → RaisesCount old.counts new.counts e
     → CountsFaults {T = ⊤} old.counts new.counts (Err e)
     → new.told ≡ old.told
-    → Performed (expectation (debug_expected pairs old) (λ folder. []) false) (file_state old.told old.counts) (file_state new.told new.counts) (Err e)
+    → PerformedCommand (expectation (debug_expected pairs old) (λ folder. []) false) (file_state old.told old.counts) (file_state new.told new.counts) (Err e)
 performed pairs e old new stops cause counts same = record {
-  tells = λ o here. stops_tell o e (refused_stops pairs old.told old.hearing.left e stops o here);
-  makes = λ o here. stops_make o e old.told new.told (refused_stops pairs old.told old.hearing.left e stops o here) same;
+  tells = λ o here. stops_tell_outcome o e (refused_stops pairs old.told old.hearing.left e stops o here);
+  makes = λ o here. stops_make_files o e old.told new.told (refused_stops pairs old.told old.hearing.left e stops o here) same;
   names = λ folder here. inl same;
   keeps = keeps e;
   diverges = tt;
@@ -62,12 +62,12 @@ performed pairs e old new stops cause counts same = record {
   keeps refusal.NoMemory = tt
 
 -- an input is not what is too large
-other_refusal : {Large : List ℕ → Type 0} (old new : Outside) → PrintsRefusal old.taken new.taken (λ file. Rose old.counts.misses new.counts.misses)
-    → PrintsRefusal old.taken new.taken (λ file. Rose old.counts.misses new.counts.misses ⊎ Large file)
+other_refusal : {Large : List ℕ → Type 0} (old new : Outside) → PrintsRefusal old.taken new.taken (λ file. CountRose old.counts.misses new.counts.misses)
+    → PrintsRefusal old.taken new.taken (λ file. CountRose old.counts.misses new.counts.misses ⊎ Large file)
 other_refusal old new (earlier, file, (why, is, cause)) = (earlier, file, (why, is, λ large. inl (cause large)))
 
 pub run_refused : (pairs : List Pair) (e : StopCause) (answer : Status) (old new : Outside)
-    → Finished (expectation (debug_expected pairs old) (λ folder. []) false) (Err e) old new answer → DebugRun pairs old new answer
+    → FinishedCommand (expectation (debug_expected pairs old) (λ folder. []) false) (Err e) old new answer → DebugRun pairs old new answer
 run_refused pairs e answer old new f = record {
   call = f.call;
   is_command = f.is_command;
@@ -96,7 +96,7 @@ is_spoken pairs (Some folder) left start opens o here =
 
 -- by whether the input is too large
 abbrev pub spoken_if : Bool → List ℕ → List ℕ → CommandOutcome
-spoken_if large early whole = cond large (Err (Refuses input_name reason.TooLarge (spoken early))) (Ok (spoken whole))
+spoken_if large early whole = cond large (Err (Refuses input_name reason.TooLarge (spoken_session early))) (Ok (spoken_session whole))
 
 makes_none : (large : Bool) (early whole : List ℕ) → writes_of (spoken_if large early whole) ≡ []
 makes_none true early whole = refl
@@ -108,17 +108,17 @@ was_large false early whole is = cc
 
 session_makes_none : (start : List Replaying) (left : Option (List ℕ)) (o : CommandOutcome) → IsSpoken start left o → writes_of o ≡ []
 session_makes_none start left o s =
-    ap writes_of s.outcome ∙ makes_none (is_large start s.input) (session_text start (early_lines s.input)) (session_text start (lines_of s.input))
+    ap writes_of s.outcome ∙ makes_none (is_large_input start s.input) (session_text start (early_lines s.input)) (session_text start (lines_of s.input))
 
 -- a count that was told rose
-heard_rose : (answer : Status) (old new : ℕ) → new ≡ heard_after old answer → answer ≡ ends.ReadFault → Rose old new
+heard_rose : (answer : Status) (old new : ℕ) → new ≡ heard_after old answer → answer ≡ ends.ReadFault → CountRose old new
 heard_rose answer old new is fault = omega (arith, is ∙ ap (heard_after old) fault)
 
-said_rose : (answer : Status) (old new : ℕ) → new ≡ said_after old answer → answer ≡ ends.WriteFault → Rose old new
-said_rose answer old new is fault = omega (arith, is ∙ ap (said_after old) fault)
+said_rose : (answer : Status) (old new : ℕ) → new ≡ failed_says_after old answer → answer ≡ ends.WriteFault → CountRose old new
+said_rose answer old new is fault = omega (arith, is ∙ ap (failed_says_after old) fault)
 
 conversed_faults : (answer : Status) (old new : Outside) → new.counts.reads ≡ old.counts.reads → new.counts.writes ≡ old.counts.writes
-    → new.hearing.faults ≡ heard_after old.hearing.faults answer → new.out_faults ≡ said_after old.out_faults answer → FaultsTold answer old new
+    → new.hearing.faults ≡ heard_after old.hearing.faults answer → new.out_faults ≡ failed_says_after old.out_faults answer → TellsFaults answer old new
 conversed_faults ends.Done old new reads writes h s = counted_faults new _ _ _ _ reads writes h s
 conversed_faults ends.Diverged old new reads writes h s = counted_faults new _ _ _ _ reads writes h s
 conversed_faults ends.Usage old new reads writes h s = counted_faults new _ _ _ _ reads writes h s
@@ -133,14 +133,14 @@ abbrev pub terminal_of : Outside → TerminalState
 terminal_of o = record { hearing = o.hearing; taken = o.taken; faults = o.out_faults }
 
 pub run_conversed : (pairs : List Pair) (start : List Replaying) (answer : Status) (old new : Outside) → WasOpened pairs old.told start
-    → Converses start (terminal_of old) (terminal_of new) answer
+    → ConversesInSession start (terminal_of old) (terminal_of new) answer
     → new.told ≡ old.told → CountsFaults {T = ⊤} old.counts new.counts (Ok tt)
     → DebugRun pairs old new answer
 run_conversed pairs start answer old new opens c same counts = record {
   call = record {
     status = λ o e h. let s = said o e in c.ended s.input s.told h ∙ ap outcome_status (sym s.outcome);
-    text = λ o e. let s = said o e in subst (λ (o : CommandOutcome). Prints answer (outcome_text o) old.taken new.taken) (sym s.outcome) (c.text s.input s.told);
-    files = λ o e. none_left answer o old.told new.told (session_makes_none start old.hearing.left o (said o e)) same;
+    text = λ o e. let s = said o e in subst (λ (o : CommandOutcome). PrintsText answer (outcome_text o) old.taken new.taken) (sym s.outcome) (c.text s.input s.told);
+    files = λ o e. no_file_left answer o old.told new.told (session_makes_none start old.hearing.left o (said o e)) same;
     others = same_others _ _ _ same;
     idle = λ _. same;
     prints_last = λ o e. inr (made o e);
@@ -163,6 +163,6 @@ run_conversed pairs start answer old new opens c same counts = record {
   made : (o : CommandOutcome) → debug_expected pairs old ≡ Some o → new.told ≡ with_files (writes_of o) old.told
   made o e = same ∙ ap (λ (files : List (List ℕ × List ℕ)). with_files files old.told) (sym (session_makes_none start old.hearing.left o (said o e)))
 
-  large : answer ≡ ends.Refused → WhenTold old.hearing.left (λ input. is_large start input ≡ true)
+  large : answer ≡ ends.Refused → WhenTold old.hearing.left (λ input. is_large_input start input ≡ true)
   large is input told =
-      was_large (is_large start input) (session_text start (early_lines input)) (session_text start (lines_of input)) (sym is ∙ c.ended input told (subst IsAnswerStatus (sym is) tt))
+      was_large (is_large_input start input) (session_text start (early_lines input)) (session_text start (lines_of input)) (sym is ∙ c.ended input told (subst IsAnswerStatus (sym is) tt))

@@ -9,12 +9,12 @@ use Rattle.std.proofs.Math.Seq.{take-append-add, take-append_seam, take-length}
 use Rattle.fri_text.specs.Line.{is_line_feed, lines_of}
 use Rattle.proc_replay.specs.Replaying.{Replaying}
 use Rattle.friday_shell.specs.Points.{SessionState}
-use Rattle.friday_shell.specs.Session.{answers, ends, opening, session_text}
+use Rattle.friday_shell.specs.Session.{answers_of_lines, ends_session, opening_session, session_text}
 use Rattle.command_run.specs.declared.refusal.Reason.TheVariants as reason
-use Rattle.debug_command.specs.Debug.{early_lines, input_name, is_large, session_outcome, spoken, whole_lines, whole_part}
+use Rattle.debug_command.specs.Debug.{early_lines, input_name, is_large_input, session_outcome, spoken_session, whole_lines, whole_part}
 use Rattle.debug_command.specs.Limits.{most_input}
 use Rattle.command_run.specs.Outcome.{CommandOutcome, Refuses, outcome_text, refused_line}
-use Rattle.debug_command.specs.Talk.{PrintsPart, Overruns, Quits, SaysPart, SessionStands, Talk, state_after_lines}
+use Rattle.debug_command.specs.Talk.{PrintsPart, InputOverruns, SessionQuits, SaysPart, SessionStands, SessionTalk, state_after_lines}
 use Rattle.debug_command.proofs.WholeLines.{Fronts, FrontsText, after-append, ends-append, has_feed-append, ends_fronts, few_lines-ended, lines_front, session_ended, session_front, session_more, whole_lines-ended, whole_lines-same, whole_lines_front, whole_part-append_none, whole_part-ended}
 
 -- ---- what a sink took
@@ -38,12 +38,12 @@ take_front n front whole f =
 -- ---- the limit, as a variable
 
 abbrev pub is_large_at : ℕ → List Replaying → List ℕ → Bool
-is_large_at m start input = nat_lt m (length input) && not (ends (opening start) (whole_lines (take m input)))
+is_large_at m start input = nat_lt m (length input) && not (ends_session (opening_session start) (whole_lines (take m input)))
 
 abbrev pub outcome_at : ℕ → List Replaying → List ℕ → CommandOutcome
 outcome_at m start input =
-    if is_large_at m start input then Err (Refuses input_name reason.TooLarge (spoken (session_text start (whole_lines (take m input)))))
-    else Ok (spoken (session_text start (lines_of input)))
+    if is_large_at m start input then Err (Refuses input_name reason.TooLarge (spoken_session (session_text start (whole_lines (take m input)))))
+    else Ok (spoken_session (session_text start (lines_of input)))
 
 take_past : (m : ℕ) (got rest : List ℕ) → length got ≤ m → take m (got ++ rest) ≡ got ++ take (m - length got) rest
 take_past m got rest within =
@@ -56,7 +56,7 @@ early_front m got rest within =
     let f = whole_lines_front got (take (m - length got) rest) in
     (f.0, ap whole_lines (take_past m got rest within) ∙ f.1)
 
-pub fits_ended : (m : ℕ) (start : List Replaying) (got rest : List ℕ) → length got ≤ m → ends (opening start) (whole_lines got) ≡ true → is_large_at m start (got ++ rest) ≡ false
+pub fits_ended : (m : ℕ) (start : List Replaying) (got rest : List ℕ) → length got ≤ m → ends_session (opening_session start) (whole_lines got) ≡ true → is_large_at m start (got ++ rest) ≡ false
 fits_ended m start got rest within ended =
     let e = ends_fronts start (whole_lines got) (whole_lines (take m (got ++ rest))) (early_front m got rest within) ended in
     rw e (grind (arith))
@@ -66,7 +66,7 @@ fits_short m start input within =
     let e : nat_lt m (length input) ≡ false = grind (arith) in
     rw e refl
 
-pub large_past : (m : ℕ) (start : List Replaying) (got more : List ℕ) → length got ≡ m → 0 < length more → ends (opening start) (whole_lines got) ≡ false → is_large_at m start (got ++ more) ≡ true
+pub large_past : (m : ℕ) (start : List Replaying) (got more : List ℕ) → length got ≡ m → 0 < length more → ends_session (opening_session start) (whole_lines got) ≡ false → is_large_at m start (got ++ more) ≡ true
 large_past m start got more at some on =
     let e : take m (got ++ more) ≡ got = ap (λ (k : ℕ). take k (got ++ more)) (sym at) ∙ take-append_seam got more in
     let longer : nat_lt m (length (got ++ more)) ≡ true = rw length-append (grind (arith)) in
@@ -82,11 +82,11 @@ outcome_front m start got rest within =
       | inl large ↦ (let f = session_front start (whole_lines got) (whole_lines (take m (got ++ rest))) (early_front m got rest within) in
           let refusal : List ℕ = refused_line input_name reason.TooLarge in (
             f.0 ++ refusal,
-            ap (λ (b : Bool). outcome_text (if b then Err (Refuses input_name reason.TooLarge (spoken (session_text start (whole_lines (take m (got ++ rest)))))) else Ok (spoken (session_text start (lines_of (got ++ rest)))))) large
+            ap (λ (b : Bool). outcome_text (if b then Err (Refuses input_name reason.TooLarge (spoken_session (session_text start (whole_lines (take m (got ++ rest)))))) else Ok (spoken_session (session_text start (lines_of (got ++ rest)))))) large
                 ∙ ap (λ (l : List ℕ). l ++ refusal) f.1 ∙ append_assoc (session_text start (whole_lines got)) f.0 refusal,
           ))
       | inr fits ↦ (let f = session_front start (whole_lines got) (lines_of (got ++ rest)) (lines_front got rest) in
-          (f.0, ap (λ (b : Bool). outcome_text (if b then Err (Refuses input_name reason.TooLarge (spoken (session_text start (whole_lines (take m (got ++ rest)))))) else Ok (spoken (session_text start (lines_of (got ++ rest)))))) fits ∙ f.1))
+          (f.0, ap (λ (b : Bool). outcome_text (if b then Err (Refuses input_name reason.TooLarge (spoken_session (session_text start (whole_lines (take m (got ++ rest)))))) else Ok (spoken_session (session_text start (lines_of (got ++ rest)))))) fits ∙ f.1))
     ]
 
 -- ---- a part of what is to be printed
@@ -102,30 +102,30 @@ part_more start printed now got more part = λ rest.
     let p = part (more ++ rest) in
     (p.0, p.1 ∙ ap (λ (l : List ℕ). append_known printed (take p.0 (outcome_text (session_outcome start l)))) (sym (append_assoc got more rest)))
 
-pub quits_more : (start : List Replaying) (printed now : Option (List ℕ)) (got more : List ℕ) → Quits start printed now got → Quits start printed now (got ++ more)
+pub quits_more : (start : List Replaying) (printed now : Option (List ℕ)) (got more : List ℕ) → SessionQuits start printed now got → SessionQuits start printed now (got ++ more)
 quits_more start printed now got more q = record {
   ended = ends_fronts start (whole_lines got) (whole_lines (got ++ more)) (whole_lines_front got more) q.ended;
-  fits = λ rest. ap (is_large start) (append_assoc got more rest) ∙ q.fits (more ++ rest);
+  fits = λ rest. ap (is_large_input start) (append_assoc got more rest) ∙ q.fits (more ++ rest);
   text = λ rest. q.text (more ++ rest) ∙ ap (λ (l : List ℕ). append_known printed (session_text start (lines_of l))) (sym (append_assoc got more rest));
 }
 
-pub overruns_more : (start : List Replaying) (printed now : Option (List ℕ)) (got more : List ℕ) → Overruns start printed now got → Overruns start printed now (got ++ more)
+pub overruns_more : (start : List Replaying) (printed now : Option (List ℕ)) (got more : List ℕ) → InputOverruns start printed now got → InputOverruns start printed now (got ++ more)
 overruns_more start printed now got more o = record {
-  large = λ rest. ap (is_large start) (append_assoc got more rest) ∙ o.large (more ++ rest);
+  large = λ rest. ap (is_large_input start) (append_assoc got more rest) ∙ o.large (more ++ rest);
   text = λ rest. o.text (more ++ rest) ∙ ap (λ (l : List ℕ). append_known printed (session_text start (early_lines l))) (sym (append_assoc got more rest));
 }
 
 -- ---- a byte is taken
 
 -- one more byte of the line that has begun
-abbrev pub with_byte : Talk → ℕ → Talk
+abbrev pub with_byte : SessionTalk → ℕ → SessionTalk
 with_byte talk b = record { state = talk.state; begun = talk.begun ++ b ∷ []; count = talk.count + 1 }
 
 -- the byte that ends it, and its answer
-abbrev pub at_line_end : Talk → SessionState → Talk
+abbrev pub at_line_end : SessionTalk → SessionState → SessionTalk
 at_line_end talk next = record { state = next; begun = []; count = talk.count + 1 }
 
-module _ (start : List Replaying) (printed now : Option (List ℕ)) (talk : Talk) (taken : List ℕ) (s : SessionStands start printed now talk taken) (b : ℕ) where
+module _ (start : List Replaying) (printed now : Option (List ℕ)) (talk : SessionTalk) (taken : List ℕ) (s : SessionStands start printed now talk taken) (b : ℕ) where
   -- a byte that ends no line
   pub stands_other : is_line_feed b ≡ false → talk.count < most_input → SessionStands start printed now (with_byte talk b) (taken ++ b ∷ [])
   stands_other other room =
@@ -135,8 +135,8 @@ module _ (start : List Replaying) (printed now : Option (List ℕ)) (talk : Talk
       record {
         whole = ap (λ (l : List ℕ). l ++ b ∷ []) s.whole ∙ append_assoc (whole_part taken) talk.begun (b ∷ []) ∙ ap (λ (l : List ℕ). l ++ (talk.begun ++ b ∷ [])) (sym part);
         open_line = has_feed-append talk.begun (b ∷ []) ∙ (rw (s.open_line, other) refl);
-        state_is = s.state_is ∙ ap (state_after_lines (opening start)) (sym lines);
-        goes_on = ap (ends (opening start)) lines ∙ s.goes_on;
+        state_is = s.state_is ∙ ap (state_after_lines (opening_session start)) (sym lines);
+        goes_on = ap (ends_session (opening_session start)) lines ∙ s.goes_on;
         text = s.text ∙ ap (λ (l : List (List ℕ)). append_known printed (session_text start l)) (sym lines);
         count_is = rw length-append (ap (λ (n : ℕ). n + 1) s.count_is);
         within = omega (arith, room);
@@ -150,32 +150,32 @@ module _ (start : List Replaying) (printed now : Option (List ℕ)) (talk : Talk
     fits : length (taken ++ b ∷ []) ≤ most_input
     fits = rw length-append (omega (arith, room, s.count_is))
 
-    ends_is : ends (opening start) (whole_lines (taken ++ b ∷ [])) ≡ ends talk.state (take 1 (lines_of (talk.begun ++ b ∷ [])))
-    ends_is = ap (ends (opening start)) lines ∙ ends-append (opening start) (whole_lines taken) (take 1 (lines_of (talk.begun ++ b ∷ []))) s.goes_on
-        ∙ ap (λ (p : SessionState). ends p (take 1 (lines_of (talk.begun ++ b ∷ [])))) (sym s.state_is)
+    ends_is : ends_session (opening_session start) (whole_lines (taken ++ b ∷ [])) ≡ ends_session talk.state (take 1 (lines_of (talk.begun ++ b ∷ [])))
+    ends_is = ap (ends_session (opening_session start)) lines ∙ ends-append (opening_session start) (whole_lines taken) (take 1 (lines_of (talk.begun ++ b ∷ []))) s.goes_on
+        ∙ ap (λ (p : SessionState). ends_session p (take 1 (lines_of (talk.begun ++ b ∷ [])))) (sym s.state_is)
 
-    text_is : session_text start (whole_lines (taken ++ b ∷ [])) ≡ session_text start (whole_lines taken) ++ answers talk.state (take 1 (lines_of (talk.begun ++ b ∷ [])))
+    text_is : session_text start (whole_lines (taken ++ b ∷ [])) ≡ session_text start (whole_lines taken) ++ answers_of_lines talk.state (take 1 (lines_of (talk.begun ++ b ∷ [])))
     text_is = ap (session_text start) lines ∙ session_more start (whole_lines taken) (take 1 (lines_of (talk.begun ++ b ∷ []))) s.goes_on
-        ∙ ap (λ (p : SessionState). session_text start (whole_lines taken) ++ answers p (take 1 (lines_of (talk.begun ++ b ∷ [])))) (sym s.state_is)
+        ∙ ap (λ (p : SessionState). session_text start (whole_lines taken) ++ answers_of_lines p (take 1 (lines_of (talk.begun ++ b ∷ [])))) (sym s.state_is)
 
-    printed_is : new ≡ append_known now (answers talk.state (take 1 (lines_of (talk.begun ++ b ∷ [])))) → new ≡ append_known printed (session_text start (whole_lines (taken ++ b ∷ [])))
-    printed_is e = e ∙ ap (λ (k : Option (List ℕ)). append_known k (answers talk.state (take 1 (lines_of (talk.begun ++ b ∷ []))))) s.text
-        ∙ append_twice printed (session_text start (whole_lines taken)) (answers talk.state (take 1 (lines_of (talk.begun ++ b ∷ []))))
+    printed_is : new ≡ append_known now (answers_of_lines talk.state (take 1 (lines_of (talk.begun ++ b ∷ [])))) → new ≡ append_known printed (session_text start (whole_lines (taken ++ b ∷ [])))
+    printed_is e = e ∙ ap (λ (k : Option (List ℕ)). append_known k (answers_of_lines talk.state (take 1 (lines_of (talk.begun ++ b ∷ []))))) s.text
+        ∙ append_twice printed (session_text start (whole_lines taken)) (answers_of_lines talk.state (take 1 (lines_of (talk.begun ++ b ∷ []))))
         ∙ ap (append_known printed) (sym text_is)
 
-    pub stands_ended : (next : SessionState) → new ≡ append_known now (answers talk.state (take 1 (lines_of (talk.begun ++ b ∷ [])))) → ends talk.state (take 1 (lines_of (talk.begun ++ b ∷ []))) ≡ false → next ≡ state_after_lines talk.state (take 1 (lines_of (talk.begun ++ b ∷ []))) → SessionStands start printed new (at_line_end talk next) (taken ++ b ∷ [])
+    pub stands_ended : (next : SessionState) → new ≡ append_known now (answers_of_lines talk.state (take 1 (lines_of (talk.begun ++ b ∷ [])))) → ends_session talk.state (take 1 (lines_of (talk.begun ++ b ∷ []))) ≡ false → next ≡ state_after_lines talk.state (take 1 (lines_of (talk.begun ++ b ∷ []))) → SessionStands start printed new (at_line_end talk next) (taken ++ b ∷ [])
     stands_ended next e on there = record {
       whole = sym (append-nil _ ∙ whole_part-ended taken b feed);
       open_line = refl;
       state_is = there ∙ ap (λ (p : SessionState). state_after_lines p (take 1 (lines_of (talk.begun ++ b ∷ [])))) s.state_is
-          ∙ sym (after-append (opening start) (whole_lines taken) (take 1 (lines_of (talk.begun ++ b ∷ [])))) ∙ ap (state_after_lines (opening start)) (sym lines);
+          ∙ sym (after-append (opening_session start) (whole_lines taken) (take 1 (lines_of (talk.begun ++ b ∷ [])))) ∙ ap (state_after_lines (opening_session start)) (sym lines);
       goes_on = ends_is ∙ on;
       text = printed_is e;
       count_is = rw length-append (ap (λ (n : ℕ). n + 1) s.count_is);
       within = omega (arith, room);
     }
 
-    pub quits_ended : new ≡ append_known now (answers talk.state (take 1 (lines_of (talk.begun ++ b ∷ [])))) → ends talk.state (take 1 (lines_of (talk.begun ++ b ∷ []))) ≡ true → Quits start printed new (taken ++ b ∷ [])
+    pub quits_ended : new ≡ append_known now (answers_of_lines talk.state (take 1 (lines_of (talk.begun ++ b ∷ [])))) → ends_session talk.state (take 1 (lines_of (talk.begun ++ b ∷ []))) ≡ true → SessionQuits start printed new (taken ++ b ∷ [])
     quits_ended e ended =
         let over = ends_is ∙ ended in
         record {
@@ -187,7 +187,7 @@ module _ (start : List Replaying) (printed now : Option (List ℕ)) (talk : Talk
     pub part_ended : PrintsPart talk.state (take 1 (lines_of (talk.begun ++ b ∷ []))) now new → SaysPart start printed new (taken ++ b ∷ [])
     part_ended p =
         let said = session_text start (whole_lines taken) in
-        let told = answers talk.state (take 1 (lines_of (talk.begun ++ b ∷ []))) in
+        let told = answers_of_lines talk.state (take 1 (lines_of (talk.begun ++ b ∷ []))) in
         part_of start printed new (taken ++ b ∷ []) (length said + p.0) fits
         (p.1 ∙ ap (λ (k : Option (List ℕ)). append_known k (take p.0 told)) s.text
         ∙ append_twice printed said (take p.0 told)
@@ -198,10 +198,10 @@ module _ (start : List Replaying) (printed now : Option (List ℕ)) (talk : Talk
   part_kept = part_more start printed now taken (b ∷ []) (part_of start printed now taken (length (session_text start (whole_lines taken))) (omega (arith, s.count_is, s.within))
       (s.text ∙ ap (append_known printed) (sym (take-length (session_text start (whole_lines taken))))))
 
-  pub overruns : most_input ≤ talk.count → Overruns start printed now (taken ++ b ∷ [])
+  pub overruns : most_input ≤ talk.count → InputOverruns start printed now (taken ++ b ∷ [])
   overruns full =
       let at : length taken ≡ most_input = omega (arith, s.count_is, s.within) in
       record {
-        large = λ rest. ap (is_large start) (append_assoc taken (b ∷ []) rest) ∙ large_past most_input start taken (b ∷ rest) at (omega arith) s.goes_on;
+        large = λ rest. ap (is_large_input start) (append_assoc taken (b ∷ []) rest) ∙ large_past most_input start taken (b ∷ rest) at (omega arith) s.goes_on;
         text = λ rest. s.text ∙ ap (λ (l : List (List ℕ)). append_known printed (session_text start l)) (sym (ap early_lines (append_assoc taken (b ∷ []) rest) ∙ early_at most_input taken (b ∷ rest) at));
       }

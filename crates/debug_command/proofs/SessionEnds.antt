@@ -2,7 +2,7 @@
 use Rattle.std.proofs.Common.{◌≡◌, ℕ, ◌+◌, List, ◌++◌, length, take, Option, refl, sym, ap, subst, ◌∙◌}
 use Rattle.std.specs.Io.KnownBytes.{append_known}
 use Rattle.std.proofs.Math.Seq.{take-append-add, take-length}
-use Rattle.fri_outside.specs.Outside.{WhenTold, raised}
+use Rattle.fri_outside.specs.Outside.{WhenTold, raised_count}
 use Rattle.fri_outside.specs.Terminal.{Hearing}
 use Rattle.proc_replay.specs.Replaying.{Replaying}
 use Rattle.friday_shell.specs.Session.{session_text}
@@ -11,15 +11,15 @@ use Rattle.debug_command.specs.declared.converse.Ended.TheVariants as cause
 use Rattle.command_run.specs.declared.refusal.Reason.TheVariants as reason
 use Rattle.command_run.specs.declared.status.Status.{Status}
 use Rattle.command_run.specs.declared.status.Status.TheVariants as status
-use Rattle.command_run.specs.Call.{IsAnswerStatus, Prints, said_after}
-use Rattle.debug_command.specs.Conversation.{Converses, NeverOfASession, TakesOfInput, TakesTurns, TerminalState, heard_after}
+use Rattle.command_run.specs.Call.{IsAnswerStatus, PrintsText, failed_says_after}
+use Rattle.debug_command.specs.Conversation.{ConversesInSession, NeverOfASession, TakesOfInput, TakesTurns, TerminalState, heard_after}
 use Rattle.debug_command.specs.Debug.{input_name, session_outcome, whole_lines}
 use Rattle.command_run.specs.Outcome.{outcome_text, refused_line}
 use Rattle.debug_command.specs.Talk.{HeldSession, SessionHolds}
 use Rattle.command_run.specs.OutcomeLaws.{prints_all}
 use Rattle.debug_command.proofs.PrintedSoFar.{append_twice, part_of}
 
-prints_behind : (answer : Status) (earlier line : List ℕ) (before mid after : Option (List ℕ)) → mid ≡ append_known before earlier → Prints answer line mid after → Prints answer (earlier ++ line) before after
+prints_behind : (answer : Status) (earlier line : List ℕ) (before mid after : Option (List ℕ)) → mid ≡ append_known before earlier → PrintsText answer line mid after → PrintsText answer (earlier ++ line) before after
 prints_behind answer earlier line before mid after e p = record {
   whole = λ is. p.whole is ∙ ap (λ (k : Option (List ℕ)). append_known k line) e ∙ append_twice before earlier line;
   part = (
@@ -60,7 +60,7 @@ turns_held start old new why h = λ earlier told.
     record { askings = c.askings; noted = c.noted; in_turn = c.in_turn; taken = subst (λ (l : List ℕ). WhenTold old.hearing.left (λ input. TakesOfInput input new.hearing.left l)) (sym c.given) h.read }
 
 module _ (start : List Replaying) (old new : TerminalState) where
-  pub conversed_done : HeldSession start old new cause.Done → new.hearing.faults ≡ old.hearing.faults → new.faults ≡ old.faults → Converses start old new status.Done
+  pub conversed_done : HeldSession start old new cause.Done → new.hearing.faults ≡ old.hearing.faults → new.faults ≡ old.faults → ConversesInSession start old new status.Done
   unfolding HeldSession
   conversed_done h reads writes = record {
     ended = λ input told answer. let s = h.said input told in (let fits = s.fits in rw fits refl);
@@ -74,7 +74,7 @@ module _ (start : List Replaying) (old new : TerminalState) where
     writes = writes;
   }
 
-  pub conversed_read : HeldSession start old new cause.ReadFault → new.hearing.faults ≡ raised old.hearing.faults → new.faults ≡ old.faults → Converses start old new status.ReadFault
+  pub conversed_read : HeldSession start old new cause.ReadFault → new.hearing.faults ≡ raised_count old.hearing.faults → new.faults ≡ old.faults → ConversesInSession start old new status.ReadFault
   unfolding HeldSession
   conversed_read h reads writes = record {
     ended = λ input told answer. absurd answer;
@@ -90,7 +90,7 @@ module _ (start : List Replaying) (old new : TerminalState) where
     writes = writes;
   }
 
-  pub conversed_write : HeldSession start old new cause.WriteFault → new.hearing.faults ≡ old.hearing.faults → new.faults ≡ raised old.faults → Converses start old new status.WriteFault
+  pub conversed_write : HeldSession start old new cause.WriteFault → new.hearing.faults ≡ old.hearing.faults → new.faults ≡ raised_count old.faults → ConversesInSession start old new status.WriteFault
   unfolding HeldSession
   conversed_write h reads writes = record {
     ended = λ input told answer. absurd answer;
@@ -104,7 +104,7 @@ module _ (start : List Replaying) (old new : TerminalState) where
     writes = writes;
   }
 
-  pub conversed_memory : HeldSession start old new cause.NoMemory → new.hearing.faults ≡ old.hearing.faults → new.faults ≡ old.faults → Converses start old new status.NoMemory
+  pub conversed_memory : HeldSession start old new cause.NoMemory → new.hearing.faults ≡ old.hearing.faults → new.faults ≡ old.faults → ConversesInSession start old new status.NoMemory
   unfolding HeldSession
   conversed_memory h reads writes = record {
     ended = λ input told answer. absurd answer;
@@ -120,8 +120,8 @@ module _ (start : List Replaying) (old new : TerminalState) where
 
   -- the refusal was said, or could not be said
   pub conversed_large : (here : TerminalState) (answer : Status) → HeldSession start old here cause.TooLarge → new.hearing ≡ here.hearing → here.hearing.faults ≡ old.hearing.faults
-      → (IsAnswerStatus answer → answer ≡ status.Refused) → Prints answer (refused_line input_name reason.TooLarge) here.taken new.taken → (answer ≡ status.ReadFault → ⊥)
-      → new.faults ≡ said_after old.faults answer → Converses start old new answer
+      → (IsAnswerStatus answer → answer ≡ status.Refused) → PrintsText answer (refused_line input_name reason.TooLarge) here.taken new.taken → (answer ≡ status.ReadFault → ⊥)
+      → new.faults ≡ failed_says_after old.faults answer → ConversesInSession start old new answer
   unfolding HeldSession
   conversed_large here answer h same reads only prints not_read writes = record {
     ended = λ input told is. (let s = h.said input told in let large = s.0 in rw large (only is));

@@ -8,7 +8,7 @@ use Rattle.fri_text.specs.Line.{is_line_feed, pieces_of, lines_of}
 use Rattle.proc_replay.specs.Replaying.{Replaying}
 use Rattle.friday_shell.specs.Answer.{answer}
 use Rattle.friday_shell.specs.Points.{SessionState}
-use Rattle.friday_shell.specs.Session.{answers, ends, opening, session_text}
+use Rattle.friday_shell.specs.Session.{answers_of_lines, ends_session, opening_session, session_text}
 use Rattle.debug_command.specs.Debug.{whole_lines, whole_part}
 use Rattle.debug_command.specs.Talk.{state_after_lines}
 
@@ -214,54 +214,54 @@ said_ended : (quits x : Bool) (text front whole : List ℕ) → (quits || x) ≡
 said_ended true x text front whole ended same = refl
 said_ended false x text front whole ended same = ap (λ (l : List ℕ). text ++ l) (same ended)
 
-pub ends-append : (state : SessionState) (a b : List (List ℕ)) → ends state a ≡ false → ends state (a ++ b) ≡ ends (state_after_lines state a) b
+pub ends-append : (state : SessionState) (a b : List (List ℕ)) → ends_session state a ≡ false → ends_session state (a ++ b) ≡ ends_session (state_after_lines state a) b
 ends-append state [] b on = refl
 ends-append state (line ∷ a) b on =
     let next = (answer state line).state in
-    or_on (answer state line).quits (ends next a) (ends next (a ++ b)) (ends (state_after_lines next a) b) on (λ more. ends-append next a b more)
+    or_on (answer state line).quits (ends_session next a) (ends_session next (a ++ b)) (ends_session (state_after_lines next a) b) on (λ more. ends-append next a b more)
 
-pub ends-front : (state : SessionState) (a b : List (List ℕ)) → ends state a ≡ true → ends state (a ++ b) ≡ true
+pub ends-front : (state : SessionState) (a b : List (List ℕ)) → ends_session state a ≡ true → ends_session state (a ++ b) ≡ true
 ends-front state [] b ended = absurd cc
 ends-front state (line ∷ a) b ended =
     let next = (answer state line).state in
-    or_ended (answer state line).quits (ends next a) (ends next (a ++ b)) ended (λ more. ends-front next a b more)
+    or_ended (answer state line).quits (ends_session next a) (ends_session next (a ++ b)) ended (λ more. ends-front next a b more)
 
-pub answers-append : (state : SessionState) (a b : List (List ℕ)) → ends state a ≡ false → answers state (a ++ b) ≡ answers state a ++ answers (state_after_lines state a) b
+pub answers-append : (state : SessionState) (a b : List (List ℕ)) → ends_session state a ≡ false → answers_of_lines state (a ++ b) ≡ answers_of_lines state a ++ answers_of_lines (state_after_lines state a) b
 answers-append state [] b on = refl
 answers-append state (line ∷ a) b on =
     let next = (answer state line).state in
-    said_on (answer state line).quits (ends next a) (answer state line).text (answers next a) (answers (state_after_lines next a) b) (answers next (a ++ b)) on (λ more. answers-append next a b more)
+    said_on (answer state line).quits (ends_session next a) (answer state line).text (answers_of_lines next a) (answers_of_lines (state_after_lines next a) b) (answers_of_lines next (a ++ b)) on (λ more. answers-append next a b more)
 
-pub answers-ended : (state : SessionState) (a b : List (List ℕ)) → ends state a ≡ true → answers state (a ++ b) ≡ answers state a
+pub answers-ended : (state : SessionState) (a b : List (List ℕ)) → ends_session state a ≡ true → answers_of_lines state (a ++ b) ≡ answers_of_lines state a
 answers-ended state [] b ended = absurd cc
 answers-ended state (line ∷ a) b ended =
     let next = (answer state line).state in
-    said_ended (answer state line).quits (ends next a) (answer state line).text (answers next a) (answers next (a ++ b)) ended (λ more. answers-ended next a b more)
+    said_ended (answer state line).quits (ends_session next a) (answer state line).text (answers_of_lines next a) (answers_of_lines next (a ++ b)) ended (λ more. answers-ended next a b more)
 
 abbrev pub FrontsText : List ℕ → List ℕ → Type 0
 FrontsText front whole = (more : List ℕ) × (whole ≡ front ++ more)
 
-answers_front : (state : SessionState) (a b : List (List ℕ)) → FrontsText (answers state a) (answers state (a ++ b))
+answers_front : (state : SessionState) (a b : List (List ℕ)) → FrontsText (answers_of_lines state a) (answers_of_lines state (a ++ b))
 answers_front state a b =
-    elim (cases_Bool (ends state a)) [
-      | inl ended ↦ ([], answers-ended state a b ended ∙ sym (append-nil (answers state a)))
-      | inr on ↦ (answers (state_after_lines state a) b, answers-append state a b on)
+    elim (cases_Bool (ends_session state a)) [
+      | inl ended ↦ ([], answers-ended state a b ended ∙ sym (append-nil (answers_of_lines state a)))
+      | inr on ↦ (answers_of_lines (state_after_lines state a) b, answers-append state a b on)
     ]
 
 -- the text of a front of the lines is a front of the text
 pub session_front : (start : List Replaying) (front whole : List (List ℕ)) → Fronts front whole → FrontsText (session_text start front) (session_text start whole)
 session_front start front whole f =
-    let g = answers_front (opening start) front f.0 in
-    (g.0, ap (session_text start) f.1 ∙ ap (λ (l : List ℕ). codes "at 0\n" ++ l) g.1 ∙ sym (append_assoc (codes "at 0\n") (answers (opening start) front) g.0))
+    let g = answers_front (opening_session start) front f.0 in
+    (g.0, ap (session_text start) f.1 ∙ ap (λ (l : List ℕ). codes "at 0\n" ++ l) g.1 ∙ sym (append_assoc (codes "at 0\n") (answers_of_lines (opening_session start) front) g.0))
 
-pub session_more : (start : List Replaying) (a b : List (List ℕ)) → ends (opening start) a ≡ false → session_text start (a ++ b) ≡ session_text start a ++ answers (state_after_lines (opening start) a) b
+pub session_more : (start : List Replaying) (a b : List (List ℕ)) → ends_session (opening_session start) a ≡ false → session_text start (a ++ b) ≡ session_text start a ++ answers_of_lines (state_after_lines (opening_session start) a) b
 session_more start a b on =
-    ap (λ (l : List ℕ). codes "at 0\n" ++ l) (answers-append (opening start) a b on)
-    ∙ sym (append_assoc (codes "at 0\n") (answers (opening start) a) (answers (state_after_lines (opening start) a) b))
+    ap (λ (l : List ℕ). codes "at 0\n" ++ l) (answers-append (opening_session start) a b on)
+    ∙ sym (append_assoc (codes "at 0\n") (answers_of_lines (opening_session start) a) (answers_of_lines (state_after_lines (opening_session start) a) b))
 
-pub session_ended : (start : List Replaying) (a whole : List (List ℕ)) → Fronts a whole → ends (opening start) a ≡ true → session_text start whole ≡ session_text start a
+pub session_ended : (start : List Replaying) (a whole : List (List ℕ)) → Fronts a whole → ends_session (opening_session start) a ≡ true → session_text start whole ≡ session_text start a
 session_ended start a whole f ended =
-    ap (session_text start) f.1 ∙ ap (λ (l : List ℕ). codes "at 0\n" ++ l) (answers-ended (opening start) a f.0 ended)
+    ap (session_text start) f.1 ∙ ap (λ (l : List ℕ). codes "at 0\n" ++ l) (answers-ended (opening_session start) a f.0 ended)
 
-pub ends_fronts : (start : List Replaying) (a whole : List (List ℕ)) → Fronts a whole → ends (opening start) a ≡ true → ends (opening start) whole ≡ true
-ends_fronts start a whole f ended = ap (ends (opening start)) f.1 ∙ ends-front (opening start) a f.0 ended
+pub ends_fronts : (start : List Replaying) (a whole : List (List ℕ)) → Fronts a whole → ends_session (opening_session start) a ≡ true → ends_session (opening_session start) whole ≡ true
+ends_fronts start a whole f ended = ap (ends_session (opening_session start)) f.1 ∙ ends-front (opening_session start) a f.0 ended

@@ -9,12 +9,12 @@ use Rattle.fri_outside.specs.declared.files.WriteError.TheVariants as writing
 use Rattle.fri_text.specs.Line.{lines_of}
 use Rattle.proc_replay.specs.Replaying.{Replaying}
 use Rattle.friday_shell.specs.Points.{SessionState}
-use Rattle.friday_shell.specs.Session.{opening}
+use Rattle.friday_shell.specs.Session.{opening_session}
 use Rattle.debug_command.specs.declared.converse.Ended.{Ended}
 use Rattle.debug_command.specs.declared.converse.Ended.TheVariants as cause
 use Rattle.debug_command.specs.Conversation.{TakesOfInput, TerminalState}
 use Rattle.debug_command.specs.Limits.{most_input}
-use Rattle.debug_command.specs.Talk.{BreaksFrom, CameInTurn, Exchange, FailsAtOpening, GoesOn, Heard, HearsPiece, HearsFrom, HeldSession, HoldsFrom, Opens, OpensPart, ReadsOn, SaysPart, SessionHolds, SessionStands, Spoke, StopsAtPiece, StopsIn, Talk, ended_by, exchange_of, listened_after}
+use Rattle.debug_command.specs.Talk.{SessionBreaksFrom, CameInTurn, InputExchange, FailsAtOpening, SessionGoesOn, HeardPiece, HearsPiece, SessionHearsFrom, HeldSession, SessionHoldsFrom, SessionOpens, SessionOpensPart, InputReadsOn, SaysPart, SessionHolds, SessionStands, SpokeLines, StopsAtPiece, SessionStopsIn, SessionTalk, ended_by, exchange_of, listened_after}
 use Rattle.debug_command.proofs.InputPieces.{holds_all, holds_broken, holds_error, stops_at, taken_more, taken_none, turns_none, turns_noted, turns_piece}
 use Rattle.debug_command.proofs.PrintedSoFar.{append_none, part_of}
 
@@ -24,26 +24,26 @@ pub err_read : {T : Type 0} (why : Ended) → ◌≡◌ {A = Result T Ended} (Er
 err_read why is = cc
 
 -- a piece that was read and taken
-pub hears : (exchange : Exchange) (talk : Talk) (heard : Heard) (piece : List ℕ)
+pub hears : (exchange : InputExchange) (talk : SessionTalk) (heard : HeardPiece) (piece : List ℕ)
     → length piece ≤ exchange.room → WhenTold exchange.old.hearing.left (λ input. TakesOfInput input exchange.new.hearing.left piece)
-    → exchange.new.hearing.asked ≡ with_asking exchange.old.taken piece exchange.old.hearing.asked → GoesOn piece exchange.old.taken exchange.new.taken talk heard.talk
-    → (heard.more ≡ false → (piece ≡ []) × WhenTold exchange.old.hearing.left (λ input. input ≡ [])) → HearsFrom exchange talk heard
-unfolding GoesOn HearsFrom
+    → exchange.new.hearing.asked ≡ with_asking exchange.old.taken piece exchange.old.hearing.asked → SessionGoesOn piece exchange.old.taken exchange.new.taken talk heard.talk
+    → (heard.more ≡ false → (piece ≡ []) × WhenTold exchange.old.hearing.left (λ input. input ≡ [])) → SessionHearsFrom exchange talk heard
+unfolding SessionGoesOn SessionHearsFrom
 hears exchange talk heard piece short read noted goes last = λ start printed taken s.
     record { piece = piece; short = short; stands = goes start printed taken s; read = read; noted = noted; at_end = last }
 
 -- a session that stopped in the piece
-pub breaks_in : (exchange : Exchange) (talk : Talk) (piece : List ℕ) (why : Ended)
+pub breaks_in : (exchange : InputExchange) (talk : SessionTalk) (piece : List ℕ) (why : Ended)
     → length piece ≤ exchange.room → WhenTold exchange.old.hearing.left (λ input. TakesOfInput input exchange.new.hearing.left piece)
-    → exchange.new.hearing.asked ≡ with_asking exchange.old.taken piece exchange.old.hearing.asked → StopsIn piece exchange.old.taken exchange.new.taken talk why
-    → BreaksFrom exchange talk why
-unfolding StopsIn BreaksFrom
+    → exchange.new.hearing.asked ≡ with_asking exchange.old.taken piece exchange.old.hearing.asked → SessionStopsIn piece exchange.old.taken exchange.new.taken talk why
+    → SessionBreaksFrom exchange talk why
+unfolding SessionStopsIn SessionBreaksFrom
 breaks_in exchange talk piece why short read noted stops = λ start printed taken s.
     record { piece = piece; short = short; read = read; noted = inl noted; stops = stops_at start printed exchange.new.taken (taken ++ piece) why (stops.1 start printed taken s) }
 
-pub stops_read : (before now : Option (List ℕ)) (talk : Talk) (piece : List ℕ) (why : Ended) → StopsIn piece before now talk why → why ≡ cause.ReadFault → ⊥
-unfolding StopsIn
-stops_read before now talk piece why stops is = subst ReadsOn is stops.0
+pub stops_read : (before now : Option (List ℕ)) (talk : SessionTalk) (piece : List ℕ) (why : Ended) → SessionStopsIn piece before now talk why → why ≡ cause.ReadFault → ⊥
+unfolding SessionStopsIn
+stops_read before now talk piece why stops is = subst InputReadsOn is stops.0
 
 -- another end than by a failed read counts none
 pub none_counted : (T : Type 0) (count : ℕ) (why : Ended) → (why ≡ cause.ReadFault → ⊥) → listened_after {T = T} count (Err why) ≡ count
@@ -53,7 +53,7 @@ none_counted T count cause.ReadFault other = absurd (other refl)
 none_counted T count cause.WriteFault other = refl
 none_counted T count cause.NoMemory other = refl
 
-pub spoke_read : (state : SessionState) (lines : List (List ℕ)) (old new : Option (List ℕ)) (why : Ended) → Spoke state lines old new (Err why) → why ≡ cause.ReadFault → ⊥
+pub spoke_read : (state : SessionState) (lines : List (List ℕ)) (old new : Option (List ℕ)) (why : Ended) → SpokeLines state lines old new (Err why) → why ≡ cause.ReadFault → ⊥
 spoke_read state lines old new cause.Done spoke is = absurd cc
 spoke_read state lines old new cause.TooLarge spoke is = spoke
 spoke_read state lines old new cause.ReadFault spoke is = spoke
@@ -61,9 +61,9 @@ spoke_read state lines old new cause.WriteFault spoke is = absurd cc
 spoke_read state lines old new cause.NoMemory spoke is = absurd cc
 
 -- a read that failed
-pub breaks_read : (exchange : Exchange) (talk : Talk) → exchange.new.hearing.left ≡ exchange.old.hearing.left → exchange.new.hearing.asked ≡ exchange.old.hearing.asked
-    → exchange.new.taken ≡ exchange.old.taken → BreaksFrom exchange talk cause.ReadFault
-unfolding BreaksFrom
+pub breaks_read : (exchange : InputExchange) (talk : SessionTalk) → exchange.new.hearing.left ≡ exchange.old.hearing.left → exchange.new.hearing.asked ≡ exchange.old.hearing.asked
+    → exchange.new.taken ≡ exchange.old.taken → SessionBreaksFrom exchange talk cause.ReadFault
+unfolding SessionBreaksFrom
 breaks_read exchange talk same unasked silent = λ start printed taken s.
     record {
       piece = [];
@@ -77,23 +77,23 @@ breaks_read exchange talk same unasked silent = λ start printed taken s.
 -- ---- piece after piece
 
 -- a session took these bytes, and is after them
-pub record Listens (start : List Replaying) (printed : Option (List ℕ)) (old here : TerminalState) (talk : Talk) : Type 0 where
+pub record Listens (start : List Replaying) (printed : Option (List ℕ)) (old here : TerminalState) (talk : SessionTalk) : Type 0 where
   pub taken : List ℕ
   pub stands : SessionStands start printed here.taken talk taken
   pub read : WhenTold old.hearing.left (λ input. TakesOfInput input here.hearing.left taken)
   pub turns : WhenTold old.hearing.asked (λ earlier. CameInTurn start printed taken earlier here.hearing.asked)
 
-unfoldable pub ListensFrom : TerminalState → TerminalState → Talk → Talk → Type 0
+unfoldable pub ListensFrom : TerminalState → TerminalState → SessionTalk → SessionTalk → Type 0
 ListensFrom old here talk next =
     (start : List Replaying) (printed : Option (List ℕ)) → SessionStands start printed old.taken talk [] → Listens start printed old here next
 
-pub listens_none : (old : TerminalState) (talk : Talk) → ListensFrom old old talk talk
+pub listens_none : (old : TerminalState) (talk : SessionTalk) → ListensFrom old old talk talk
 unfolding ListensFrom
 listens_none old talk = λ start printed s. record { taken = []; stands = s; read = taken_none old.hearing.left; turns = turns_none start printed old.hearing.asked }
 
-module _ (old here : TerminalState) (talk next : Talk) (so_far : ListensFrom old here talk next) where
+module _ (old here : TerminalState) (talk next : SessionTalk) (so_far : ListensFrom old here talk next) where
   -- what a piece adds
-  adds : (start : List Replaying) (printed : Option (List ℕ)) (new : TerminalState) (heard : Heard) (size : ℕ) → size ≤ 4096
+  adds : (start : List Replaying) (printed : Option (List ℕ)) (new : TerminalState) (heard : HeardPiece) (size : ℕ) → size ≤ 4096
       → (t : Listens start printed old here next) → HearsPiece start printed t.taken (exchange_of size here new) heard → Listens start printed old new heard.talk
   adds start printed new heard size small t h =
       let short : length h.piece ≤ size = h.short in
@@ -104,15 +104,15 @@ module _ (old here : TerminalState) (talk next : Talk) (so_far : ListensFrom old
         turns = turns_noted start printed here.taken next t.taken h.piece t.stands (omega (arith, small, short)) old.hearing.asked here.hearing.asked new.hearing.asked t.turns h.noted;
       }
 
-  pub listens_more : (new : TerminalState) (heard : Heard) (size : ℕ) → size ≤ 4096 → HearsFrom (exchange_of size here new) next heard → ListensFrom old new talk heard.talk
-  unfolding ListensFrom HearsFrom
+  pub listens_more : (new : TerminalState) (heard : HeardPiece) (size : ℕ) → size ≤ 4096 → SessionHearsFrom (exchange_of size here new) next heard → ListensFrom old new talk heard.talk
+  unfolding ListensFrom SessionHearsFrom
   listens_more new heard size small hears = λ start printed s.
       let t = so_far start printed s in
       adds start printed new heard size small t (hears start printed t.taken t.stands)
 
   pub listens_broken : (new : TerminalState) (size : ℕ) (why : Ended) → size ≤ 4096 → next.count + size ≤ most_input + 1
-      → BreaksFrom (exchange_of size here new) next why → HoldsFrom old new talk why
-  unfolding ListensFrom BreaksFrom HoldsFrom
+      → SessionBreaksFrom (exchange_of size here new) next why → SessionHoldsFrom old new talk why
+  unfolding ListensFrom SessionBreaksFrom SessionHoldsFrom
   listens_broken new size why small room broke = λ start printed s.
       let t = so_far start printed s in
       let b = broke start printed t.taken t.stands in
@@ -121,15 +121,15 @@ module _ (old here : TerminalState) (talk next : Talk) (so_far : ListensFrom old
       holds_broken start t.taken (record old { taken = printed }) here new size why t.read q.goes_on small (omega (arith, q.count_is, room)) b
       (turns_piece start printed here.taken next t.taken b.piece t.stands (omega (arith, small, short)) old.hearing.asked here.hearing.asked new.hearing.asked t.turns b.noted)
 
-  module _ (new : TerminalState) (heard : Heard) (size : ℕ) (small : size ≤ 4096) (none : heard.more ≡ false) (hears : HearsFrom (exchange_of size here new) next heard) (end : TerminalState) where
+  module _ (new : TerminalState) (heard : HeardPiece) (size : ℕ) (small : size ≤ 4096) (none : heard.more ≡ false) (hears : SessionHearsFrom (exchange_of size here new) next heard) (end : TerminalState) where
     last_told : (taken piece : List ℕ) → WhenTold old.hearing.left (λ input. TakesOfInput input here.hearing.left taken) → (piece ≡ []) × WhenTold here.hearing.left (λ input. input ≡ [])
         → WhenTold old.hearing.left (λ input. input ≡ taken ++ piece)
     last_told taken piece read last = λ input told.
         let f = read input told in
         f.whole ∙ ap (λ (l : List ℕ). taken ++ l) (last.1 f.rest f.left ∙ sym last.0)
 
-    pub listens_all : (state : SessionState) → end.hearing ≡ new.hearing → Spoke heard.talk.state (take 1 (lines_of heard.talk.begun)) new.taken end.taken (Ok state) → HoldsFrom old end talk cause.Done
-    unfolding ListensFrom HearsFrom HoldsFrom adds
+    pub listens_all : (state : SessionState) → end.hearing ≡ new.hearing → SpokeLines heard.talk.state (take 1 (lines_of heard.talk.begun)) new.taken end.taken (Ok state) → SessionHoldsFrom old end talk cause.Done
+    unfolding ListensFrom SessionHearsFrom SessionHoldsFrom adds
     listens_all state same spoke = λ start printed s.
         let t = so_far start printed s in
         let h = hears start printed t.taken t.stands in
@@ -137,8 +137,8 @@ module _ (old here : TerminalState) (talk next : Talk) (so_far : ListensFrom old
         subst (λ (n : Hearing). SessionHolds start (record old { taken = printed }) (record end { hearing = n }) cause.Done) (sym same)
         (holds_all start printed new.taken end.taken heard.talk (t.taken ++ h.piece) h.stands old.hearing new.hearing old.faults end.faults all.read (last_told t.taken h.piece t.read (h.at_end none)) all.turns spoke.0)
 
-    pub listens_error : (why : Ended) → end.hearing ≡ new.hearing → Spoke heard.talk.state (take 1 (lines_of heard.talk.begun)) new.taken end.taken (Err why) → HoldsFrom old end talk why
-    unfolding ListensFrom HearsFrom HoldsFrom adds
+    pub listens_error : (why : Ended) → end.hearing ≡ new.hearing → SpokeLines heard.talk.state (take 1 (lines_of heard.talk.begun)) new.taken end.taken (Err why) → SessionHoldsFrom old end talk why
+    unfolding ListensFrom SessionHearsFrom SessionHoldsFrom adds
     listens_error why same spoke = λ start printed s.
         let t = so_far start printed s in
         let h = hears start printed t.taken t.stands in
@@ -148,8 +148,8 @@ module _ (old here : TerminalState) (talk next : Talk) (so_far : ListensFrom old
 
 -- ---- the opening
 
-pub opens : (start : List Replaying) (printed now : Option (List ℕ)) (state : SessionState) → state ≡ opening start → now ≡ append_known printed (codes "at 0\n") → Opens start printed now (record { state = state; begun = []; count = 0 })
-unfolding Opens
+pub opens : (start : List Replaying) (printed now : Option (List ℕ)) (state : SessionState) → state ≡ opening_session start → now ≡ append_known printed (codes "at 0\n") → SessionOpens start printed now (record { state = state; begun = []; count = 0 })
+unfolding SessionOpens
 opens start printed now state is e = record {
   whole = refl;
   open_line = refl;
@@ -163,24 +163,24 @@ opens start printed now state is e = record {
 part_opened : (start : List Replaying) (printed now : Option (List ℕ)) (n : ℕ) → now ≡ append_known printed (take n (codes "at 0\n")) → SaysPart start printed now []
 part_opened start printed now n e = part_of start printed now [] n (omega arith) (e ∙ ap (λ (l : List ℕ). append_known printed (take n l)) (sym (append-nil (codes "at 0\n"))))
 
-pub opens_failed : (start : List Replaying) (printed now : Option (List ℕ)) (n : ℕ) (e : WriteError) → now ≡ append_known printed (take n (codes "at 0\n")) → OpensPart start printed now (ended_by e)
-unfolding OpensPart
+pub opens_failed : (start : List Replaying) (printed now : Option (List ℕ)) (n : ℕ) (e : WriteError) → now ≡ append_known printed (take n (codes "at 0\n")) → SessionOpensPart start printed now (ended_by e)
+unfolding SessionOpensPart
 opens_failed start printed now n writing.Failed is = (part_opened start printed now n is, tt)
 opens_failed start printed now n writing.NoMemory is = (part_opened start printed now n is, tt)
 
-pub opens_memory : (start : List Replaying) (printed : Option (List ℕ)) → OpensPart start printed printed cause.NoMemory
-unfolding OpensPart
+pub opens_memory : (start : List Replaying) (printed : Option (List ℕ)) → SessionOpensPart start printed printed cause.NoMemory
+unfolding SessionOpensPart
 opens_memory start printed = (part_opened start printed printed 0 (sym (append_none printed)), tt)
 
-pub opens_read : (start : List Replaying) (printed now : Option (List ℕ)) (why : Ended) → OpensPart start printed now why → why ≡ cause.ReadFault → ⊥
-unfolding OpensPart
+pub opens_read : (start : List Replaying) (printed now : Option (List ℕ)) (why : Ended) → SessionOpensPart start printed now why → why ≡ cause.ReadFault → ⊥
+unfolding SessionOpensPart
 opens_read start printed now why part is = subst FailsAtOpening is part.1
 
 -- ---- the whole session
 
-pub held : (start : List Replaying) (old here new : TerminalState) (talk : Talk) (why : Ended)
-    → here.hearing ≡ old.hearing → Opens start old.taken here.taken talk → HoldsFrom here new talk why → HeldSession start old new why
-unfolding Opens HoldsFrom HeldSession
+pub held : (start : List Replaying) (old here new : TerminalState) (talk : SessionTalk) (why : Ended)
+    → here.hearing ≡ old.hearing → SessionOpens start old.taken here.taken talk → SessionHoldsFrom here new talk why → HeldSession start old new why
+unfolding SessionOpens SessionHoldsFrom HeldSession
 held start old here new talk why same opened holds =
     let h = subst (λ (o : Hearing). SessionHolds start (record { hearing = o; taken = old.taken; faults = here.faults }) new why) same (holds start old.taken opened) in
     record { taken = h.taken; asks = h.asks; read = h.read; turns = h.turns; said = h.said; large = h.large }
@@ -192,8 +192,8 @@ stops_unopened start printed now cause.ReadFault part fails = absurd fails
 stops_unopened start printed now cause.WriteFault part fails = part
 stops_unopened start printed now cause.NoMemory part fails = part
 
-pub held_unopened : (start : List Replaying) (old new : TerminalState) (why : Ended) → new.hearing ≡ old.hearing → OpensPart start old.taken new.taken why → HeldSession start old new why
-unfolding OpensPart HeldSession
+pub held_unopened : (start : List Replaying) (old new : TerminalState) (why : Ended) → new.hearing ≡ old.hearing → SessionOpensPart start old.taken new.taken why → HeldSession start old new why
+unfolding SessionOpensPart HeldSession
 held_unopened start old new why same part =
     let none : 0 ≤ 0 = omega arith in
     subst (λ (n : Hearing). SessionHolds start old (record new { hearing = n }) why) (sym same)

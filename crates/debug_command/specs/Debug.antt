@@ -4,7 +4,7 @@ use Rattle.std.specs.List.{list_any}
 use Rattle.fri_outside.specs.Outside.{Folder}
 use Rattle.fri_text.specs.Line.{is_line_feed, lines_of}
 use Rattle.proc_replay.specs.Replaying.{Replaying}
-use Rattle.friday_shell.specs.Session.{ends, opening, session_text}
+use Rattle.friday_shell.specs.Session.{ends_session, opening_session, session_text}
 use Rattle.command_run.specs.declared.refusal.Reason.TheVariants as reason
 use Rattle.log_pairs.specs.Pairs.{Pair}
 use Rattle.debug_command.specs.Limits.{most_input}
@@ -29,18 +29,18 @@ abbrev pub early_lines : List ℕ → List (List ℕ)
 early_lines input = whole_lines (take most_input input)
 
 -- there are more bytes than may be read before a line ends the session, and none did
-abbrev pub is_large : List Replaying → List ℕ → Bool
-is_large start input = nat_lt most_input (length input) && not (ends (opening start) (early_lines input))
+abbrev pub is_large_input : List Replaying → List ℕ → Bool
+is_large_input start input = nat_lt most_input (length input) && not (ends_session (opening_session start) (early_lines input))
 
 -- a session prints this, and makes no file
-abbrev pub spoken : List ℕ → CommandWork
-spoken text = record { text = text; writes = []; diverged = false }
+abbrev pub spoken_session : List ℕ → CommandWork
+spoken_session text = record { text = text; writes = []; diverged = false }
 
 -- the outcome of a session over these replays, where this is typed
 abbrev pub session_outcome : List Replaying → List ℕ → CommandOutcome
 session_outcome start input =
-    if is_large start input then Err (Refuses input_name reason.TooLarge (spoken (session_text start (early_lines input))))
-    else Ok (spoken (session_text start (lines_of input)))
+    if is_large_input start input then Err (Refuses input_name reason.TooLarge (spoken_session (session_text start (early_lines input))))
+    else Ok (spoken_session (session_text start (lines_of input)))
 
 -- where the replays cannot begin the input does not matter, and need not be told
 abbrev pub opened_outcome : Result (List Replaying) CommandStop → Option (List ℕ) → Option CommandOutcome

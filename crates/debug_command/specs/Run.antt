@@ -1,13 +1,13 @@
 -- What a run of `debug` says, from one state of the outside to another.
 use Rattle.std.specs.Prelude.{◌≡◌, ◌≢◌, ◌⊎◌, [], List, Option, option_and_then}
-use Rattle.fri_outside.specs.Outside.{Rose}
+use Rattle.fri_outside.specs.Outside.{CountRose}
 use Rattle.command_run.specs.declared.status.Status.{Status}
 use Rattle.command_run.specs.declared.status.Status.TheVariants as status
 use Rattle.command_run.specs.Call.{PrintsRefusal}
 use Rattle.command_run.specs.Outcome.{CommandOutcome}
 use Rattle.command_run.specs.Run.{CallEnds, Outside}
 use Rattle.log_pairs.specs.Pairs.{Pair}
-use Rattle.debug_command.specs.Conversation.{HadAnswered, IsTooLarge, TakesInput}
+use Rattle.debug_command.specs.Conversation.{HadAnsweredLines, IsTooLarge, TakesInput}
 use Rattle.debug_command.specs.Debug.{debug_outcome}
 
 -- what it comes to, as far as the folder and the input tell it
@@ -20,6 +20,6 @@ pub record DebugRun (pairs : List Pair) (old new : Outside) (answer : Status) : 
   pub is_command : answer ≢ status.Usage
   pub no_divergence : answer ≢ status.Diverged
   pub input : TakesInput pairs old new answer
-  pub answered : answer ≡ status.ReadFault → (Rose old.counts.reads new.counts.reads → ⊥) → HadAnswered pairs old new
+  pub answered : answer ≡ status.ReadFault → (CountRose old.counts.reads new.counts.reads → ⊥) → HadAnsweredLines pairs old new
   pub refused : answer ≡ status.Refused
-      → PrintsRefusal old.taken new.taken (λ file. Rose old.counts.misses new.counts.misses ⊎ IsTooLarge pairs old.told old.hearing.left file)
+      → PrintsRefusal old.taken new.taken (λ file. CountRose old.counts.misses new.counts.misses ⊎ IsTooLarge pairs old.told old.hearing.left file)

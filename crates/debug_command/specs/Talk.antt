@@ -2,40 +2,40 @@
 use Rattle.std.specs.Prelude.{◌≡◌, ◌⊎◌, ◌≤◌, ℕ, ◌+◌, Bool, true, false, List, [], ◌∷◌, ◌++◌, length, take, ⊤, Option, Some, Result, Ok, Err}
 use Rattle.std.specs.List.{list_any}
 use Rattle.std.specs.Io.KnownBytes.{append_known}
-use Rattle.fri_outside.specs.Outside.{WhenTold, raised}
-use Rattle.fri_outside.specs.Terminal.{Asking, given_in, with_asking}
+use Rattle.fri_outside.specs.Outside.{WhenTold, raised_count}
+use Rattle.fri_outside.specs.Terminal.{Asking, given_in_askings, with_asking}
 use Rattle.fri_outside.specs.declared.files.WriteError.{WriteError}
 use Rattle.fri_outside.specs.declared.files.WriteError.TheVariants as writing
 use Rattle.fri_text.specs.Line.{is_line_feed, lines_of}
 use Rattle.proc_replay.specs.Replaying.{Replaying}
 use Rattle.friday_shell.specs.Answer.{answer}
 use Rattle.friday_shell.specs.Points.{SessionState}
-use Rattle.friday_shell.specs.Session.{answers, ends, opening, session_text}
+use Rattle.friday_shell.specs.Session.{answers_of_lines, ends_session, opening_session, session_text}
 use Rattle.debug_command.specs.declared.converse.Ended.{Ended}
 use Rattle.debug_command.specs.declared.converse.Ended.TheVariants as cause
 use Rattle.debug_command.specs.declared.converse.Talk.{Talk as TalkOfCode}
-use Rattle.debug_command.specs.Conversation.{AreInTurn, Asks, TakesOfInput, TerminalState}
-use Rattle.debug_command.specs.Debug.{early_lines, is_large, session_outcome, whole_lines, whole_part}
+use Rattle.debug_command.specs.Conversation.{AreAskedInTurn, AsksAtTerminal, TakesOfInput, TerminalState}
+use Rattle.debug_command.specs.Debug.{early_lines, is_large_input, session_outcome, whole_lines, whole_part}
 use Rattle.debug_command.specs.Limits.{most_input}
 use Rattle.command_run.specs.Outcome.{outcome_text}
 
 -- where a session stands between two bytes: its state, the bytes of the line that has begun, and how many were taken
-pub record Talk : Type 0 where
+pub record SessionTalk : Type 0 where
   pub state : SessionState
   pub begun : List ℕ
   pub count : ℕ
 
-abbrev pub talk_of : TalkOfCode → Talk
-talk_of talk = record { state = talk.session; begun = talk.begun.items; count = talk.count }
+abbrev pub session_talk_of : TalkOfCode → SessionTalk
+session_talk_of talk = record { state = talk.session; begun = talk.begun.items; count = talk.count }
 
 -- how many writes failed once a session, or a part of one, came to this
-abbrev pub spoken_after : {T : Type 0} → ℕ → Result T Ended → ℕ
-spoken_after count (Err cause.WriteFault) = raised count
-spoken_after count result = count
+abbrev pub failed_says_of_session : {T : Type 0} → ℕ → Result T Ended → ℕ
+failed_says_of_session count (Err cause.WriteFault) = raised_count count
+failed_says_of_session count result = count
 
 -- how many reads of the input failed, alike
 abbrev pub listened_after : {T : Type 0} → ℕ → Result T Ended → ℕ
-listened_after count (Err cause.ReadFault) = raised count
+listened_after count (Err cause.ReadFault) = raised_count count
 listened_after count result = count
 
 -- how a failed write ends a session
@@ -58,24 +58,24 @@ state_after_lines state (line ∷ lines) = state_after_lines (answer state line)
 
 -- some of the front of these lines' answers was printed
 abbrev pub PrintsPart : SessionState → List (List ℕ) → Option (List ℕ) → Option (List ℕ) → Type 0
-PrintsPart state lines printed printed_after = (n : ℕ) × (printed_after ≡ append_known printed (take n (answers state lines)))
+PrintsPart state lines printed printed_after = (n : ℕ) × (printed_after ≡ append_known printed (take n (answers_of_lines state lines)))
 
 -- a session was told these lines: it goes on, or ends, or could not say all
-abbrev pub Spoke : SessionState → List (List ℕ) → Option (List ℕ) → Option (List ℕ) → Result SessionState Ended → Type 0
-Spoke state lines printed printed_after (Ok new) =
-    (printed_after ≡ append_known printed (answers state lines)) × ((ends state lines ≡ false) × (new ≡ state_after_lines state lines))
-Spoke state lines printed printed_after (Err cause.Done) = (printed_after ≡ append_known printed (answers state lines)) × (ends state lines ≡ true)
-Spoke state lines printed printed_after (Err cause.TooLarge) = ⊥
-Spoke state lines printed printed_after (Err cause.ReadFault) = ⊥
-Spoke state lines printed printed_after (Err cause.WriteFault) = PrintsPart state lines printed printed_after
-Spoke state lines printed printed_after (Err cause.NoMemory) = PrintsPart state lines printed printed_after
+abbrev pub SpokeLines : SessionState → List (List ℕ) → Option (List ℕ) → Option (List ℕ) → Result SessionState Ended → Type 0
+SpokeLines state lines printed printed_after (Ok new) =
+    (printed_after ≡ append_known printed (answers_of_lines state lines)) × ((ends_session state lines ≡ false) × (new ≡ state_after_lines state lines))
+SpokeLines state lines printed printed_after (Err cause.Done) = (printed_after ≡ append_known printed (answers_of_lines state lines)) × (ends_session state lines ≡ true)
+SpokeLines state lines printed printed_after (Err cause.TooLarge) = ⊥
+SpokeLines state lines printed printed_after (Err cause.ReadFault) = ⊥
+SpokeLines state lines printed printed_after (Err cause.WriteFault) = PrintsPart state lines printed printed_after
+SpokeLines state lines printed printed_after (Err cause.NoMemory) = PrintsPart state lines printed printed_after
 
 -- a session over these replays took these bytes, and answered each whole line of them; none of them ends it
-pub record SessionStands (start : List Replaying) (printed now : Option (List ℕ)) (talk : Talk) (taken : List ℕ) : Type 0 where
+pub record SessionStands (start : List Replaying) (printed now : Option (List ℕ)) (talk : SessionTalk) (taken : List ℕ) : Type 0 where
   pub whole : taken ≡ whole_part taken ++ talk.begun
   pub open_line : list_any is_line_feed talk.begun ≡ false
-  pub state_is : talk.state ≡ state_after_lines (opening start) (whole_lines taken)
-  pub goes_on : ends (opening start) (whole_lines taken) ≡ false
+  pub state_is : talk.state ≡ state_after_lines (opening_session start) (whole_lines taken)
+  pub goes_on : ends_session (opening_session start) (whole_lines taken) ≡ false
   pub text : now ≡ append_known printed (session_text start (whole_lines taken))
   pub count_is : talk.count ≡ length taken
   pub within : talk.count ≤ most_input
@@ -85,65 +85,65 @@ abbrev pub SaysPart : List Replaying → Option (List ℕ) → Option (List ℕ)
 SaysPart start printed now taken = (rest : List ℕ) → (n : ℕ) × (now ≡ append_known printed (take n (outcome_text (session_outcome start (taken ++ rest)))))
 
 -- a line ended the session, whatever comes after it
-pub record Quits (start : List Replaying) (printed now : Option (List ℕ)) (taken : List ℕ) : Type 0 where
-  pub ended : ends (opening start) (whole_lines taken) ≡ true
-  pub fits : (rest : List ℕ) → is_large start (taken ++ rest) ≡ false
+pub record SessionQuits (start : List Replaying) (printed now : Option (List ℕ)) (taken : List ℕ) : Type 0 where
+  pub ended : ends_session (opening_session start) (whole_lines taken) ≡ true
+  pub fits : (rest : List ℕ) → is_large_input start (taken ++ rest) ≡ false
   pub text : (rest : List ℕ) → now ≡ append_known printed (session_text start (lines_of (taken ++ rest)))
 
 -- there are too many bytes, and all lines before the limit are answered
-pub record Overruns (start : List Replaying) (printed now : Option (List ℕ)) (taken : List ℕ) : Type 0 where
-  pub large : (rest : List ℕ) → is_large start (taken ++ rest) ≡ true
+pub record InputOverruns (start : List Replaying) (printed now : Option (List ℕ)) (taken : List ℕ) : Type 0 where
+  pub large : (rest : List ℕ) → is_large_input start (taken ++ rest) ≡ true
   pub text : (rest : List ℕ) → now ≡ append_known printed (session_text start (early_lines (taken ++ rest)))
 
 -- why a session stopped in these bytes
-abbrev pub Stops : List Replaying → Option (List ℕ) → Option (List ℕ) → List ℕ → Ended → Type 0
-Stops start printed now taken cause.Done = Quits start printed now taken
-Stops start printed now taken cause.TooLarge = Overruns start printed now taken
-Stops start printed now taken cause.ReadFault = ⊥
-Stops start printed now taken cause.WriteFault = SaysPart start printed now taken
-Stops start printed now taken cause.NoMemory = SaysPart start printed now taken
+abbrev pub SessionStops : List Replaying → Option (List ℕ) → Option (List ℕ) → List ℕ → Ended → Type 0
+SessionStops start printed now taken cause.Done = SessionQuits start printed now taken
+SessionStops start printed now taken cause.TooLarge = InputOverruns start printed now taken
+SessionStops start printed now taken cause.ReadFault = ⊥
+SessionStops start printed now taken cause.WriteFault = SaysPart start printed now taken
+SessionStops start printed now taken cause.NoMemory = SaysPart start printed now taken
 
 -- from where a session stood on, it stands so after more bytes
-unfoldable pub GoesOn : List ℕ → Option (List ℕ) → Option (List ℕ) → Talk → Talk → Type 0
-GoesOn bytes before now talk next =
+unfoldable pub SessionGoesOn : List ℕ → Option (List ℕ) → Option (List ℕ) → SessionTalk → SessionTalk → Type 0
+SessionGoesOn bytes before now talk next =
     (start : List Replaying) (printed : Option (List ℕ)) (taken : List ℕ)
     → SessionStands start printed before talk taken → SessionStands start printed now next (taken ++ bytes)
 
 -- no read failed
-abbrev pub ReadsOn : Ended → Type 0
-ReadsOn cause.Done = Unit {0}
-ReadsOn cause.TooLarge = Unit {0}
-ReadsOn cause.ReadFault = ⊥
-ReadsOn cause.WriteFault = Unit {0}
-ReadsOn cause.NoMemory = Unit {0}
+abbrev pub InputReadsOn : Ended → Type 0
+InputReadsOn cause.Done = Unit {0}
+InputReadsOn cause.TooLarge = Unit {0}
+InputReadsOn cause.ReadFault = ⊥
+InputReadsOn cause.WriteFault = Unit {0}
+InputReadsOn cause.NoMemory = Unit {0}
 
 -- from where a session stood on, it stopped in these bytes
-unfoldable pub StopsIn : List ℕ → Option (List ℕ) → Option (List ℕ) → Talk → Ended → Type 0
-StopsIn bytes before now talk why =
-    ReadsOn why × ((start : List Replaying) (printed : Option (List ℕ)) (taken : List ℕ)
-    → SessionStands start printed before talk taken → Stops start printed now (taken ++ bytes) why)
+unfoldable pub SessionStopsIn : List ℕ → Option (List ℕ) → Option (List ℕ) → SessionTalk → Ended → Type 0
+SessionStopsIn bytes before now talk why =
+    InputReadsOn why × ((start : List Replaying) (printed : Option (List ℕ)) (taken : List ℕ)
+    → SessionStands start printed before talk taken → SessionStops start printed now (taken ++ bytes) why)
 
 -- ---- a piece of the input
 
 -- a piece of at most so many bytes is asked for and answered, from one state of the terminal to another
-pub record Exchange : Type 0 where
+pub record InputExchange : Type 0 where
   pub room : ℕ
   pub old : TerminalState
   pub new : TerminalState
 
-abbrev pub exchange_of : ℕ → TerminalState → TerminalState → Exchange
+abbrev pub exchange_of : ℕ → TerminalState → TerminalState → InputExchange
 exchange_of room old new = record { room = room; old = old; new = new }
 
 -- where a session stands after an exchange, and whether a piece came in it
-pub record Heard : Type 0 where
-  pub talk : Talk
+pub record HeardPiece : Type 0 where
+  pub talk : SessionTalk
   pub more : Bool
 
-abbrev pub heard_of : TalkOfCode × Bool → Heard
-heard_of heard = record { talk = talk_of heard.0; more = heard.1 }
+abbrev pub heard_of : TalkOfCode × Bool → HeardPiece
+heard_of heard = record { talk = session_talk_of heard.0; more = heard.1 }
 
 -- a piece was read and taken, or there was none left. What had been printed before was noted with it
-pub record HearsPiece (start : List Replaying) (printed : Option (List ℕ)) (taken : List ℕ) (exchange : Exchange) (heard : Heard) : Type 0 where
+pub record HearsPiece (start : List Replaying) (printed : Option (List ℕ)) (taken : List ℕ) (exchange : InputExchange) (heard : HeardPiece) : Type 0 where
   pub piece : List ℕ
   pub short : length piece ≤ exchange.room
   pub stands : SessionStands start printed exchange.new.taken heard.talk (taken ++ piece)
@@ -152,16 +152,16 @@ pub record HearsPiece (start : List Replaying) (printed : Option (List ℕ)) (ta
   pub at_end : heard.more ≡ false → (piece ≡ []) × WhenTold exchange.old.hearing.left (λ input. input ≡ [])
 
 -- all whole lines of these bytes are answered
-pub record Pauses (start : List Replaying) (printed now : Option (List ℕ)) (taken : List ℕ) : Type 0 where
+pub record SessionPauses (start : List Replaying) (printed now : Option (List ℕ)) (taken : List ℕ) : Type 0 where
   pub text : now ≡ append_known printed (session_text start (whole_lines taken))
-  pub goes_on : ends (opening start) (whole_lines taken) ≡ false
+  pub goes_on : ends_session (opening_session start) (whole_lines taken) ≡ false
   pub within : length taken ≤ most_input
 
 -- why a session stopped at a piece
 abbrev pub StopsAtPiece : List Replaying → Option (List ℕ) → Option (List ℕ) → List ℕ → Ended → Type 0
-StopsAtPiece start printed now taken cause.Done = Quits start printed now taken
-StopsAtPiece start printed now taken cause.TooLarge = Overruns start printed now taken
-StopsAtPiece start printed now taken cause.ReadFault = Pauses start printed now taken
+StopsAtPiece start printed now taken cause.Done = SessionQuits start printed now taken
+StopsAtPiece start printed now taken cause.TooLarge = InputOverruns start printed now taken
+StopsAtPiece start printed now taken cause.ReadFault = SessionPauses start printed now taken
 StopsAtPiece start printed now taken cause.WriteFault = SaysPart start printed now taken
 StopsAtPiece start printed now taken cause.NoMemory = SaysPart start printed now taken
 
@@ -170,7 +170,7 @@ abbrev pub NotesPiece : Option (List ℕ) → List ℕ → Option (List Asking) 
 NotesPiece before piece asked asked_after = (asked_after ≡ with_asking before piece asked) ⊎ ((piece ≡ []) × (asked_after ≡ asked))
 
 -- no piece was read, or the session stopped in it
-pub record Breaks (start : List Replaying) (printed : Option (List ℕ)) (taken : List ℕ) (exchange : Exchange) (why : Ended) : Type 0 where
+pub record SessionBreaks (start : List Replaying) (printed : Option (List ℕ)) (taken : List ℕ) (exchange : InputExchange) (why : Ended) : Type 0 where
   pub piece : List ℕ
   pub short : length piece ≤ exchange.room
   pub read : WhenTold exchange.old.hearing.left (λ input. TakesOfInput input exchange.new.hearing.left piece)
@@ -178,72 +178,72 @@ pub record Breaks (start : List Replaying) (printed : Option (List ℕ)) (taken 
   pub stops : StopsAtPiece start printed exchange.new.taken (taken ++ piece) why
 
 -- from where a session stood on, it hears so
-unfoldable pub HearsFrom : Exchange → Talk → Heard → Type 0
-HearsFrom exchange talk heard =
+unfoldable pub SessionHearsFrom : InputExchange → SessionTalk → HeardPiece → Type 0
+SessionHearsFrom exchange talk heard =
     (start : List Replaying) (printed : Option (List ℕ)) (taken : List ℕ)
     → SessionStands start printed exchange.old.taken talk taken → HearsPiece start printed taken exchange heard
 
 -- from where a session stood on, it breaks so
-unfoldable pub BreaksFrom : Exchange → Talk → Ended → Type 0
-BreaksFrom exchange talk why =
+unfoldable pub SessionBreaksFrom : InputExchange → SessionTalk → Ended → Type 0
+SessionBreaksFrom exchange talk why =
     (start : List Replaying) (printed : Option (List ℕ)) (taken : List ℕ)
-    → SessionStands start printed exchange.old.taken talk taken → Breaks start printed taken exchange why
+    → SessionStands start printed exchange.old.taken talk taken → SessionBreaks start printed taken exchange why
 
 -- ---- the whole session
 
 -- why a session is over, where nothing went wrong at its end
-abbrev pub why_of : Result ⊤ Ended → Ended
-why_of (Ok _) = cause.Done
-why_of (Err why) = why
+abbrev pub why_session_ended : Result ⊤ Ended → Ended
+why_session_ended (Ok _) = cause.Done
+why_session_ended (Err why) = why
 
 -- a session is done: it printed the whole text, at the end of the input or after a line that ends it
-pub record Concludes (start : List Replaying) (printed now : Option (List ℕ)) (taken input : List ℕ) : Type 0 where
-  pub fits : is_large start input ≡ false
+pub record SessionConcludes (start : List Replaying) (printed now : Option (List ℕ)) (taken input : List ℕ) : Type 0 where
+  pub fits : is_large_input start input ≡ false
   pub text : now ≡ append_known printed (session_text start (lines_of input))
-  pub at_end : (input ≡ taken) ⊎ (ends (opening start) (whole_lines taken) ≡ true)
+  pub at_end : (input ≡ taken) ⊎ (ends_session (opening_session start) (whole_lines taken) ≡ true)
 
 -- some of the front of what was to be printed
 abbrev pub SaysSome : List Replaying → Option (List ℕ) → Option (List ℕ) → List ℕ → Type 0
 SaysSome start printed now input = (n : ℕ) × (now ≡ append_known printed (take n (outcome_text (session_outcome start input))))
 
 -- what was said of an input of which these bytes were taken: what had been printed before, and what then was
-abbrev pub Said : List Replaying → Option (List ℕ) × Option (List ℕ) → List ℕ → List ℕ → Ended → Type 0
-Said start printed taken input cause.Done = Concludes start printed.0 printed.1 taken input
-Said start printed taken input cause.TooLarge =
-    (is_large start input ≡ true) × (printed.1 ≡ append_known printed.0 (session_text start (early_lines input)))
-Said start printed taken input cause.ReadFault = Pauses start printed.0 printed.1 taken
-Said start printed taken input cause.WriteFault = SaysSome start printed.0 printed.1 input
-Said start printed taken input cause.NoMemory = SaysSome start printed.0 printed.1 input
+abbrev pub SaidOfInput : List Replaying → Option (List ℕ) × Option (List ℕ) → List ℕ → List ℕ → Ended → Type 0
+SaidOfInput start printed taken input cause.Done = SessionConcludes start printed.0 printed.1 taken input
+SaidOfInput start printed taken input cause.TooLarge =
+    (is_large_input start input ≡ true) × (printed.1 ≡ append_known printed.0 (session_text start (early_lines input)))
+SaidOfInput start printed taken input cause.ReadFault = SessionPauses start printed.0 printed.1 taken
+SaidOfInput start printed taken input cause.WriteFault = SaysSome start printed.0 printed.1 input
+SaidOfInput start printed taken input cause.NoMemory = SaysSome start printed.0 printed.1 input
 
 -- these bytes came in turn, each piece once all whole lines before it were answered
 pub record CameInTurn (start : List Replaying) (printed : Option (List ℕ)) (taken : List ℕ) (earlier : List Asking) (asked_after : Option (List Asking)) : Type 0 where
   pub askings : List Asking
   pub noted : asked_after ≡ Some (earlier ++ askings)
-  pub in_turn : AreInTurn start printed [] askings
-  pub given : given_in askings ≡ taken
+  pub in_turn : AreAskedInTurn start printed [] askings
+  pub given : given_in_askings askings ≡ taken
 
 -- a session over these replays read some of an input, and is over
 pub record SessionHolds (start : List Replaying) (old new : TerminalState) (why : Ended) : Type 0 where
   pub taken : List ℕ
-  pub asks : Asks start taken
+  pub asks : AsksAtTerminal start taken
   pub read : WhenTold old.hearing.left (λ input. TakesOfInput input new.hearing.left taken)
   pub turns : WhenTold old.hearing.asked (λ earlier. CameInTurn start old.taken taken earlier new.hearing.asked)
-  pub said : WhenTold old.hearing.left (λ input. Said start (old.taken, new.taken) taken input why)
+  pub said : WhenTold old.hearing.left (λ input. SaidOfInput start (old.taken, new.taken) taken input why)
   pub large : why ≡ cause.TooLarge → (earlier : List ℕ) × (new.taken ≡ append_known old.taken earlier)
 
 -- from its opening on, a session is held so
-unfoldable pub HoldsFrom : TerminalState → TerminalState → Talk → Ended → Type 0
-HoldsFrom old new talk why =
+unfoldable pub SessionHoldsFrom : TerminalState → TerminalState → SessionTalk → Ended → Type 0
+SessionHoldsFrom old new talk why =
     (start : List Replaying) (printed : Option (List ℕ))
     → SessionStands start printed old.taken talk [] → SessionHolds start (record old { taken = printed }) new why
 
 -- a session is open, and no byte was taken
-unfoldable pub Opens : List Replaying → Option (List ℕ) → Option (List ℕ) → Talk → Type 0
-Opens start printed now talk = SessionStands start printed now talk []
+unfoldable pub SessionOpens : List Replaying → Option (List ℕ) → Option (List ℕ) → SessionTalk → Type 0
+SessionOpens start printed now talk = SessionStands start printed now talk []
 
 -- a session did not open
-unfoldable pub OpensPart : List Replaying → Option (List ℕ) → Option (List ℕ) → Ended → Type 0
-OpensPart start printed now why = SaysPart start printed now [] × FailsAtOpening why
+unfoldable pub SessionOpensPart : List Replaying → Option (List ℕ) → Option (List ℕ) → Ended → Type 0
+SessionOpensPart start printed now why = SaysPart start printed now [] × FailsAtOpening why
 
 -- a session was held
 unfoldable pub HeldSession : List Replaying → TerminalState → TerminalState → Ended → Type 0

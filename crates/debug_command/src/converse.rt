@@ -3,8 +3,8 @@ ghost use Rattle.std.specs.Prelude.{◌≡◌, ◌∷◌, ◌≤◌, ◌<◌, �
 ghost use Rattle.fri_text.specs.Line.{lines_of};
 ghost use Rattle.group_state.specs.Place.{AreParts};
 ghost use Rattle.debug_command.specs.declared.converse.Ended.TheVariants as cause;
-ghost use Rattle.debug_command.specs.Conversation.{Converses, terminal_at};
-ghost use Rattle.debug_command.specs.Talk.{BreaksFrom, GoesOn, HearsFrom, HeldSession, HoldsFrom, Opens, OpensPart, Spoke, StopsIn, ended_by, exchange_of, heard_of, listened_after, spoken_after, talk_of, why_of};
+ghost use Rattle.debug_command.specs.Conversation.{ConversesInSession, terminal_at};
+ghost use Rattle.debug_command.specs.Talk.{SessionBreaksFrom, SessionGoesOn, SessionHearsFrom, HeldSession, SessionHoldsFrom, SessionOpens, SessionOpensPart, SpokeLines, SessionStopsIn, ended_by, exchange_of, heard_of, listened_after, failed_says_of_session, session_talk_of, why_session_ended};
 
 use command_run::{Reason, Status, say_refused};
 use fri_bytes::Cursor;
@@ -18,10 +18,10 @@ use std::sync::ledger::{Blank, Ledger};
 use watch_expr::Steps;
 
 // How many bytes are asked for at once.
-const PIECE: usize = 4096;
+const INPUT_PIECE: usize = 4096;
 
 // How many bytes may be read before a line ends the session.
-const INPUT_LIMIT: usize = 16_777_216;
+const MOST_INPUT: usize = 16_777_216;
 
 // Why a session ends.
 #[derive(Clone, Copy)]
@@ -84,10 +84,10 @@ fn begin<'m, 'a, K: Sink>(
 ) -> Result<Talk<'m, 'a>, Ended>
     requires { AreParts parts.items }
     ensures said { MatchResult result
-        (λ talk. Opens parts.entry.items (K.taken out.old) (K.taken out.new) (talk_of talk))
-        (OpensPart parts.entry.items (K.taken out.old) (K.taken out.new)) }
+        (λ talk. SessionOpens parts.entry.items (K.taken out.old) (K.taken out.new) (session_talk_of talk))
+        (SessionOpensPart parts.entry.items (K.taken out.old) (K.taken out.new)) }
     ensures count { IfOk result (λ talk. talk.count ≡ 0) }
-    ensures counted { K.faults out.new ≡ spoken_after (K.faults out.old) result }
+    ensures counted { K.faults out.new ≡ failed_says_of_session (K.faults out.old) result }
     ensures heard { K.hearing out.new ≡ K.hearing out.old }
 {
     let group = Group::begin(alloc, parts)?;
@@ -108,8 +108,8 @@ fn answer<'m, 'a, K: Sink, L: Ledger>(
     out: &mut K,
     steps: &mut Steps<L>,
 ) -> Result<Session<'m, 'a>, Ended>
-    ensures said { Spoke session.entry (take 1 (lines_of bytes.now)) (K.taken out.old) (K.taken out.new) result }
-    ensures counted { K.faults out.new ≡ spoken_after (K.faults out.old) result }
+    ensures said { SpokeLines session.entry (take 1 (lines_of bytes.now)) (K.taken out.old) (K.taken out.new) result }
+    ensures counted { K.faults out.new ≡ failed_says_of_session (K.faults out.old) result }
     ensures heard { K.hearing out.new ≡ K.hearing out.old }
 {
     let Some(line) = next_line(&mut Cursor::new(bytes)) else {
@@ -132,11 +132,11 @@ fn take_byte<'m, 'a, K: Sink, L: Ledger>(
     steps: &mut Steps<L>,
 ) -> Result<Talk<'m, 'a>, Ended>
     ensures said { MatchResult result
-        (λ next. GoesOn (b ∷ []) (K.taken out.old) (K.taken out.new) (talk_of talk.entry) (talk_of next))
-        (StopsIn (b ∷ []) (K.taken out.old) (K.taken out.new) (talk_of talk.entry)) }
+        (λ next. SessionGoesOn (b ∷ []) (K.taken out.old) (K.taken out.new) (session_talk_of talk.entry) (session_talk_of next))
+        (SessionStopsIn (b ∷ []) (K.taken out.old) (K.taken out.new) (session_talk_of talk.entry)) }
     ensures count { IfOk result (λ new. new.count ≡ talk.entry.count + 1) }
     ensures within { IfOk result (λ new. new.count ≤ INPUT_LIMIT) }
-    ensures counted { K.faults out.new ≡ spoken_after (K.faults out.old) result }
+    ensures counted { K.faults out.new ≡ failed_says_of_session (K.faults out.old) result }
     ensures heard { K.hearing out.new ≡ K.hearing out.old }
 {
     let Talk {
@@ -144,7 +144,7 @@ fn take_byte<'m, 'a, K: Sink, L: Ledger>(
         mut begun,
         count,
     } = talk;
-    if count >= INPUT_LIMIT {
+    if count >= MOST_INPUT {
         return Err(Ended::TooLarge);
     }
     begun.push(b)?;
@@ -174,11 +174,11 @@ fn take_piece<'m, 'a, K: Sink, L: Ledger>(
 ) -> Result<Talk<'m, 'a>, Ended>
     requires { talk.count ≤ INPUT_LIMIT }
     ensures said { MatchResult result
-        (λ next. GoesOn piece.now (K.taken out.old) (K.taken out.new) (talk_of talk.entry) (talk_of next))
-        (StopsIn piece.now (K.taken out.old) (K.taken out.new) (talk_of talk.entry)) }
+        (λ next. SessionGoesOn piece.now (K.taken out.old) (K.taken out.new) (session_talk_of talk.entry) (session_talk_of next))
+        (SessionStopsIn piece.now (K.taken out.old) (K.taken out.new) (session_talk_of talk.entry)) }
     ensures count { IfOk result (λ new. new.count ≡ talk.entry.count + length piece.now) }
     ensures within { IfOk result (λ new. new.count ≤ INPUT_LIMIT) }
-    ensures counted { K.faults out.new ≡ spoken_after (K.faults out.old) result }
+    ensures counted { K.faults out.new ≡ failed_says_of_session (K.faults out.old) result }
     ensures heard { K.hearing out.new ≡ K.hearing out.old }
 {
     let mut talk = talk;
@@ -200,12 +200,12 @@ fn hear<'m, 'a, T: Terminal, L: Ledger>(
     requires room { 0 < length piece.old }
     ensures said { let terminal = terminal_at T.hearing T.taken T.faults in
         let exchange = exchange_of (length piece.old) (terminal io.old) (terminal io.new) in MatchResult result
-        (λ heard. HearsFrom exchange (talk_of talk.entry) (heard_of heard))
-        (BreaksFrom exchange (talk_of talk.entry)) }
+        (λ heard. SessionHearsFrom exchange (session_talk_of talk.entry) (heard_of heard))
+        (SessionBreaksFrom exchange (session_talk_of talk.entry)) }
     ensures count { IfOk result (λ heard. IsTrue heard.1 → talk.entry.count < heard.0.count) }
     ensures within { IfOk result (λ heard. heard.0.count ≤ INPUT_LIMIT) }
     ensures reads { (T.hearing io.new).faults ≡ listened_after (T.hearing io.old).faults result }
-    ensures counted { T.faults io.new ≡ spoken_after (T.faults io.old) result }
+    ensures counted { T.faults io.new ≡ failed_says_of_session (T.faults io.old) result }
 {
     let count = io.read(piece)?;
     let talk = take_piece(alloc, talk, &piece[..count], io, steps)?;
@@ -221,14 +221,14 @@ fn listen<T: Terminal, L: Ledger>(
 ) -> Result<(), Ended>
     requires { talk.count ≡ 0 }
     ensures said { let terminal = terminal_at T.hearing T.taken T.faults in
-        HoldsFrom (terminal io.old) (terminal io.new) (talk_of talk.entry) (why_of result) }
+        SessionHoldsFrom (terminal io.old) (terminal io.new) (session_talk_of talk.entry) (why_session_ended result) }
     ensures reads { (T.hearing io.new).faults ≡ listened_after (T.hearing io.old).faults result }
-    ensures counted { T.faults io.new ≡ spoken_after (T.faults io.old) result }
+    ensures counted { T.faults io.new ≡ failed_says_of_session (T.faults io.old) result }
 {
     let mut talk = talk;
-    let mut piece = [0; PIECE];
+    let mut piece = [0; INPUT_PIECE];
     'hearing: loop {
-        let room = PIECE.min(INPUT_LIMIT + 1 - talk.count);
+        let room = INPUT_PIECE.min(MOST_INPUT + 1 - talk.count);
         let (next, more) = hear(alloc, talk, &mut piece[..room], io, steps)?;
         if !more {
             answer(alloc, next.session, next.begun.as_slice(), io, steps)?;
@@ -246,9 +246,9 @@ fn hold<T: Terminal, L: Ledger>(
     steps: &mut Steps<L>,
 ) -> Result<(), Ended>
     requires { AreParts parts.items }
-    ensures said { let terminal = terminal_at T.hearing T.taken T.faults in HeldSession parts.entry.items (terminal io.old) (terminal io.new) (why_of result) }
+    ensures said { let terminal = terminal_at T.hearing T.taken T.faults in HeldSession parts.entry.items (terminal io.old) (terminal io.new) (why_session_ended result) }
     ensures reads { (T.hearing io.new).faults ≡ listened_after (T.hearing io.old).faults result }
-    ensures counted { T.faults io.new ≡ spoken_after (T.faults io.old) result }
+    ensures counted { T.faults io.new ≡ failed_says_of_session (T.faults io.old) result }
 {
     let talk = begin(alloc, parts, io)?;
     listen(alloc, talk, io, steps)
@@ -266,7 +266,7 @@ pub(crate) fn converse<T: Terminal, L: Ledger>(
     requires parts { blank.parts ≡ L.parts }
     requires some { 0 < blank.parts }
     requires replays { AreParts parts.items }
-    ensures { let terminal = terminal_at T.hearing T.taken T.faults in Converses parts.entry.items (terminal io.old) (terminal io.new) result }
+    ensures { let terminal = terminal_at T.hearing T.taken T.faults in ConversesInSession parts.entry.items (terminal io.old) (terminal io.new) result }
 {
     let mut steps = Steps::<L>::new(blank);
     match hold(alloc, parts, io, &mut steps) {

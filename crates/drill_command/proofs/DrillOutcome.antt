@@ -9,15 +9,15 @@ use Rattle.command_run.specs.declared.refusal.Reason.{Reason}
 use Rattle.command_run.specs.declared.refusal.Reason.TheVariants as reason
 use Rattle.command_run.specs.declared.refusal.StopCause.{StopCause}
 use Rattle.command_run.specs.declared.refusal.StopCause.TheVariants as refusal
-use Rattle.command_run.specs.Call.{CountsFaults, DivergesOnlyIf, KeepsFolder, MakesWorkFiles, Raises, StopsAs, TellsOutcome}
+use Rattle.command_run.specs.Call.{CountsFaults, DivergesOnlyIf, KeepsFolder, MakesWorkFiles, RaisesCount, StopsAsCause, TellsOutcome}
 use Rattle.command_run.specs.Outcome.{CommandOutcome, refuses_at_once, writes_of}
-use Rattle.command_run.specs.OutcomeLaws.{stops_make, stops_tell}
-use Rattle.command_run.specs.Run.{Performed, expectation, file_state}
+use Rattle.command_run.specs.OutcomeLaws.{stops_make_files, stops_tell_outcome}
+use Rattle.command_run.specs.Run.{PerformedCommand, expectation, file_state}
 use Rattle.drill_command.specs.Drill.{drill_outcome, drill_run, drill_work, drill_by_room}
 use Rattle.drill_command.specs.Seen.{IsFullLog, StopsDrill}
 
 abbrev pub Performs : ℕ → Result WorkText StopCause → Type 0
-Performs rounds ended = (told : Option Folder) (counts : Counts) → Performed (expectation (Some (drill_outcome rounds)) (λ folder. []) false) (file_state told counts) (file_state told counts) ended
+Performs rounds ended = (told : Option Folder) (counts : Counts) → PerformedCommand (expectation (Some (drill_outcome rounds)) (λ folder. []) false) (file_state told counts) (file_state told counts) ended
 
 -- what is said of its outcome is said of the one that is expected
 at_outcome : (rounds : ℕ) (P : CommandOutcome → Type 0) → P (drill_outcome rounds) → (o : CommandOutcome) → Some (drill_outcome rounds) ≡ Some o → P o
@@ -38,7 +38,7 @@ done_performs rounds room text is told counts = record {
 
 -- ---- a stop
 
-stops_as : (rounds : ℕ) (e : StopCause) → StopsDrill rounds e → StopsAs (drill_outcome rounds) e
+stops_as : (rounds : ℕ) (e : StopCause) → StopsDrill rounds e → StopsAsCause (drill_outcome rounds) e
 stops_as rounds (refusal.Refused file (reason.LogFull item)) (named, full) =
     ap (drill_by_room rounds (drill_run rounds)) full ∙ ap (λ (name : List ℕ). Err (refuses_at_once name (reason.LogFull item))) (sym named)
 stops_as rounds (refusal.Refused file other) (named, full) = absurd full
@@ -55,7 +55,7 @@ counts_none rounds (refusal.Refused file why) counts stops = record { reads = re
 counts_none rounds refusal.NoMemory counts stops = record { reads = refl; writes = refl; misses = tt }
 counts_none rounds other counts stops = absurd stops
 
-raises : (rounds : ℕ) (e : StopCause) (counts : Counts) → StopsDrill rounds e → Raises counts counts e
+raises : (rounds : ℕ) (e : StopCause) (counts : Counts) → StopsDrill rounds e → RaisesCount counts counts e
 raises rounds (refusal.Refused file (reason.LogFull item)) counts stops = λ large. absurd cc
 raises rounds (refusal.Refused file other) counts stops = absurd stops.1
 raises rounds refusal.NoMemory counts stops = tt
@@ -63,13 +63,13 @@ raises rounds other counts stops = absurd stops
 
 pub stop_performs : (rounds : ℕ) (e : StopCause) → StopsDrill rounds e → Performs rounds (Err e)
 stop_performs rounds e stops told counts = record {
-  tells = at_outcome rounds (λ o. TellsOutcome o (Err e)) (stops_tell (drill_outcome rounds) e stopped);
-  makes = at_outcome rounds (λ o. MakesWorkFiles (Err e) (writes_of o) told told) (stops_make (drill_outcome rounds) e told told stopped refl);
+  tells = at_outcome rounds (λ o. TellsOutcome o (Err e)) (stops_tell_outcome (drill_outcome rounds) e stopped);
+  makes = at_outcome rounds (λ o. MakesWorkFiles (Err e) (writes_of o) told told) (stops_make_files (drill_outcome rounds) e told told stopped refl);
   names = λ folder here. inl refl;
   keeps = keeps_all rounds e told stops;
   diverges = tt;
   counted = counts_none rounds e counts stops;
   cause = raises rounds e counts stops;
 } where
-  stopped : StopsAs (drill_outcome rounds) e
+  stopped : StopsAsCause (drill_outcome rounds) e
   stopped = stops_as rounds e stops

@@ -2,17 +2,17 @@
 use Rattle.std.proofs.Common.{◌≡◌, ◌∙◌, ℕ, List, ap, subst}
 use Rattle.proc_replay.specs.Replaying.{Replaying}
 use Rattle.group_state.specs.Place.{GroupPlace}
-use Rattle.group_record.specs.Run.{Step}
+use Rattle.group_record.specs.Run.{RunStep}
 use Rattle.drill_command.specs.declared.recording.Recording.{Recording}
 use Rattle.drill_command.specs.declared.watching.Watched.{Watched}
 use Rattle.drill_command.specs.Drill.{drill_group, drill_run, drill_text, replays_of_logs}
-use Rattle.drill_command.specs.Seen.{HoldLogs, HasAllRounds, IsWatched, TellsDrill}
+use Rattle.drill_command.specs.Seen.{HoldLogs, HasAllRounds, IsWatchedDrill, TellsDrill}
 
 pub tells : (rounds : ℕ) (recording : Recording) → HasAllRounds rounds recording
-    → (parts : List Replaying) → ((steps : List Step) → HoldLogs steps recording.files → parts ≡ replays_of_logs drill_group steps)
+    → (parts : List Replaying) → ((steps : List RunStep) → HoldLogs steps recording.files → parts ≡ replays_of_logs drill_group steps)
     → (group : GroupPlace) → group ≡ record { start = parts; at = 0 }
-    → (watched : Watched) → IsWatched group.start watched
-    → (text : List ℕ) → ((start : List Replaying) → IsWatched start watched → text ≡ drill_text rounds recording.idle start) → TellsDrill rounds text
+    → (watched : Watched) → IsWatchedDrill group.start watched
+    → (text : List ℕ) → ((start : List Replaying) → IsWatchedDrill start watched → text ≡ drill_text rounds recording.idle start) → TellsDrill rounds text
 tells rounds recording is parts are group begun watched walked text printed =
     let steps = (drill_run rounds).steps in
     let here : group.start ≡ replays_of_logs drill_group steps = ap (λ (g : GroupPlace). g.start) begun ∙ are steps is.logs in

@@ -17,19 +17,19 @@ use Rattle.guest_process.specs.State.{State}
 use Rattle.proc_replay.specs.Replaying.{Replaying}
 use Rattle.group_state.specs.Place.{AreParts, group_count}
 use Rattle.group_record.specs.Logs.{TellsEvents, log_name}
-use Rattle.group_record.specs.Run.{Step, head_of_log, log_of, name_of_process}
+use Rattle.group_record.specs.Run.{RunStep, head_of_log, log_of, name_of_process}
 use Rattle.drill_command.specs.Drill.{drill_group, drill_states, left_of_log, replay_of_process, replays_from, replays_of_logs}
-use Rattle.drill_command.specs.Ring.{ring}
+use Rattle.drill_command.specs.Ring.{ring_module}
 use Rattle.drill_command.specs.Seen.{HoldLogs}
 use Rattle.drill_command.proofs.ProcessesBegin.{states_are}
 use Rattle.drill_command.proofs.RecordedLogs.{each}
 
 -- the head and the rest that are found in a log
-pub record IsReadAs (steps : List Step) (p : ℕ) (head : Head) (left : Unread) : Type 0 where
+pub record IsReadAs (steps : List RunStep) (p : ℕ) (head : Head) (left : Unread) : Type 0 where
   pub head_is : head ≡ head_of_log drill_group p
   pub left_is : left ≡ left_of_log drill_group steps p
 
-pub read_as : ExactLogs → (steps : List Step) (p : ℕ) → TellsEvents drill_group steps p → (head : Head) (left : Unread) → head_at (log_of drill_group steps p) ≡ Some (head, left) → IsReadAs steps p head left
+pub read_as : ExactLogs → (steps : List RunStep) (p : ℕ) → TellsEvents drill_group steps p → (head : Head) (left : Unread) → head_at (log_of drill_group steps p) ≡ Some (head, left) → IsReadAs steps p head left
 read_as exact steps p tells head left found =
     let same : head ≡ head_of_log drill_group p = ap (λ (x : Head × Unread). x.0) (same_Some (head, left) (head_of_log drill_group p, tells.left) (sym found ∙ tells.head)) in
     let spelled = ((exact.heads (log_of drill_group steps p) head left).0 found).1 in
@@ -40,19 +40,19 @@ read_as exact steps p tells head left found =
       left_is = spelled.1 ∙ ap (λ (h : Head). unread_after_head h left.bytes) same ∙ ap (unread_after_head (head_of_log drill_group p)) bytes;
     }
 
-pub replay_is : (steps : List Step) (p : ℕ) (S : State) (head : Head) (left : Unread) → IsReadAs steps p head left → record { head = head; state = S; left = left } ≡ replay_of_process drill_group steps p S
+pub replay_is : (steps : List RunStep) (p : ℕ) (S : State) (head : Head) (left : Unread) → IsReadAs steps p head left → record { head = head; state = S; left = left } ≡ replay_of_process drill_group steps p S
 replay_is steps p S head left is =
     ap (λ (h : Head). record { head = h; state = S; left = left }) is.head_is ∙ ap (λ (l : Unread). record { head = head_of_log drill_group p; state = S; left = l }) is.left_is
 
 -- ---- one log
 
 -- the bytes that stand under the name of process p's log are that log
-pub log_found : (steps : List Step) (files : FilesInMemory) → HoldLogs steps files → (p : ℕ) → p < 4 → (name bytes : List ℕ)
+pub log_found : (steps : List RunStep) (files : FilesInMemory) → HoldLogs steps files → (p : ℕ) → p < 4 → (name bytes : List ℕ)
     → name ≡ log_name (name_of_process drill_group p) → get files.folder name ≡ Some bytes → bytes ≡ log_of drill_group steps p
 log_found steps files holds p below name bytes named found =
     same_Some bytes (log_of drill_group steps p) (sym found ∙ ap (get files.folder) named ∙ holds.logs p below)
 
-pub never_headless : (steps : List Step) (files : FilesInMemory) → HoldLogs steps files → (p : ℕ) → p < 4 → (name bytes : List ℕ)
+pub never_headless : (steps : List RunStep) (files : FilesInMemory) → HoldLogs steps files → (p : ℕ) → p < 4 → (name bytes : List ℕ)
     → name ≡ log_name (name_of_process drill_group p) → get files.folder name ≡ Some bytes → head_at bytes ≡ None → ⊥
 never_headless steps files holds p below name bytes named found missing =
     refuted (head_of_log drill_group p, (holds.tells p below).left)
@@ -61,29 +61,29 @@ never_headless steps files holds p below name bytes named found missing =
     refuted : (x : Head × Unread) → Some x ≡ None → ⊥
     refuted x e = cc
 
-pub opened_as : ExactLogs → (steps : List Step) (files : FilesInMemory) → HoldLogs steps files → (p : ℕ) → p < 4 → (name bytes : List ℕ)
+pub opened_as : ExactLogs → (steps : List RunStep) (files : FilesInMemory) → HoldLogs steps files → (p : ℕ) → p < 4 → (name bytes : List ℕ)
     → name ≡ log_name (name_of_process drill_group p) → get files.folder name ≡ Some bytes
     → (head : Head) (left : Unread) → head_at bytes ≡ Some (head, left) → IsReadAs steps p head left
 opened_as exact steps files holds p below name bytes named found head left opened =
     read_as exact steps p (holds.tells p below) head left (ap head_at (sym (log_found steps files holds p below name bytes named found)) ∙ opened)
 
 -- a process of a module that is `ring` begins as one of `ring`
-pub begins_as : (m : Module) (who : ℕ) (S : State) → m ≡ ring → start m who 4 ≡ Some S → start ring who 4 ≡ Some S
+pub begins_as : (m : Module) (who : ℕ) (S : State) → m ≡ ring_module → start m who 4 ≡ Some S → start ring_module who 4 ≡ Some S
 begins_as m who S same is = subst (λ (x : Module). start x who 4 ≡ Some S) same is
 
 -- ---- all four
 
-abbrev pub replays_of : List Step → State → State → State → State → List Replaying
+abbrev pub replays_of : List RunStep → State → State → State → State → List Replaying
 replays_of steps n0 n1 n2 n3 =
     replay_of_process drill_group steps 0 n0 ∷ replay_of_process drill_group steps 1 n1 ∷ replay_of_process drill_group steps 2 n2 ∷ replay_of_process drill_group steps 3 n3 ∷ []
 
-pub all_replays : (steps : List Step) (n0 n1 n2 n3 : State) → drill_states ≡ n0 ∷ n1 ∷ n2 ∷ n3 ∷ [] → replays_of steps n0 n1 n2 n3 ≡ replays_of_logs drill_group steps
+pub all_replays : (steps : List RunStep) (n0 n1 n2 n3 : State) → drill_states ≡ n0 ∷ n1 ∷ n2 ∷ n3 ∷ [] → replays_of steps n0 n1 n2 n3 ≡ replays_of_logs drill_group steps
 all_replays steps n0 n1 n2 n3 are = sym (ap (replays_from drill_group steps 0) are)
 
-left_within : (steps : List Step) (p : ℕ) → TellsEvents drill_group steps p → length (left_of_log drill_group steps p).bytes ≤ most_log
+left_within : (steps : List RunStep) (p : ℕ) → TellsEvents drill_group steps p → length (left_of_log drill_group steps p).bytes ≤ most_log
 left_within steps p tells = omega (arith, length-drop (length (head_bytes (head_of_log drill_group p))) (log_of drill_group steps p), tells.within)
 
-pub are_parts : (steps : List Step) (files : FilesInMemory) → HoldLogs steps files → (n0 n1 n2 n3 : State) → n0.events ≡ 0 → n1.events ≡ 0 → n2.events ≡ 0 → n3.events ≡ 0
+pub are_parts : (steps : List RunStep) (files : FilesInMemory) → HoldLogs steps files → (n0 n1 n2 n3 : State) → n0.events ≡ 0 → n1.events ≡ 0 → n2.events ≡ 0 → n3.events ≡ 0
     → AreParts (replays_of steps n0 n1 n2 n3)
 are_parts steps files holds n0 n1 n2 n3 fresh0 fresh1 fresh2 fresh3 = record {
   few = few;
@@ -105,16 +105,16 @@ are_parts steps files holds n0 n1 n2 n3 fresh0 fresh1 fresh2 fresh3 = record {
   below a b h = h
 
 -- four replays that begin so are those of a group
-pub parts_are : BeginsFresh → (steps : List Step) (files : FilesInMemory) → HoldLogs steps files → (n0 n1 n2 n3 : State) (r0 r1 r2 r3 : Replaying)
-    → start ring 0 4 ≡ Some n0 → start ring 1 4 ≡ Some n1 → start ring 2 4 ≡ Some n2 → start ring 3 4 ≡ Some n3
+pub parts_are : BeginsFresh → (steps : List RunStep) (files : FilesInMemory) → HoldLogs steps files → (n0 n1 n2 n3 : State) (r0 r1 r2 r3 : Replaying)
+    → start ring_module 0 4 ≡ Some n0 → start ring_module 1 4 ≡ Some n1 → start ring_module 2 4 ≡ Some n2 → start ring_module 3 4 ≡ Some n3
     → r0 ≡ replay_of_process drill_group steps 0 n0 → r1 ≡ replay_of_process drill_group steps 1 n1 → r2 ≡ replay_of_process drill_group steps 2 n2 → r3 ≡ replay_of_process drill_group steps 3 n3
     → (items : List Replaying) → items ≡ r0 ∷ r1 ∷ r2 ∷ r3 ∷ [] → AreParts items
 parts_are fresh steps files holds n0 n1 n2 n3 r0 r1 r2 r3 s0 s1 s2 s3 is0 is1 is2 is3 items are =
-    rw (are, is0, is1, is2, is3) (are_parts steps files holds n0 n1 n2 n3 (fresh ring 0 4 n0 s0).events (fresh ring 1 4 n1 s1).events (fresh ring 2 4 n2 s2).events (fresh ring 3 4 n3 s3).events)
+    rw (are, is0, is1, is2, is3) (are_parts steps files holds n0 n1 n2 n3 (fresh ring_module 0 4 n0 s0).events (fresh ring_module 1 4 n1 s1).events (fresh ring_module 2 4 n2 s2).events (fresh ring_module 3 4 n3 s3).events)
 
 -- and they are the replays of the logs
-pub replays_are : (steps : List Step) (n0 n1 n2 n3 : State) (r0 r1 r2 r3 : Replaying)
-    → start ring 0 4 ≡ Some n0 → start ring 1 4 ≡ Some n1 → start ring 2 4 ≡ Some n2 → start ring 3 4 ≡ Some n3
+pub replays_are : (steps : List RunStep) (n0 n1 n2 n3 : State) (r0 r1 r2 r3 : Replaying)
+    → start ring_module 0 4 ≡ Some n0 → start ring_module 1 4 ≡ Some n1 → start ring_module 2 4 ≡ Some n2 → start ring_module 3 4 ≡ Some n3
     → r0 ≡ replay_of_process drill_group steps 0 n0 → r1 ≡ replay_of_process drill_group steps 1 n1 → r2 ≡ replay_of_process drill_group steps 2 n2 → r3 ≡ replay_of_process drill_group steps 3 n3
     → (items : List Replaying) → items ≡ r0 ∷ r1 ∷ r2 ∷ r3 ∷ [] → items ≡ replays_of_logs drill_group steps
 replays_are steps n0 n1 n2 n3 r0 r1 r2 r3 s0 s1 s2 s3 is0 is1 is2 is3 items are =

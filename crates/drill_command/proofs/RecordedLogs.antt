@@ -8,7 +8,7 @@ use Rattle.std.proofs.lemmas.Option.{same_Some}
 use Rattle.fri_outside.specs.Laws.{KeepsFiles}
 use Rattle.fri_outside.specs.Memory.{FilesInMemory}
 use Rattle.fri_outside.specs.Outside.{Folder}
-use Rattle.fri_outside.specs.Several.{Adds, AreApart, with_files}
+use Rattle.fri_outside.specs.Several.{AddsFiles, AreApartNames, with_files}
 use Rattle.wasm_types.specs.Modules.{Module}
 use Rattle.wasm_types.specs.Valid.{IsValid}
 use Rattle.wasm_validate.specs.Fault.{ExactFault}
@@ -18,19 +18,19 @@ use Rattle.guest_process.specs.State.{State}
 use Rattle.group_record.specs.declared.error.RecordError.{RecordError}
 use Rattle.group_record.specs.declared.error.RecordError.TheVariants as errors
 use Rattle.group_record.specs.declared.summary.Summary.{Summary}
-use Rattle.group_record.specs.Answer.{IsRecordedWhole, IsFull, RecordAnswers, first_states, first_states_from, group_of}
+use Rattle.group_record.specs.Answer.{IsRecordedWhole, IsFullLogOfRun, RecordAnswers, first_states, first_states_from, group_of}
 use Rattle.group_record.specs.Laws.{Agreement, Beginning, IsBegun}
-use Rattle.group_record.specs.Logs.{TellsEvents, log_name, logs}
+use Rattle.group_record.specs.Logs.{TellsEvents, log_name, logs_of_steps}
 use Rattle.group_record.specs.Files.{change}
-use Rattle.group_record.specs.Run.{Step, log_of, name_of_process, run, size}
+use Rattle.group_record.specs.Run.{RunStep, log_of, name_of_process, run, processes_in_group}
 use Rattle.command_run.specs.declared.refusal.Reason.TheVariants as reason
 use Rattle.command_run.specs.declared.refusal.StopCause.{StopCause}
 use Rattle.command_run.specs.declared.refusal.StopCause.TheVariants as refusal
 use Rattle.command_run.specs.Call.{RefusesFile}
-use Rattle.command_run.specs.OutcomeLaws.{same_Ok}
+use Rattle.command_run.specs.OutcomeLaws.{same_Ok_value}
 use Rattle.drill_command.specs.declared.recording.Recording.{Recording}
 use Rattle.drill_command.specs.Drill.{drill_group, drill_modules, drill_run, drill_states}
-use Rattle.drill_command.specs.Ring.{ring}
+use Rattle.drill_command.specs.Ring.{ring_module}
 use Rattle.drill_command.specs.Seen.{HoldLogs, HasAllRounds, StopsDrill}
 use Rattle.drill_command.proofs.ProcessesBegin.{all_begin}
 use Rattle.drill_command.proofs.RingIsValid.{ring_is_valid}
@@ -64,16 +64,16 @@ unlike a b differ same = differ (ap digit same)
 
 -- ---- the logs
 
-abbrev log_at : List Step → ℕ → File
+abbrev log_at : List RunStep → ℕ → File
 log_at steps p = (log_name (name_of_process drill_group p), log_of drill_group steps p)
 
-abbrev all_logs : List Step → List File
+abbrev all_logs : List RunStep → List File
 all_logs steps = log_at steps 0 ∷ log_at steps 1 ∷ log_at steps 2 ∷ log_at steps 3 ∷ []
 
-logs_are : (steps : List Step) → logs drill_group steps ++ [] ≡ all_logs steps
+logs_are : (steps : List RunStep) → logs_of_steps drill_group steps ++ [] ≡ all_logs steps
 logs_are steps = refl
 
-logs_apart : (steps : List Step) → AreApart (all_logs steps)
+logs_apart : (steps : List RunStep) → AreApartNames (all_logs steps)
 logs_apart steps = all_apart (all_logs steps) (
   (unlike (log_at steps 0) (log_at steps 1) (λ (e : 48 ≡ 49). omega (arith, e)), (unlike (log_at steps 0) (log_at steps 2) (λ (e : 48 ≡ 50). omega (arith, e)), (unlike (log_at steps 0) (log_at steps 3) (λ (e : 48 ≡ 51). omega (arith, e)), tt))),
   (
@@ -82,13 +82,13 @@ logs_apart steps = all_apart (all_logs steps) (
   ),
 )
 
-logs_held : KeepsFiles → (steps : List Step) (folder : Folder) → Some folder ≡ with_files (all_logs steps) (Some empty)
+logs_held : KeepsFiles → (steps : List RunStep) (folder : Folder) → Some folder ≡ with_files (all_logs steps) (Some empty)
     → (p : ℕ) → p < 4 → get folder (log_name (name_of_process drill_group p)) ≡ Some (log_of drill_group steps p)
 logs_held keeps steps folder is = at
   where
-    stands : Adds (all_logs steps) empty folder
+    stands : AddsFiles (all_logs steps) empty folder
     stands = let made = keeps.stands empty (all_logs steps) (logs_apart steps) in
-        subst (Adds (all_logs steps) empty) (sym (same_Some folder made.0 (is ∙ made.1))) made.2
+        subst (AddsFiles (all_logs steps) empty) (sym (same_Some folder made.0 (is ∙ made.1))) made.2
 
     at : (p : ℕ) → p < 4 → get folder (log_name (name_of_process drill_group p)) ≡ Some (log_of drill_group steps p)
     at zero below = stands.held 0 (log_at steps 0).0 (log_at steps 0).1 refl
@@ -102,7 +102,7 @@ logs_tell : ExactFault → Beginning → Agreement → (rounds : ℕ) → IsSche
 unfolding drill_run
 logs_tell exact beginning agreement rounds schedule p below =
     let valid = ring_is_valid exact in
-    let begun : IsBegun drill_group × All (IsInRange (size drill_group)) (drill_schedule rounds).items =
+    let begun : IsBegun drill_group × All (IsInRange (processes_in_group drill_group)) (drill_schedule rounds).items =
     beginning (drill_schedule rounds) drill_modules drill_states schedule.formed refl (each IsValid drill_modules (valid, (valid, (valid, (valid, tt))))) all_begin in
     agreement drill_group (drill_schedule rounds).items begun.0 begun.1 (drill_run rounds).steps ([], refl) p below
 
@@ -113,7 +113,7 @@ pub recorded : KeepsFiles → ExactFault → Beginning → Agreement → (rounds
     → HasAllRounds rounds (record { files = files; idle = summary.idle })
 unfolding drill_run
 recorded keeps exact beginning agreement rounds schedule ms are summary files (first, begun, done) =
-    let same : first ≡ drill_states = same_Ok (first_states_from 4 0 ms) first drill_states begun (ap (first_states_from 4 0) are ∙ all_begin) in
+    let same : first ≡ drill_states = same_Ok_value (first_states_from 4 0 ms) first drill_states begun (ap (first_states_from 4 0) are ∙ all_begin) in
     let is : IsRecordedWhole false drill_group (drill_run rounds) summary (change (Some empty) (Some files.folder)) =
     subst (λ (states : List State). IsRecordedWhole false (group_of (drill_schedule rounds) states) (run (group_of (drill_schedule rounds) states) (drill_schedule rounds).items) summary (change (Some empty) (Some files.folder))) same done in
     record {
@@ -149,10 +149,10 @@ unfolding drill_run
 full_stops rounds ms are item before after (first, begun, full) e refuses = stops e refuses
   where
     same : first ≡ drill_states
-    same = same_Ok (first_states_from 4 0 ms) first drill_states begun (ap (first_states_from 4 0) are ∙ all_begin)
+    same = same_Ok_value (first_states_from 4 0 ms) first drill_states begun (ap (first_states_from 4 0) are ∙ all_begin)
 
     is : (drill_run rounds).full ≡ Some item
-    is = (subst (λ (states : List State). IsFull (group_of (drill_schedule rounds) states) (run (group_of (drill_schedule rounds) states) (drill_schedule rounds).items) item before after) same full).full
+    is = (subst (λ (states : List State). IsFullLogOfRun (group_of (drill_schedule rounds) states) (run (group_of (drill_schedule rounds) states) (drill_schedule rounds).items) item before after) same full).full
 
     stops : (e : StopCause) → RefusesFile (codes "drill") (reason.LogFull item) e → StopsDrill rounds e
     stops (refusal.Refused file why) (named, because) = rw because (named, is)

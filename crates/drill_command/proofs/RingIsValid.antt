@@ -6,14 +6,14 @@ use Rattle.wasm_types.specs.Library.{importable}
 use Rattle.wasm_types.specs.Modules.{Module, module_of}
 use Rattle.wasm_types.specs.Valid.{IsValid}
 use Rattle.wasm_validate.specs.Fault.{ExactFault, fault}
-use Rattle.drill_command.specs.Ring.{ring}
+use Rattle.drill_command.specs.Ring.{ring_module}
 
-ring_without_fault : fault ring ≡ None
+ring_without_fault : fault ring_module ≡ None
 unfolding fault importable kind_named
 ring_without_fault = refl
 
-pub ring_is_valid : ExactFault → IsValid ring
-ring_is_valid law = (law.none ring).0 ring_without_fault
+pub ring_is_valid : ExactFault → IsValid ring_module
+ring_is_valid law = (law.none ring_module).0 ring_without_fault
 
-pub is_valid : ExactFault → (m : RustModule) → module_of m ≡ ring → IsValid (module_of m)
+pub is_valid : ExactFault → (m : RustModule) → module_of m ≡ ring_module → IsValid (module_of m)
 is_valid law m is = subst IsValid (sym is) (ring_is_valid law)

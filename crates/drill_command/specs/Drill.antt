@@ -8,24 +8,24 @@ use Rattle.call_log.specs.Head.{head_bytes}
 use Rattle.call_log.specs.Log.{Unread, unread_after_head}
 use Rattle.guest_process.specs.State.{State}
 use Rattle.proc_replay.specs.Replaying.{Replaying}
-use Rattle.group_state.specs.Place.{events}
+use Rattle.group_state.specs.Place.{events_of_replays}
 use Rattle.group_record.specs.Answer.{first_states_from}
-use Rattle.group_record.specs.Run.{GroupStart, Progress, Step, head_of_log, log_of, run}
+use Rattle.group_record.specs.Run.{GroupStart, RunProgress, RunStep, head_of_log, log_of, run}
 use Rattle.expression_text.specs.declared.expr.Agg.TheVariants.{Sum}
 use Rattle.expression_text.specs.declared.expr.NodeName.TheVariants.{Each}
 use Rattle.expression_text.specs.declared.expr.Width.TheVariants.{I64}
 use Rattle.watch_expr.specs.Expression.{Expression, Number, Over, Load}
 use Rattle.embed_cmds.specs.Running.{value_word}
-use Rattle.shell_points.specs.Firing.{fires, value_at_position}
+use Rattle.shell_points.specs.Firing.{watchpoint_fires, value_at_position}
 use Rattle.command_run.specs.declared.refusal.Reason.TheVariants as reason
 use Rattle.command_run.specs.Outcome.{CommandOutcome, CommandWork, refuses_at_once}
-use Rattle.drill_command.specs.Ring.{ring}
+use Rattle.drill_command.specs.Ring.{ring_module}
 
 -- ---- the recording
 
 -- four processes of the module `ring`
 abbrev pub drill_modules : List Module
-drill_modules = ring ∷ ring ∷ ring ∷ ring ∷ []
+drill_modules = ring_module ∷ ring_module ∷ ring_module ∷ ring_module ∷ []
 
 -- all of them begin
 unfoldable pub drill_states : List State
@@ -34,25 +34,25 @@ drill_states = unwrap_or (result_ok (first_states_from 4 0 drill_modules)) []
 abbrev pub drill_group : GroupStart
 drill_group = record { names = map (λ line. line.name) drill_processes; first = drill_states }
 
-unfoldable pub drill_run : ℕ → Progress
+unfoldable pub drill_run : ℕ → RunProgress
 drill_run rounds = run drill_group (drill_schedule rounds).items
 
 -- ---- the replays of its logs
 
 -- what a log has after its head
-abbrev pub left_of_log : GroupStart → List Step → ℕ → Unread
+abbrev pub left_of_log : GroupStart → List RunStep → ℕ → Unread
 left_of_log group steps p = unread_after_head (head_of_log group p) (drop (length (head_bytes (head_of_log group p))) (log_of group steps p))
 
-abbrev pub replay_of_process : GroupStart → List Step → ℕ → State → Replaying
+abbrev pub replay_of_process : GroupStart → List RunStep → ℕ → State → Replaying
 replay_of_process group steps p S = record { head = head_of_log group p; state = S; left = left_of_log group steps p }
 
 -- of the processes from p on, which begin so
-abbrev pub replays_from : GroupStart → List Step → ℕ → List State → List Replaying
+abbrev pub replays_from : GroupStart → List RunStep → ℕ → List State → List Replaying
 replays_from group steps p [] = []
 replays_from group steps p (S ∷ states) = replay_of_process group steps p S ∷ replays_from group steps (suc p) states
 
 -- of all logs that a group has after some steps
-abbrev pub replays_of_logs : GroupStart → List Step → List Replaying
+abbrev pub replays_of_logs : GroupStart → List RunStep → List Replaying
 replays_of_logs group steps = replays_from group steps 0 group.first
 
 -- ---- what is watched
@@ -63,7 +63,7 @@ drill_watch = Over Sum (Load Each I64 (Number 1024))
 
 -- at how many positions the watchpoint fires
 abbrev pub firing_count : List Replaying → ℕ
-firing_count start = count_by (fires start drill_watch) (range_with_len 1 (length (events start)))
+firing_count start = count_by (watchpoint_fires start drill_watch) (range_with_len 1 (length (events_of_replays start)))
 
 -- ---- what is printed
 
@@ -73,14 +73,14 @@ number_line word number = word ++ (decimal number ++ codes "\n")
 -- the rounds, the accepted events, the idle items, the firings, and the last value
 abbrev pub drill_text : ℕ → ℕ → List Replaying → List ℕ
 drill_text rounds idle start =
-    number_line (codes "drill ") rounds ++ (number_line (codes "events ") (length (events start))
+    number_line (codes "drill ") rounds ++ (number_line (codes "events ") (length (events_of_replays start))
     ++ (number_line (codes "idle ") idle ++ (number_line (codes "firings ") (firing_count start)
-    ++ (codes "last " ++ (value_word (value_at_position start drill_watch (length (events start))) ++ codes "\n")))))
+    ++ (codes "last " ++ (value_word (value_at_position start drill_watch (length (events_of_replays start))) ++ codes "\n")))))
 
-abbrev pub drill_work : ℕ → Progress → CommandWork
+abbrev pub drill_work : ℕ → RunProgress → CommandWork
 drill_work rounds done = record { text = drill_text rounds done.idle (replays_of_logs drill_group done.steps); writes = []; diverged = false }
 
-abbrev pub drill_by_room : ℕ → Progress → Option ℕ → CommandOutcome
+abbrev pub drill_by_room : ℕ → RunProgress → Option ℕ → CommandOutcome
 drill_by_room rounds done None = Ok (drill_work rounds done)
 drill_by_room rounds done (Some item) = Err (refuses_at_once (codes "drill") (reason.LogFull item))
 

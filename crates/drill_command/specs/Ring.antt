@@ -56,12 +56,12 @@ abbrev pub store_64 : Tree
 store_64 = Store 55 3 0
 
 -- the 8 bytes at 64 go to process 1
-abbrev pub send_first : Trees
-send_first = instruction_sequence (ConstI32 1 ∷ ConstI32 64 ∷ ConstI32 8 ∷ call_send ∷ DropTop ∷ [])
+abbrev pub ring_send_first : Trees
+ring_send_first = instruction_sequence (ConstI32 1 ∷ ConstI32 64 ∷ ConstI32 8 ∷ call_send ∷ DropTop ∷ [])
 
 -- 8 bytes come to 64, and the sender's number to 32; one is added there, and one at 1024; and they go to the next process
-abbrev pub hand_on : Trees
-hand_on = instruction_sequence (
+abbrev pub ring_hand_on : Trees
+ring_hand_on = instruction_sequence (
     ConstI32 64 ∷ ConstI32 8 ∷ ConstI32 32 ∷ call_recv ∷ DropTop
     ∷ ConstI32 64 ∷ ConstI32 64 ∷ load_64 ∷ ConstI64 1 ∷ add_64 ∷ store_64
     ∷ ConstI32 1024 ∷ ConstI32 1024 ∷ load_64 ∷ ConstI64 1 ∷ add_64 ∷ store_64
@@ -69,10 +69,10 @@ hand_on = instruction_sequence (
     ∷ Br 0 ∷ [])
 
 abbrev pub ring_body : Trees
-ring_body = instruction_sequence (call_me ∷ LocalSet 0 ∷ LocalGet 0 ∷ eqz ∷ If None send_first End ∷ Loop None hand_on ∷ [])
+ring_body = instruction_sequence (call_me ∷ LocalSet 0 ∷ LocalGet 0 ∷ eqz ∷ If None ring_send_first End ∷ Loop None ring_hand_on ∷ [])
 
-abbrev pub ring : Module
-ring = record {
+abbrev pub ring_module : Module
+ring_module = record {
   types = ring_types;
   imports = library_call (codes "me") 0 ∷ library_call (codes "send") 1 ∷ library_call (codes "recv") 1 ∷ [];
   funcs = record { type_index = 2; locals = (1, I32) ∷ []; body = ring_body } ∷ [];

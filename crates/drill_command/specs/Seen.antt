@@ -3,9 +3,9 @@ use Rattle.std.specs.Prelude.{◌≡◌, ℕ, ◌<◌, List, length, codes, stri
 use Rattle.std.specs.FinMap.{get}
 use Rattle.fri_outside.specs.Memory.{FilesInMemory}
 use Rattle.proc_replay.specs.Replaying.{Replaying}
-use Rattle.group_state.specs.Place.{events}
+use Rattle.group_state.specs.Place.{events_of_replays}
 use Rattle.group_record.specs.Logs.{TellsEvents, log_name}
-use Rattle.group_record.specs.Run.{Step, log_of, name_of_process}
+use Rattle.group_record.specs.Run.{RunStep, log_of, name_of_process}
 use Rattle.shell_points.specs.Firing.{value_at_position}
 use Rattle.command_run.specs.declared.refusal.Reason.{Reason}
 use Rattle.command_run.specs.declared.refusal.Reason.TheVariants as reason
@@ -18,7 +18,7 @@ use Rattle.drill_command.specs.Drill.{drill_group, drill_run, drill_text, drill_
 -- ---- the recording
 
 -- the files are the group's logs after some steps, and each tells the events of its process
-pub record HoldLogs (steps : List Step) (files : FilesInMemory) : Type 0 where
+pub record HoldLogs (steps : List RunStep) (files : FilesInMemory) : Type 0 where
   pub logs : (p : ℕ) → p < 4 → get files.folder (log_name (name_of_process drill_group p)) ≡ Some (log_of drill_group steps p)
   pub tells : (p : ℕ) → p < 4 → TellsEvents drill_group steps p
 
@@ -41,10 +41,10 @@ StopsDrill rounds other = ⊥
 -- ---- the walk
 
 -- all positions were walked
-pub record IsWatched (start : List Replaying) (w : Watched) : Type 0 where
-  pub walked : w.events ≡ length (events start)
+pub record IsWatchedDrill (start : List Replaying) (w : Watched) : Type 0 where
+  pub walked : w.events ≡ length (events_of_replays start)
   pub firings : w.firings ≡ firing_count start
-  pub last : w.last ≡ value_at_position start drill_watch (length (events start))
+  pub last : w.last ≡ value_at_position start drill_watch (length (events_of_replays start))
 
 -- ---- the whole
 

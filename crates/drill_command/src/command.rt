@@ -2,7 +2,7 @@
 ghost use Rattle.std.specs.Prelude.{◌≤◌, [], false, MatchResult, Option, Some};
 ghost use Rattle.fri_outside.specs.Outside.{Counts, Folder};
 ghost use Rattle.schedule_text.specs.Limits.{most_rounds};
-ghost use Rattle.command_run.specs.Run.{Performed, expectation, file_state};
+ghost use Rattle.command_run.specs.Run.{PerformedCommand, expectation, file_state};
 ghost use Rattle.drill_command.specs.Drill.{drill_outcome};
 ghost use Rattle.drill_command.specs.Seen.{StopsDrill, TellsDrill};
 
@@ -36,7 +36,7 @@ pub fn drill_rounds(alloc: Global, rounds: u32) -> Result<WorkText, StopCause>
     requires some { 1 ≤ rounds }
     requires few { rounds ≤ most_rounds }
     ensures { (told : Option Folder) (counts : Counts)
-        → Performed (expectation (Some (drill_outcome rounds)) (λ folder. []) false) (file_state told counts) (file_state told counts) result }
+        → PerformedCommand (expectation (Some (drill_outcome rounds)) (λ folder. []) false) (file_state told counts) (file_state told counts) result }
 {
     match perform(alloc, rounds) {
         Ok(text) => Ok(WorkText::Done(text)),

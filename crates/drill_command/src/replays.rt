@@ -4,10 +4,10 @@ ghost use Rattle.wasm_types.specs.Modules.{module_of};
 ghost use Rattle.guest_process.specs.Start.{start};
 ghost use Rattle.guest_process.specs.State.{State};
 ghost use Rattle.group_record.specs.Logs.{log_name};
-ghost use Rattle.group_record.specs.Run.{Step, name_of_process};
+ghost use Rattle.group_record.specs.Run.{RunStep, name_of_process};
 ghost use Rattle.group_state.specs.Place.{AreParts};
 ghost use Rattle.drill_command.specs.Drill.{drill_group, replay_of_process, replays_of_logs};
-ghost use Rattle.drill_command.specs.Ring.{ring};
+ghost use Rattle.drill_command.specs.Ring.{ring_module};
 ghost use Rattle.drill_command.specs.Seen.{HoldLogs};
 
 use call_log::LogView;
@@ -18,7 +18,7 @@ use std::alloc::{AllocError, Global};
 use wasm_step::StartError;
 use wasm_types::ValidModule;
 
-const COUNT: u32 = 4;
+const RING_PROCESSES: u32 = 4;
 
 // The replay of process p, whose log has this name.
 fn begin<'m, 'a>(
@@ -28,12 +28,12 @@ fn begin<'m, 'a>(
     p: u32,
     log: &str,
 ) -> Result<Replayer<'m, 'a>, AllocError>
-    requires module { module_of «module».now ≡ ring }
+    requires module { module_of «module».now ≡ ring_module }
     requires process { p < 4 }
     requires log { log.now ≡ log_name (name_of_process drill_group p) }
-    requires held { (steps : List Step) × HoldLogs steps files.now }
-    ensures { IfOk result (λ r. (S : State) × (start ring p 4 ≡ Some S)
-        × ((steps : List Step) → HoldLogs steps files.now → r ≡ replay_of_process drill_group steps p S)) }
+    requires held { (steps : List RunStep) × HoldLogs steps files.now }
+    ensures { IfOk result (λ r. (S : State) × (start ring_module p 4 ≡ Some S)
+        × ((steps : List RunStep) → HoldLogs steps files.now → r ≡ replay_of_process drill_group steps p S)) }
 {
     call_log::laws::exact_logs();
     guest_process::laws::counting();
@@ -43,7 +43,7 @@ fn begin<'m, 'a>(
     let Ok(log) = LogView::begin(bytes) else {
         unreachable!();
     };
-    match Process::start(alloc, module, p, COUNT) {
+    match Process::start(alloc, module, p, RING_PROCESSES) {
         Ok(process) => Ok(Replayer::begin(alloc, process, log)?),
         Err(StartError::BadSegment) => unreachable!(),
         Err(StartError::NoMemory) => Err(AllocError),
@@ -56,10 +56,10 @@ pub(crate) fn begin_all<'m, 'a>(
     module: &'m ValidModule,
     files: &'a MemFiles,
 ) -> Result<Vec<Replayer<'m, 'a>>, AllocError>
-    requires module { module_of «module».now ≡ ring }
-    requires held { (steps : List Step) × HoldLogs steps files.now }
+    requires module { module_of «module».now ≡ ring_module }
+    requires held { (steps : List RunStep) × HoldLogs steps files.now }
     ensures parts { IfOk result (λ parts. AreParts parts.items) }
-    ensures replays { IfOk result (λ parts. (steps : List Step) → HoldLogs steps files.now → parts.items ≡ replays_of_logs drill_group steps) }
+    ensures replays { IfOk result (λ parts. (steps : List RunStep) → HoldLogs steps files.now → parts.items ≡ replays_of_logs drill_group steps) }
 {
     guest_process::laws::counting();
     let n0 = begin(alloc, module, files, 0, "n0.log")?;

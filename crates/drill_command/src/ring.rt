@@ -3,7 +3,7 @@ ghost use Rattle.std.specs.Prelude.{◌≡◌, [], ◌∷◌, IfOk, None, map};
 ghost use Rattle.wasm_types.specs.Code.{ConstI64, End, If, Load, Loop, Op, Store, tree, trees};
 ghost use Rattle.wasm_types.specs.Modules.{func, func_type, import_of, module_of};
 ghost use Rattle.drill_command.specs.Drill.{drill_modules};
-ghost use Rattle.drill_command.specs.Ring.{add_32, add_64, and_32, eqz, hand_on, library_call, load_64, ring, ring_body, ring_types, send_first, store_64};
+ghost use Rattle.drill_command.specs.Ring.{add_32, add_64, and_32, eqz, ring_hand_on, library_call, load_64, ring_module, ring_body, ring_types, ring_send_first, store_64};
 
 use shared_module::SharedModule;
 use std::alloc::{AllocError, Global};
@@ -77,8 +77,8 @@ fn again(body: Vec<Instr>) -> Instr
     Instr::Loop(None, body)
 }
 
-fn send_first(alloc: Global) -> Result<Vec<Instr>, AllocError>
-    ensures { IfOk result (λ code. trees code.items ≡ send_first) }
+fn ring_send_first(alloc: Global) -> Result<Vec<Instr>, AllocError>
+    ensures { IfOk result (λ code. trees code.items ≡ ring_send_first) }
 {
     Ok(vec![in alloc;
         Instr::ConstI32(1),
@@ -89,8 +89,8 @@ fn send_first(alloc: Global) -> Result<Vec<Instr>, AllocError>
     ]?)
 }
 
-fn hand_on(alloc: Global) -> Result<Vec<Instr>, AllocError>
-    ensures { IfOk result (λ code. trees code.items ≡ hand_on) }
+fn ring_hand_on(alloc: Global) -> Result<Vec<Instr>, AllocError>
+    ensures { IfOk result (λ code. trees code.items ≡ ring_hand_on) }
 {
     Ok(vec![in alloc;
         Instr::ConstI32(64),
@@ -126,8 +126,8 @@ fn hand_on(alloc: Global) -> Result<Vec<Instr>, AllocError>
 fn body(alloc: Global) -> Result<Vec<Instr>, AllocError>
     ensures { IfOk result (λ code. trees code.items ≡ ring_body) }
 {
-    let first = if_not_zero(alloc, send_first(alloc)?);
-    let rounds = again(hand_on(alloc)?);
+    let first = if_not_zero(alloc, ring_send_first(alloc)?);
+    let rounds = again(ring_hand_on(alloc)?);
     Ok(vec![in alloc;
         Instr::CallFunc(ME),
         Instr::LocalSet(0),
@@ -167,7 +167,7 @@ fn library_call(alloc: Global, name: &[u8], type_index: u32) -> Result<Import, A
 }
 
 fn imports(alloc: Global) -> Result<Vec<Import>, AllocError>
-    ensures { IfOk result (λ imports. map import_of imports.items ≡ ring.imports) }
+    ensures { IfOk result (λ imports. map import_of imports.items ≡ ring_module.imports) }
 {
     let me = library_call(alloc, b"me", 0)?;
     let send = library_call(alloc, b"send", 1)?;
@@ -176,7 +176,7 @@ fn imports(alloc: Global) -> Result<Vec<Import>, AllocError>
 }
 
 fn start(alloc: Global) -> Result<Func, AllocError>
-    ensures { IfOk result (λ f. map func (f ∷ []) ≡ ring.funcs) }
+    ensures { IfOk result (λ f. map func (f ∷ []) ≡ ring_module.funcs) }
 {
     Ok(Func {
         type_index: 2,
@@ -185,8 +185,8 @@ fn start(alloc: Global) -> Result<Func, AllocError>
     })
 }
 
-fn ring(alloc: Global) -> Result<Module, AllocError>
-    ensures { IfOk result (λ m. module_of m ≡ ring) }
+fn ring_module(alloc: Global) -> Result<Module, AllocError>
+    ensures { IfOk result (λ m. module_of m ≡ ring_module) }
 {
     let page = Limits {
         min: 1,
@@ -211,10 +211,10 @@ fn ring(alloc: Global) -> Result<Module, AllocError>
 }
 
 fn valid_ring(alloc: Global) -> Result<SharedModule, AllocError>
-    ensures { IfOk result (λ m. module_of m ≡ ring) }
+    ensures { IfOk result (λ m. module_of m ≡ ring_module) }
 {
     wasm_validate::laws::exact_fault();
-    SharedModule::new(alloc, claim(alloc, ring(alloc)?)?)
+    SharedModule::new(alloc, claim(alloc, ring_module(alloc)?)?)
 }
 
 /// The modules of the group, which are one.

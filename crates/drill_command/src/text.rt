@@ -2,7 +2,7 @@
 ghost use Rattle.std.specs.Prelude.{◌≡◌, ◌++◌, List, IfOk, OnOk};
 ghost use Rattle.proc_replay.specs.Replaying.{Replaying};
 ghost use Rattle.drill_command.specs.Drill.{drill_text, number_line};
-ghost use Rattle.drill_command.specs.Seen.{IsWatched};
+ghost use Rattle.drill_command.specs.Seen.{IsWatchedDrill};
 
 use crate::watching::Watched;
 use embed_cmds::push_value;
@@ -24,7 +24,7 @@ pub(crate) fn print(
     idle: u64,
     watched: &Watched,
 ) -> Result<Text, AllocError>
-    ensures { IfOk result (λ text. (start : List Replaying) → IsWatched start watched.now → text ≡ drill_text rounds idle start) }
+    ensures { IfOk result (λ text. (start : List Replaying) → IsWatchedDrill start watched.now → text ≡ drill_text rounds idle start) }
 {
     let mut text = Text::new(alloc);
     push_line(&mut text, "drill ", u64::from(rounds))?;

@@ -3,7 +3,7 @@ ghost use Rattle.std.specs.Prelude.{◌≡◌, IfOk};
 ghost use Rattle.watch_expr.specs.Expression.{expression_of};
 ghost use Rattle.shell_points.specs.Firing.{is_unchanged};
 ghost use Rattle.drill_command.specs.Drill.{drill_watch};
-ghost use Rattle.drill_command.specs.Seen.{IsWatched};
+ghost use Rattle.drill_command.specs.Seen.{IsWatchedDrill};
 
 use group_state::Group;
 use std::alloc::{AllocError, Global};
@@ -54,7 +54,7 @@ fn is_same_value(before: Option<i64>, now: Option<i64>) -> bool
 /// Walks from position 0 to the last.
 pub(crate) fn watch(alloc: Global, group: Group<'_, '_>) -> Result<Watched, AllocError>
     requires { group.at ≡ 0 }
-    ensures { IfOk result (IsWatched group.entry.start) }
+    ensures { IfOk result (IsWatchedDrill group.entry.start) }
 {
     let watchpoint = watchpoint(alloc)?;
     let mut here = group;

@@ -6,16 +6,16 @@ use Rattle.watch_expr.specs.Faulty.{is_nested, lacks_node}
 use Rattle.watch_expr.specs.Expression.{expression_of}
 use Rattle.embed_cmds.specs.declared.program.Stmt.{Stmt}
 use Rattle.embed_cmds.specs.declared.program.Stmt.TheVariants as stmt
-use Rattle.embed_cmds.specs.Faulty.{lacks, lacks_one, nests, nests_one}
+use Rattle.embed_cmds.specs.Faulty.{lacks_names, lacks_one, nests_aggregates, nests_one}
 use Rattle.embed_cmds.specs.Tree.{statement_of, statements}
 use Rattle.embed_cmds.specs.TreeLaws.{statement_of-if}
 
 -- an aggregate is in an aggregate, in the value or inside
-pub nests_if : (s : Stmt) (x : Expr) (on_true on_false : Vec Stmt) (all value inside first second : Bool) → s ≡ stmt.If x on_true on_false → all ≡ (value || inside) → value ≡ is_nested (expression_of x) → inside ≡ (first || second) → first ≡ nests (statements on_true.items) → second ≡ nests (statements on_false.items) → all ≡ nests_one (statement_of s)
+pub nests_if : (s : Stmt) (x : Expr) (on_true on_false : Vec Stmt) (all value inside first second : Bool) → s ≡ stmt.If x on_true on_false → all ≡ (value || inside) → value ≡ is_nested (expression_of x) → inside ≡ (first || second) → first ≡ nests_aggregates (statements on_true.items) → second ≡ nests_aggregates (statements on_false.items) → all ≡ nests_one (statement_of s)
 nests_if s x on_true on_false all value inside first second is a v i f g =
     a ∙ rw (v, i, f, g) (sym (ap (λ (s : Stmt). nests_one (statement_of s)) is ∙ ap nests_one (statement_of-if x on_true on_false)))
 
 -- a name is that of no node, in the value or inside
-pub lacks_if : (s : Stmt) (x : Expr) (on_true on_false : Vec Stmt) (all value inside first second : Bool) → s ≡ stmt.If x on_true on_false → all ≡ (value || inside) → value ≡ lacks_node false (expression_of x) → inside ≡ (first || second) → first ≡ lacks (statements on_true.items) → second ≡ lacks (statements on_false.items) → all ≡ lacks_one (statement_of s)
+pub lacks_if : (s : Stmt) (x : Expr) (on_true on_false : Vec Stmt) (all value inside first second : Bool) → s ≡ stmt.If x on_true on_false → all ≡ (value || inside) → value ≡ lacks_node false (expression_of x) → inside ≡ (first || second) → first ≡ lacks_names (statements on_true.items) → second ≡ lacks_names (statements on_false.items) → all ≡ lacks_one (statement_of s)
 lacks_if s x on_true on_false all value inside first second is a v i f g =
     a ∙ rw (v, i, f, g) (sym (ap (λ (s : Stmt). lacks_one (statement_of s)) is ∙ ap lacks_one (statement_of-if x on_true on_false)))

@@ -5,7 +5,7 @@ use Rattle.watch_expr.specs.Expression.{expression_of}
 use Rattle.watch_expr.specs.View.{Node}
 use Rattle.expression_text.specs.declared.expr.Expr.{Expr}
 use Rattle.embed_cmds.proofs.MentionOrder.{mention_all_append}
-use Rattle.embed_cmds.specs.Faulty.{set_by, set_names}
+use Rattle.embed_cmds.specs.Faulty.{set_by_statement, set_names}
 use Rattle.embed_cmds.specs.Running.{ProgramState, after_statement, after_statements, is_nonzero, value_in}
 use Rattle.embed_cmds.specs.Tree.{If, Statement, statement_of, statements}
 use Rattle.embed_cmds.specs.TreeLaws.{statement_of-if}
@@ -32,9 +32,9 @@ module _ (s : Stmt) (x : Expr) (a b : Vec Stmt) (is : s ≡ stmt.If x a b) where
     runs_second xs same test = ap (λ (ys : List Stmt). after_statements nodes r (statements ys)) same ∙ sym (chosen false test)
 
   -- what both parts set is mentioned, the first part's in front
-  pub mentions_both : (vs between : List Variable) (xs ys : List Stmt) → xs ≡ a.items → ys ≡ b.items → between ≡ mention_all vs (set_names (statements xs)) → mention_all between (set_names (statements ys)) ≡ mention_all vs (set_by (statement_of s))
+  pub mentions_both : (vs between : List Variable) (xs ys : List Stmt) → xs ≡ a.items → ys ≡ b.items → between ≡ mention_all vs (set_names (statements xs)) → mention_all between (set_names (statements ys)) ≡ mention_all vs (set_by_statement (statement_of s))
   mentions_both vs between xs ys first second first_done =
       ap (λ (zs : List Stmt). mention_all between (set_names (statements zs))) second
       ∙ ap (λ (us : List Variable). mention_all us (set_names (statements b.items))) (first_done ∙ ap (λ (zs : List Stmt). mention_all vs (set_names (statements zs))) first)
       ∙ sym (mention_all_append vs (set_names (statements a.items)) (set_names (statements b.items)))
-      ∙ sym (ap (λ (t : Statement). mention_all vs (set_by t)) choice_is)
+      ∙ sym (ap (λ (t : Statement). mention_all vs (set_by_statement t)) choice_is)

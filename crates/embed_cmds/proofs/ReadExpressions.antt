@@ -4,23 +4,23 @@ use Rattle.std.proofs.lemmas.List.{drop-drop}
 use Rattle.expression_text.specs.declared.error.ExprError.{ExprError}
 use Rattle.expression_text.specs.declared.error.ExprError.TheVariants.{Syntax, NoNode, TooDeep, Nested, NoMemory}
 use Rattle.expression_text.specs.declared.expr.Expr.{Expr}
-use Rattle.watch_expr.specs.Computed.{expression_spelled, viable}
+use Rattle.watch_expr.specs.Computed.{expression_spelled, viable_tokens}
 use Rattle.watch_expr.specs.Grammar.{IsExpr, ParsedExpr, TakesExpr}
 use Rattle.watch_expr.specs.Laws.{ExactReading}
-use Rattle.watch_expr.specs.Lexing.{Lexed, texts}
+use Rattle.watch_expr.specs.Lexing.{LexedLine, token_texts}
 use Rattle.watch_expr.specs.Expression.{Expression, expression_of}
-use Rattle.embed_cmds.specs.Parsing.{ReadAs}
-use Rattle.embed_cmds.specs.Reading.{Left, expression, expression_in, expression_or}
+use Rattle.embed_cmds.specs.Parsing.{ReadAsTokens}
+use Rattle.embed_cmds.specs.Reading.{LeftTokens, expression, expression_in, expression_or}
 use Rattle.embed_cmds.proofs.ReadTokens.{column_here}
 
-past : (ts : Left) (from next : ℕ) → from ≤ next → drop (next - from) (drop from ts) ≡ drop next ts
+past : (ts : LeftTokens) (from next : ℕ) → from ≤ next → drop (next - from) (drop from ts) ≡ drop next ts
 past ts from next le = let e : from + (next - from) ≡ next = omega arith in drop-drop (next - from) from ts ∙ ap (λ (m : ℕ). drop m ts) e
 
 -- as many tokens as begin an expression, where they are one and where they are none
 counted : ExactReading → (names ts : List (List ℕ)) (from next : ℕ) (o : Option Expression) → from ≤ next → TakesExpr names (drop from ts) (next - from) → expression_spelled names (take (next - from) (drop from ts)) ≡ o → expression names (drop from ts) ≡ expression_or (drop next ts) o
 counted law names ts from next o le takes e =
-    let count : viable names [] (drop from ts) ≡ next - from = law.viable names (drop from ts) (next - from) takes in
-    ap (expression_in names (drop from ts)) count ∙ (ap (expression_or (drop (next - from) (drop from ts))) e ∙ ap (λ (left : Left). expression_or left o) (past ts from next le))
+    let count : viable_tokens names [] (drop from ts) ≡ next - from = law.viable names (drop from ts) (next - from) takes in
+    ap (expression_in names (drop from ts)) count ∙ (ap (expression_or (drop (next - from) (drop from ts))) e ∙ ap (λ (left : LeftTokens). expression_or left o) (past ts from next le))
 
 -- an expression was read
 read_whole : ExactReading → (names ts : List (List ℕ)) (from next : ℕ) (x : Expression) → from ≤ next → TakesExpr names (drop from ts) (next - from) → IsExpr names (take (next - from) (drop from ts)) x → expression names (drop from ts) ≡ Ok (x, drop next ts)
@@ -32,9 +32,9 @@ never law names ts none None e = refl
 never law names ts none (Some x) e = absurd (none x ((law.expressions names ts x).0 e))
 
 -- none was read
-refused_as : ExactReading → (names : List (List ℕ)) (line : Lexed) (from : ℕ) (e : ExprError) → ParsedExpr names line from (Err e) → ReadAs expression_of line (expression names (drop from (texts line))) (Err e)
+refused_as : ExactReading → (names : List (List ℕ)) (line : LexedLine) (from : ℕ) (e : ExprError) → ParsedExpr names line from (Err e) → ReadAsTokens expression_of line (expression names (drop from (token_texts line))) (Err e)
 refused_as law names line from (Syntax column) h =
-    let ts = texts line in
+    let ts = token_texts line in
     let none : expression_spelled names (take (h.0 - from) (drop from ts)) ≡ None = never law names (take (h.0 - from) (drop from ts)) h.4 _ refl in
     (drop h.0 ts, counted law names ts from h.0 None h.2 h.3 none, h.1 ∙ sym (column_here line h.0))
 refused_as law names line from NoMemory h = tt
@@ -43,11 +43,11 @@ refused_as law names line from TooDeep h = h
 refused_as law names line from Nested h = h
 
 -- an expression was read, or none
-pub parsed_as : ExactReading → (names : List (List ℕ)) (line : Lexed) (from : ℕ) (r : Result (Expr × ℕ) ExprError) → ParsedExpr names line from r → ReadAs expression_of line (expression names (drop from (texts line))) r
-parsed_as law names line from (Ok r) h = read_whole law names (texts line) from r.1 (expression_of r.0) h.0 h.1 h.2
+pub parsed_as : ExactReading → (names : List (List ℕ)) (line : LexedLine) (from : ℕ) (r : Result (Expr × ℕ) ExprError) → ParsedExpr names line from r → ReadAsTokens expression_of line (expression names (drop from (token_texts line))) r
+parsed_as law names line from (Ok r) h = read_whole law names (token_texts line) from r.1 (expression_of r.0) h.0 h.1 h.2
 parsed_as law names line from (Err e) h = refused_as law names line from e h
 
 -- reading goes on and never back
-pub parsed_onward : (names : List (List ℕ)) (line : Lexed) (from : ℕ) (r : Result (Expr × ℕ) ExprError) → ParsedExpr names line from r → IfOk r (λ r. from ≤ r.1)
+pub parsed_onward : (names : List (List ℕ)) (line : LexedLine) (from : ℕ) (r : Result (Expr × ℕ) ExprError) → ParsedExpr names line from r → IfOk r (λ r. from ≤ r.1)
 parsed_onward names line from (Ok r) h = h.0
 parsed_onward names line from (Err e) h = tt

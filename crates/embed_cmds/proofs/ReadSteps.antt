@@ -5,21 +5,21 @@ use Rattle.std.specs.Option.{option_and_then}
 use Rattle.expression_text.specs.declared.error.ExprError.{ExprError}
 use Rattle.expression_text.specs.declared.error.ExprError.TheVariants.{Syntax, NoNode, TooDeep, Nested, NoMemory}
 use Rattle.watch_expr.specs.Computed.{expression_spelled}
-use Rattle.watch_expr.specs.Lexing.{Lexed, texts}
+use Rattle.watch_expr.specs.Lexing.{LexedLine, token_texts}
 use Rattle.watch_expr.specs.Expression.{Expression, expression_of}
 use Rattle.expression_text.specs.declared.expr.Expr.{Expr}
 use Rattle.std.specs.Result.{is_ok}
 use Rattle.embed_cmds.specs.declared.program.Stmt.TheVariants as stmt
 use Rattle.embed_cmds.specs.TreeLaws.{statement_of-if}
 use Rattle.embed_cmds.specs.declared.program.Stmt.{Stmt}
-use Rattle.embed_cmds.specs.Parsing.{ReadAs}
-use Rattle.embed_cmds.specs.Reading.{Left, Read, after_token, else_part, expression, if_statement, item, part, program_in, separated, statement, string_of, string_or_value, then_reads}
+use Rattle.embed_cmds.specs.Parsing.{ReadAsTokens}
+use Rattle.embed_cmds.specs.Reading.{LeftTokens, ReadOfTokens, after_token, else_part, expression, if_statement, item, braced_part, program_in, separated_items, statement, string_of, string_or_value, then_reads}
 use Rattle.embed_cmds.specs.Tree.{SaidItem, Words, Value, Statement, Statements, End, Then, sequence, statement_of, statements}
 use Rattle.embed_cmds.proofs.ReadTokens.{at_end, at_token, drop_one, first_is}
 
 -- where a first step is refused, so is the whole
-pub refused_first : {A B C D : Type 0} (f : A → B) (g : C → D) (line : Lexed) (wanted : Read B) (next : B → Left → Read D) (whole : Read D) (e : ExprError) → whole ≡ then_reads wanted next → ReadAs f line wanted (Err e) → ReadAs g line whole (Err e)
-refused_first f g line wanted next whole (Syntax column) is h = (h.0, is ∙ ap (λ (r : Read _). then_reads r next) h.1, h.2)
+pub refused_first : {A B C D : Type 0} (f : A → B) (g : C → D) (line : LexedLine) (wanted : ReadOfTokens B) (next : B → LeftTokens → ReadOfTokens D) (whole : ReadOfTokens D) (e : ExprError) → whole ≡ then_reads wanted next → ReadAsTokens f line wanted (Err e) → ReadAsTokens g line whole (Err e)
+refused_first f g line wanted next whole (Syntax column) is h = (h.0, is ∙ ap (λ (r : ReadOfTokens _). then_reads r next) h.1, h.2)
 refused_first f g line wanted next whole NoMemory is h = tt
 refused_first f g line wanted next whole NoNode is h = h
 refused_first f g line wanted next whole TooDeep is h = h
@@ -34,7 +34,7 @@ pub item_words : (names ts : List (List ℕ)) (n : ℕ) (body : List ℕ) → op
 item_words names ts n body h = words_at names ts n body (slice_get ts n) refl h
 
 -- the value of what was read
-abbrev pub as_value : Expression → Left → Read SaidItem
+abbrev pub as_value : Expression → LeftTokens → ReadOfTokens SaidItem
 as_value x left = Ok (Value x, left)
 
 nothing_read : (names : List (List ℕ)) → then_reads (expression names []) as_value ≡ Err []
@@ -55,7 +55,7 @@ sequence_is [] = refl
 sequence_is (first ∷ rest) = ap (Then (statement_of first)) (sequence_is rest)
 
 -- a whole of statements
-abbrev pub as_sequence : List Statement → Left → Read Statements
+abbrev pub as_sequence : List Statement → LeftTokens → ReadOfTokens Statements
 as_sequence list left = Ok (sequence list, left)
 
 -- a program in no level
@@ -63,32 +63,32 @@ pub no_levels : (levels : ℕ) (names ts : List (List ℕ)) → levels ≡ 0 →
 no_levels levels names ts none = ap (λ (n : ℕ). program_in n names ts) none
 
 -- a program in one level or more
-pub program_at : (levels : ℕ) (names ts : List (List ℕ)) → (levels ≡ 0 → ⊥) → program_in levels names ts ≡ then_reads (separated (codes ";") (statement (program_in (levels - 1) names) names) ts) as_sequence
+pub program_at : (levels : ℕ) (names ts : List (List ℕ)) → (levels ≡ 0 → ⊥) → program_in levels names ts ≡ then_reads (separated_items (codes ";") (statement (program_in (levels - 1) names) names) ts) as_sequence
 program_at zero names ts some = absurd (some refl)
 program_at (suc levels) names ts some =
     let e : levels ≡ suc levels - 1 = omega arith in
-    ap (λ (n : ℕ). then_reads (separated (codes ";") (statement (program_in n names) names) ts) as_sequence) e
+    ap (λ (n : ℕ). then_reads (separated_items (codes ";") (statement (program_in n names) names) ts) as_sequence) e
 
 -- statements were read, or refused
-pub sequence_as : (line : Lexed) (wanted : Read (List Statement)) (whole : Read Statements) (r : Result (Vec Stmt × ℕ) ExprError) → whole ≡ then_reads wanted as_sequence → ReadAs (λ (v : Vec Stmt). map {A = Stmt} statement_of v.items) line wanted r → ReadAs (λ (v : Vec Stmt). statements v.items) line whole r
+pub sequence_as : (line : LexedLine) (wanted : ReadOfTokens (List Statement)) (whole : ReadOfTokens Statements) (r : Result (Vec Stmt × ℕ) ExprError) → whole ≡ then_reads wanted as_sequence → ReadAsTokens (λ (v : Vec Stmt). map {A = Stmt} statement_of v.items) line wanted r → ReadAsTokens (λ (v : Vec Stmt). statements v.items) line whole r
 sequence_as line wanted whole (Ok r) is h =
-    is ∙ (ap (λ (r : Read (List Statement)). then_reads r as_sequence) h ∙ ap (λ (s : Statements). Ok (s, drop r.1 (texts line))) (sequence_is r.0.items))
+    is ∙ (ap (λ (r : ReadOfTokens (List Statement)). then_reads r as_sequence) h ∙ ap (λ (s : Statements). Ok (s, drop r.1 (token_texts line))) (sequence_is r.0.items))
 sequence_as line wanted whole (Err e) is h =
     refused_first (λ (v : Vec Stmt). map {A = Stmt} statement_of v.items) (λ (v : Vec Stmt). statements v.items) line wanted as_sequence whole e is h
 
 -- a choice was read
-pub choice_read : (inside : Left → Read Statements) (names : List (List ℕ)) (ts behind_test behind_true left : Left) (x : Expr) (on_true on_false : Vec Stmt) → expression names ts ≡ Ok (expression_of x, behind_test) → part inside behind_test ≡ Ok (statements on_true.items, behind_true) → else_part inside behind_true ≡ Ok (statements on_false.items, left) → if_statement inside names ts ≡ Ok (statement_of (stmt.If x on_true on_false), left)
+pub choice_read : (inside : LeftTokens → ReadOfTokens Statements) (names : List (List ℕ)) (ts behind_test behind_true left : LeftTokens) (x : Expr) (on_true on_false : Vec Stmt) → expression names ts ≡ Ok (expression_of x, behind_test) → braced_part inside behind_test ≡ Ok (statements on_true.items, behind_true) → else_part inside behind_true ≡ Ok (statements on_false.items, left) → if_statement inside names ts ≡ Ok (statement_of (stmt.If x on_true on_false), left)
 choice_read inside names ts behind_test behind_true left x on_true on_false test first second =
     rw (test, first, second) (ap (λ (s : Statement). Ok (s, left)) (sym (statement_of-if x on_true on_false)))
 
 -- a part where a test holds, and else none
-abbrev part_if : Bool → Read Statements → Left → Read Statements
+abbrev part_if : Bool → ReadOfTokens Statements → LeftTokens → ReadOfTokens Statements
 part_if b read left = if b then read else Ok (End, left)
 
-else_there : (inside : Left → Read Statements) (left : Left) → is_ok (after_token (codes "else") left) ≡ true → else_part inside left ≡ part inside (drop 1 left)
+else_there : (inside : LeftTokens → ReadOfTokens Statements) (left : LeftTokens) → is_ok (after_token (codes "else") left) ≡ true → else_part inside left ≡ braced_part inside (drop 1 left)
 else_there inside [] e = absurd (cc)
-else_there inside (t ∷ left) e = ap (λ (b : Bool). part_if b (part inside left) (t ∷ left)) (sym (first_is (codes "else") t left) ∙ e)
+else_there inside (t ∷ left) e = ap (λ (b : Bool). part_if b (braced_part inside left) (t ∷ left)) (sym (first_is (codes "else") t left) ∙ e)
 
 -- a second part after `else`
-pub else_is : (inside : Left → Read Statements) (ts : Left) (n : ℕ) → is_ok (after_token (codes "else") (drop n ts)) ≡ true → else_part inside (drop n ts) ≡ part inside (drop (n + 1) ts)
-else_is inside ts n e = else_there inside (drop n ts) e ∙ ap (part inside) (drop_one ts n)
+pub else_is : (inside : LeftTokens → ReadOfTokens Statements) (ts : LeftTokens) (n : ℕ) → is_ok (after_token (codes "else") (drop n ts)) ≡ true → else_part inside (drop n ts) ≡ braced_part inside (drop (n + 1) ts)
+else_is inside ts n e = else_there inside (drop n ts) e ∙ ap (braced_part inside) (drop_one ts n)

@@ -6,20 +6,20 @@ use Rattle.watch_expr.specs.Expression.{Expression}
 use Rattle.embed_cmds.specs.Tree.{SaidItem, Words, Value, Statement, Set, Say, Stop, If, Statements, End, Then}
 
 -- with these names of nodes, the tokens spell the item: a string in its quotes, or an expression
-pub data IsItem (names : List (List ℕ)) : List (List ℕ) → SaidItem → Type 0 where
-  words : (body : List ℕ) → IsItem names ((34 ∷ (body ++ 34 ∷ [])) ∷ []) (Words body)
-  value : {a : List (List ℕ)} {x : Expression} → IsExpr names a x → IsItem names a (Value x)
+pub data IsSayItem (names : List (List ℕ)) : List (List ℕ) → SaidItem → Type 0 where
+  words : (body : List ℕ) → IsSayItem names ((34 ∷ (body ++ 34 ∷ [])) ∷ []) (Words body)
+  value : {a : List (List ℕ)} {x : Expression} → IsExpr names a x → IsSayItem names a (Value x)
 
 -- items with commas between them
-pub data IsItems (names : List (List ℕ)) : List (List ℕ) → List SaidItem → Type 0 where
-  last : {a : List (List ℕ)} {i : SaidItem} → IsItem names a i → IsItems names a (i ∷ [])
-  more : {a b : List (List ℕ)} {i : SaidItem} {is : List SaidItem} → IsItem names a i → IsItems names b is → IsItems names (a ++ codes "," ∷ b) (i ∷ is)
+pub data AreSayItems (names : List (List ℕ)) : List (List ℕ) → List SaidItem → Type 0 where
+  last : {a : List (List ℕ)} {i : SaidItem} → IsSayItem names a i → AreSayItems names a (i ∷ [])
+  more : {a b : List (List ℕ)} {i : SaidItem} {is : List SaidItem} → IsSayItem names a i → AreSayItems names b is → AreSayItems names (a ++ codes "," ∷ b) (i ∷ is)
 
 mutual
   pub data IsStatement (names : List (List ℕ)) : List (List ℕ) → Statement → Type 0 where
     set : {a : List (List ℕ)} {x : Expression} (name : List ℕ) → is_word name ≡ true → IsExpr names a x
         → IsStatement names (codes "set" ∷ codes "$" ∷ name ∷ a) (Set name x)
-    say : {a : List (List ℕ)} {items : List SaidItem} → IsItems names a items → IsStatement names (codes "say" ∷ a) (Say items)
+    say : {a : List (List ℕ)} {items : List SaidItem} → AreSayItems names a items → IsStatement names (codes "say" ∷ a) (Say items)
     stop : IsStatement names (codes "stop" ∷ []) Stop
     if_alone : {a b : List (List ℕ)} {x : Expression} {p : Statements} → IsExpr names a x → IsProgram names b p
         → IsStatement names (codes "if" ∷ (a ++ codes "{" ∷ (b ++ codes "}" ∷ []))) (If x p End)
@@ -44,7 +44,7 @@ NoProgramGoesOn names front [] = (p : Statements) → IsProgram names front p �
 NoProgramGoesOn names front (t ∷ left) = BeginsProgram names (front ++ t ∷ []) → ⊥
 
 -- the tokens are no program, and of them those begin one that stand in front of the ones that are left, and no more do
-pub record StopsAt (names ts left : List (List ℕ)) : Type 0 where
+pub record StopsAtTokens (names ts left : List (List ℕ)) : Type 0 where
   pub front : List (List ℕ)
   pub parts : ts ≡ front ++ left
   pub begins : BeginsProgram names front

@@ -1,6 +1,6 @@
 -- What holds of programs, whatever their tokens are.
 use Rattle.std.specs.Prelude.{◌≡◌, ◌↔◌, ℕ, List, Ok, Err}
-use Rattle.embed_cmds.specs.Grammar.{IsProgram, StopsAt}
+use Rattle.embed_cmds.specs.Grammar.{IsProgram, StopsAtTokens}
 use Rattle.embed_cmds.specs.Reading.{program_of}
 use Rattle.embed_cmds.specs.Tree.{Statements}
 
@@ -8,4 +8,4 @@ use Rattle.embed_cmds.specs.Tree.{Statements}
 -- have there. So tokens spell one program at most, and stop at one place.
 pub record ExactPrograms : Type 0 where
   pub programs : (names ts : List (List ℕ)) (p : Statements) → (program_of names ts ≡ Ok p) ↔ IsProgram names ts p
-  pub stops : (names ts left : List (List ℕ)) → (program_of names ts ≡ Err left) ↔ StopsAt names ts left
+  pub stops : (names ts left : List (List ℕ)) → (program_of names ts ≡ Err left) ↔ StopsAtTokens names ts left

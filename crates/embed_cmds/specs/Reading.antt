@@ -1,7 +1,7 @@
 -- What the tokens of a program spell, as a function that computes. The tokens are read from the first one on.
 use Rattle.std.specs.Prelude.{ℕ, zero, suc, ◌==◌, List, [], ◌∷◌, length, take, drop, codes, bytes_eq, Option, Some, None, option_map, Result, Ok, Err, if◌then◌else◌}
 use Rattle.std.specs.List.{find}
-use Rattle.watch_expr.specs.Computed.{expression_spelled, viable}
+use Rattle.watch_expr.specs.Computed.{expression_spelled, viable_tokens}
 use Rattle.watch_expr.specs.Spelling.{is_word}
 use Rattle.watch_expr.specs.Expression.{Expression}
 use Rattle.embed_cmds.specs.declared.keyword.Keyword.{Keyword}
@@ -9,36 +9,36 @@ use Rattle.embed_cmds.specs.declared.keyword.Keyword.TheVariants as keyword
 use Rattle.embed_cmds.specs.Tree.{SaidItem, Words, Value, Statement, Set, Say, Stop, If, Statements, End, sequence}
 
 -- the tokens that are left
-abbrev pub Left : Type 0
-Left = List (List ℕ)
+abbrev pub LeftTokens : Type 0
+LeftTokens = List (List ℕ)
 
 -- what was read, with the tokens after it; or the tokens from the first one on that no program could have there
-abbrev pub Read : Type 0 → Type 0
-Read A = Result (A × Left) Left
+abbrev pub ReadOfTokens : Type 0 → Type 0
+ReadOfTokens A = Result (A × LeftTokens) LeftTokens
 
-abbrev pub then_reads : {A B : Type 0} → Read A → (A → Left → Read B) → Read B
+abbrev pub then_reads : {A B : Type 0} → ReadOfTokens A → (A → LeftTokens → ReadOfTokens B) → ReadOfTokens B
 then_reads (Ok r) next = next r.0 r.1
 then_reads (Err left) next = Err left
 
-abbrev pub then_goes : {B : Type 0} → Result Left Left → (Left → Read B) → Read B
-then_goes (Ok left) next = next left
-then_goes (Err left) next = Err left
+abbrev pub then_goes_past : {B : Type 0} → Result LeftTokens LeftTokens → (LeftTokens → ReadOfTokens B) → ReadOfTokens B
+then_goes_past (Ok left) next = next left
+then_goes_past (Err left) next = Err left
 
 -- ---- one token
 
 -- after this token
-abbrev pub after_token : List ℕ → Left → Result Left Left
+abbrev pub after_token : List ℕ → LeftTokens → Result LeftTokens LeftTokens
 after_token text [] = Err []
 after_token text (t ∷ ts) = if bytes_eq t text then Ok ts else Err (t ∷ ts)
 
-abbrev pub or_stays : {A : Type 0} → Option A → Left → Left → Read A
-or_stays None here left = Err here
-or_stays (Some a) here left = Ok (a, left)
+abbrev pub read_or_stays : {A : Type 0} → Option A → LeftTokens → LeftTokens → ReadOfTokens A
+read_or_stays None here left = Err here
+read_or_stays (Some a) here left = Ok (a, left)
 
 -- the token, as what it is to be
-abbrev pub token_as : {A : Type 0} → (List ℕ → Option A) → Left → Read A
-token_as meaning [] = Err []
-token_as meaning (t ∷ ts) = or_stays (meaning t) (t ∷ ts) ts
+abbrev pub token_read_as : {A : Type 0} → (List ℕ → Option A) → LeftTokens → ReadOfTokens A
+token_read_as meaning [] = Err []
+token_read_as meaning (t ∷ ts) = read_or_stays (meaning t) (t ∷ ts) ts
 
 abbrev pub word_of : List ℕ → Option (List ℕ)
 word_of t = if is_word t then Some t else None
@@ -69,88 +69,88 @@ keyword_of text = find (λ k. bytes_eq (keyword_text k) text) keywords
 
 -- ---- expressions, and lists of what is read
 
-abbrev pub expression_or : Left → Option Expression → Read Expression
+abbrev pub expression_or : LeftTokens → Option Expression → ReadOfTokens Expression
 expression_or left None = Err left
 expression_or left (Some x) = Ok (x, left)
 
 -- so many tokens
-abbrev pub expression_in : List (List ℕ) → Left → ℕ → Read Expression
+abbrev pub expression_in : List (List ℕ) → LeftTokens → ℕ → ReadOfTokens Expression
 expression_in names ts n = expression_or (drop n ts) (expression_spelled names (take n ts))
 
 -- an expression, of as many tokens as begin one
-abbrev pub expression : List (List ℕ) → Left → Read Expression
-expression names ts = expression_in names ts (viable names [] ts)
+abbrev pub expression : List (List ℕ) → LeftTokens → ReadOfTokens Expression
+expression names ts = expression_in names ts (viable_tokens names [] ts)
 
-abbrev pub then_more : {A : Type 0} → List ℕ → (Left → Read (List A)) → A → Left → Read (List A)
-then_more sign rest a [] = Ok (a ∷ [], [])
-then_more sign rest a (t ∷ ts) = if bytes_eq t sign then then_reads (rest ts) (λ more left. Ok (a ∷ more, left)) else Ok (a ∷ [], t ∷ ts)
+abbrev pub then_more_items : {A : Type 0} → List ℕ → (LeftTokens → ReadOfTokens (List A)) → A → LeftTokens → ReadOfTokens (List A)
+then_more_items sign rest a [] = Ok (a ∷ [], [])
+then_more_items sign rest a (t ∷ ts) = if bytes_eq t sign then then_reads (rest ts) (λ more left. Ok (a ∷ more, left)) else Ok (a ∷ [], t ∷ ts)
 
 -- One or more of what `one` reads, with a sign between them. The number is no less than how many tokens there are.
-abbrev pub separated_in : {A : Type 0} → List ℕ → (Left → Read A) → ℕ → Left → Read (List A)
+abbrev pub separated_in : {A : Type 0} → List ℕ → (LeftTokens → ReadOfTokens A) → ℕ → LeftTokens → ReadOfTokens (List A)
 separated_in sign one zero ts = Err ts
-separated_in sign one (suc most) ts = then_reads (one ts) (then_more sign (separated_in sign one most))
+separated_in sign one (suc most) ts = then_reads (one ts) (then_more_items sign (separated_in sign one most))
 
-abbrev pub separated : {A : Type 0} → List ℕ → (Left → Read A) → Left → Read (List A)
-separated sign one ts = separated_in sign one (length ts) ts
+abbrev pub separated_items : {A : Type 0} → List ℕ → (LeftTokens → ReadOfTokens A) → LeftTokens → ReadOfTokens (List A)
+separated_items sign one ts = separated_in sign one (length ts) ts
 
 -- ---- statements
 
 -- a string, or the value of an expression
-abbrev pub string_or_value : List (List ℕ) → Option (List ℕ) → List ℕ → Left → Read SaidItem
+abbrev pub string_or_value : List (List ℕ) → Option (List ℕ) → List ℕ → LeftTokens → ReadOfTokens SaidItem
 string_or_value names (Some body) t ts = Ok (Words body, ts)
 string_or_value names None t ts = then_reads (expression names (t ∷ ts)) (λ x left. Ok (Value x, left))
 
-abbrev pub item : List (List ℕ) → Left → Read SaidItem
+abbrev pub item : List (List ℕ) → LeftTokens → ReadOfTokens SaidItem
 item names [] = Err []
 item names (t ∷ ts) = string_or_value names (string_of t) t ts
 
-abbrev pub set_statement : List (List ℕ) → Left → Read Statement
+abbrev pub set_statement : List (List ℕ) → LeftTokens → ReadOfTokens Statement
 set_statement names ts =
-    then_goes (after_token (codes "$") ts) (λ ts. then_reads (token_as word_of ts) (λ name ts.
+    then_goes_past (after_token (codes "$") ts) (λ ts. then_reads (token_read_as word_of ts) (λ name ts.
     then_reads (expression names ts) (λ x left. Ok (Set name x, left))))
 
-abbrev pub say_statement : List (List ℕ) → Left → Read Statement
-say_statement names ts = then_reads (separated (codes ",") (item names) ts) (λ items left. Ok (Say items, left))
+abbrev pub say_statement : List (List ℕ) → LeftTokens → ReadOfTokens Statement
+say_statement names ts = then_reads (separated_items (codes ",") (item names) ts) (λ items left. Ok (Say items, left))
 
 -- a part in braces, in which `inside` reads
-abbrev pub part : (Left → Read Statements) → Left → Read Statements
-part inside ts =
-    then_goes (after_token (codes "{") ts) (λ ts. then_reads (inside ts) (λ body ts.
-    then_goes (after_token (codes "}") ts) (λ left. Ok (body, left))))
+abbrev pub braced_part : (LeftTokens → ReadOfTokens Statements) → LeftTokens → ReadOfTokens Statements
+braced_part inside ts =
+    then_goes_past (after_token (codes "{") ts) (λ ts. then_reads (inside ts) (λ body ts.
+    then_goes_past (after_token (codes "}") ts) (λ left. Ok (body, left))))
 
 -- a second part, which may be left out
-abbrev pub else_part : (Left → Read Statements) → Left → Read Statements
+abbrev pub else_part : (LeftTokens → ReadOfTokens Statements) → LeftTokens → ReadOfTokens Statements
 else_part inside [] = Ok (End, [])
-else_part inside (t ∷ ts) = if bytes_eq t (codes "else") then part inside ts else Ok (End, t ∷ ts)
+else_part inside (t ∷ ts) = if bytes_eq t (codes "else") then braced_part inside ts else Ok (End, t ∷ ts)
 
-abbrev pub if_statement : (Left → Read Statements) → List (List ℕ) → Left → Read Statement
+abbrev pub if_statement : (LeftTokens → ReadOfTokens Statements) → List (List ℕ) → LeftTokens → ReadOfTokens Statement
 if_statement inside names ts =
-    then_reads (expression names ts) (λ x ts. then_reads (part inside ts) (λ on_true ts.
+    then_reads (expression names ts) (λ x ts. then_reads (braced_part inside ts) (λ on_true ts.
     then_reads (else_part inside ts) (λ on_false left. Ok (If x on_true on_false, left))))
 
-abbrev pub statement_by : (Left → Read Statements) → List (List ℕ) → Keyword → Left → Read Statement
+abbrev pub statement_by : (LeftTokens → ReadOfTokens Statements) → List (List ℕ) → Keyword → LeftTokens → ReadOfTokens Statement
 statement_by inside names keyword.Set ts = set_statement names ts
 statement_by inside names keyword.Say ts = say_statement names ts
 statement_by inside names keyword.Stop ts = Ok (Stop, ts)
 statement_by inside names keyword.If ts = if_statement inside names ts
 
 -- a statement, where `inside` reads what is in its braces
-abbrev pub statement : (Left → Read Statements) → List (List ℕ) → Left → Read Statement
-statement inside names ts = then_reads (token_as keyword_of ts) (statement_by inside names)
+abbrev pub statement : (LeftTokens → ReadOfTokens Statements) → List (List ℕ) → LeftTokens → ReadOfTokens Statement
+statement inside names ts = then_reads (token_read_as keyword_of ts) (statement_by inside names)
 
 -- ---- programs
 
 -- A program, as far as it goes. The number is no less than how deep its braces nest.
-abbrev pub program_in : ℕ → List (List ℕ) → Left → Read Statements
+abbrev pub program_in : ℕ → List (List ℕ) → LeftTokens → ReadOfTokens Statements
 program_in zero names ts = Err ts
-program_in (suc levels) names ts = then_reads (separated (codes ";") (statement (program_in levels names) names) ts) (λ list left. Ok (sequence list, left))
+program_in (suc levels) names ts = then_reads (separated_items (codes ";") (statement (program_in levels names) names) ts) (λ list left. Ok (sequence list, left))
 
-abbrev pub whole_program : Read Statements → Result Statements Left
+abbrev pub whole_program : ReadOfTokens Statements → Result Statements LeftTokens
 whole_program (Ok (body, [])) = Ok body
 whole_program (Ok (body, t ∷ left)) = Err (t ∷ left)
 whole_program (Err left) = Err left
 
 -- the program that the tokens spell, over nodes with these names, or the tokens from the first one on that no program
 -- could have there
-unfoldable pub program_of : List (List ℕ) → List (List ℕ) → Result Statements Left
+unfoldable pub program_of : List (List ℕ) → List (List ℕ) → Result Statements LeftTokens
 program_of names ts = whole_program (program_in (length ts) names ts)

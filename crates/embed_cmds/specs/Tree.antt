@@ -53,5 +53,5 @@ statements [] = End
 statements (first ∷ rest) = Then (statement_of first) (statements rest)
 
 -- the statements of a program
-abbrev pub body : Program → Statements
-body p = statements p.stmts.items
+abbrev pub program_body : Program → Statements
+program_body p = statements p.stmts.items

@@ -29,5 +29,5 @@ mention_all variables [] = variables
 mention_all variables (name ∷ names) = mention_all (mention variables name) names
 
 -- the names are all mentioned where that makes no more than so many variables, and else none is; which is told
-abbrev pub MentionsUpTo : ℕ → List Variable → List (List ℕ) → List Variable → Bool → Type 0
-MentionsUpTo most old names new done = (done ≡ nat_le (length (mention_all old names)) most) × (new ≡ (if done then mention_all old names else old))
+abbrev pub MentionsVariables : ℕ → List Variable → List (List ℕ) → List Variable → Bool → Type 0
+MentionsVariables most old names new done = (done ≡ nat_le (length (mention_all old names)) most) × (new ≡ (if done then mention_all old names else old))

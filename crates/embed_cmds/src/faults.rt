@@ -3,8 +3,8 @@ ghost use Rattle.std.specs.Prelude.{◌≡◌, ◌||◌, false, map};
 ghost use Rattle.std.specs.List.{list_any};
 ghost use Rattle.watch_expr.specs.Faulty.{is_nested, lacks_node};
 ghost use Rattle.watch_expr.specs.Expression.{expression_of};
-ghost use Rattle.embed_cmds.specs.Faulty.{lacks, lacks_item, lacks_one, nests, nests_item, nests_one};
-ghost use Rattle.embed_cmds.specs.Tree.{body, item_of, statement_of, statements};
+ghost use Rattle.embed_cmds.specs.Faulty.{lacks_names, lacks_item, lacks_one, nests_aggregates, nests_item, nests_one};
+ghost use Rattle.embed_cmds.specs.Tree.{program_body, item_of, statement_of, statements};
 
 use crate::program::{Program, SayItem, Stmt};
 use watch_expr::{Expr, find_faults};
@@ -20,8 +20,8 @@ pub struct ProgramFaults {
 
 /// Tells what may be wrong with the program. It takes no memory.
 pub fn program_faults(p: &Program) -> ProgramFaults
-    ensures nested { result.nested ≡ nests (body p.now) }
-    ensures no_node { result.no_node ≡ lacks (body p.now) }
+    ensures nested { result.nested ≡ nests_aggregates (program_body p.now) }
+    ensures no_node { result.no_node ≡ lacks_names (program_body p.now) }
 {
     faults_of_all(&p.stmts)
 }
@@ -76,8 +76,8 @@ fn faults_of_items(items: &[SayItem]) -> ProgramFaults
 /// The faults of statements that follow one another.
 #[cycle(faults)]
 fn faults_of_all(stmts: &[Stmt]) -> ProgramFaults
-    ensures nested { result.nested ≡ nests (statements stmts.now) }
-    ensures no_node { result.no_node ≡ lacks (statements stmts.now) }
+    ensures nested { result.nested ≡ nests_aggregates (statements stmts.now) }
+    ensures no_node { result.no_node ≡ lacks_names (statements stmts.now) }
 {
     let mut faults = NONE;
     for stmt in stmts {

@@ -1,8 +1,8 @@
 // Reads a program, statement by statement.
 ghost use Rattle.std.specs.Prelude.{◌≡◌, ◌≤◌, ◌<◌, ◌^◌, IfOk, codes, drop, length, map};
-ghost use Rattle.watch_expr.specs.Lexing.{texts};
-ghost use Rattle.embed_cmds.specs.Parsing.{ParsedProgram, ReadAs};
-ghost use Rattle.embed_cmds.specs.Reading.{else_part, if_statement, item as item_in, part, program_in, say_statement, separated, set_statement, statement as statement_in, statement_by};
+ghost use Rattle.watch_expr.specs.Lexing.{token_texts};
+ghost use Rattle.embed_cmds.specs.Parsing.{ParsedProgram, ReadAsTokens};
+ghost use Rattle.embed_cmds.specs.Reading.{else_part, if_statement, item as item_in, braced_part, program_in, say_statement, separated_items, set_statement, statement as statement_in, statement_by};
 ghost use Rattle.embed_cmds.specs.Tree.{item_of, statement_of, statements};
 
 use crate::faults::program_faults;
@@ -52,7 +52,7 @@ fn read_program(
     levels: usize,
 ) -> Result<(Vec<Stmt>, usize), ExprError>
     requires { length names.now < 2 ^ 32 }
-    ensures read { ReadAs (λ v. statements v.items) tokens.now (program_in levels names.now (drop at (texts tokens.now))) result }
+    ensures read { ReadAsTokens (λ v. statements v.items) tokens.now (program_in levels names.now (drop at (token_texts tokens.now))) result }
     ensures onward { IfOk result (λ r. at ≤ r.1) }
 {
     if levels == 0 {
@@ -71,8 +71,8 @@ fn read_statements(
     levels: usize,
 ) -> Result<(Vec<Stmt>, usize), ExprError>
     requires { length names.now < 2 ^ 32 }
-    ensures read { ReadAs (λ v. map statement_of v.items) tokens.now
-        (separated (codes ";") (statement_in (program_in levels names.now) names.now) (drop from (texts tokens.now))) result }
+    ensures read { ReadAsTokens (λ v. map statement_of v.items) tokens.now
+        (separated_items (codes ";") (statement_in (program_in levels names.now) names.now) (drop from (token_texts tokens.now))) result }
     ensures onward { IfOk result (λ r. from ≤ r.1) }
 {
     let mut stmts = Vec::new(alloc);
@@ -97,7 +97,7 @@ fn read_statement(
     levels: usize,
 ) -> Result<(Stmt, usize), ExprError>
     requires { length names.now < 2 ^ 32 }
-    ensures read { ReadAs statement_of tokens.now (statement_in (program_in levels names.now) names.now (drop at (texts tokens.now))) result }
+    ensures read { ReadAsTokens statement_of tokens.now (statement_in (program_in levels names.now) names.now (drop at (token_texts tokens.now))) result }
     ensures onward { IfOk result (λ r. at ≤ r.1) }
 {
     let (keyword, next) = read_keyword(tokens, at)?;
@@ -115,7 +115,7 @@ fn read_statement_by(
     keyword: Keyword,
 ) -> Result<(Stmt, usize), ExprError>
     requires { length names.now < 2 ^ 32 }
-    ensures read { ReadAs statement_of tokens.now (statement_by (program_in levels names.now) names.now keyword (drop at (texts tokens.now))) result }
+    ensures read { ReadAsTokens statement_of tokens.now (statement_by (program_in levels names.now) names.now keyword (drop at (token_texts tokens.now))) result }
     ensures onward { IfOk result (λ r. at ≤ r.1) }
 {
     match keyword {
@@ -133,7 +133,7 @@ fn read_set(
     names: &[Bytes],
 ) -> Result<(Stmt, usize), ExprError>
     requires { length names.now < 2 ^ 32 }
-    ensures read { ReadAs statement_of tokens.now (set_statement names.now (drop at (texts tokens.now))) result }
+    ensures read { ReadAsTokens statement_of tokens.now (set_statement names.now (drop at (token_texts tokens.now))) result }
     ensures onward { IfOk result (λ r. at ≤ r.1) }
 {
     let name_at = expect(tokens, at, "$")?;
@@ -149,7 +149,7 @@ fn read_say(
     names: &[Bytes],
 ) -> Result<(Stmt, usize), ExprError>
     requires { length names.now < 2 ^ 32 }
-    ensures read { ReadAs statement_of tokens.now (say_statement names.now (drop at (texts tokens.now))) result }
+    ensures read { ReadAsTokens statement_of tokens.now (say_statement names.now (drop at (token_texts tokens.now))) result }
     ensures onward { IfOk result (λ r. at ≤ r.1) }
 {
     let (items, next) = read_items(alloc, tokens, at, names)?;
@@ -164,7 +164,7 @@ fn read_items(
     names: &[Bytes],
 ) -> Result<(Vec<SayItem>, usize), ExprError>
     requires { length names.now < 2 ^ 32 }
-    ensures read { ReadAs (λ v. map item_of v.items) tokens.now (separated (codes ",") (item_in names.now) (drop from (texts tokens.now))) result }
+    ensures read { ReadAsTokens (λ v. map item_of v.items) tokens.now (separated_items (codes ",") (item_in names.now) (drop from (token_texts tokens.now))) result }
     ensures onward { IfOk result (λ r. from ≤ r.1) }
 {
     let mut items = Vec::new(alloc);
@@ -187,7 +187,7 @@ fn read_item(
     names: &[Bytes],
 ) -> Result<(SayItem, usize), ExprError>
     requires { length names.now < 2 ^ 32 }
-    ensures read { ReadAs item_of tokens.now (item_in names.now (drop at (texts tokens.now))) result }
+    ensures read { ReadAsTokens item_of tokens.now (item_in names.now (drop at (token_texts tokens.now))) result }
     ensures onward { IfOk result (λ r. at ≤ r.1) }
 {
     if let Some(words) = string_at(tokens, at) {
@@ -207,7 +207,7 @@ fn read_if(
     levels: usize,
 ) -> Result<(Stmt, usize), ExprError>
     requires { length names.now < 2 ^ 32 }
-    ensures read { ReadAs statement_of tokens.now (if_statement (program_in levels names.now) names.now (drop at (texts tokens.now))) result }
+    ensures read { ReadAsTokens statement_of tokens.now (if_statement (program_in levels names.now) names.now (drop at (token_texts tokens.now))) result }
     ensures onward { IfOk result (λ r. at ≤ r.1) }
 {
     let (test, true_at) = read_expression(alloc, tokens, at, names)?;
@@ -226,7 +226,7 @@ fn read_part(
     levels: usize,
 ) -> Result<(Vec<Stmt>, usize), ExprError>
     requires { length names.now < 2 ^ 32 }
-    ensures read { ReadAs (λ v. statements v.items) tokens.now (part (program_in levels names.now) (drop at (texts tokens.now))) result }
+    ensures read { ReadAsTokens (λ v. statements v.items) tokens.now (braced_part (program_in levels names.now) (drop at (token_texts tokens.now))) result }
     ensures onward { IfOk result (λ r. at ≤ r.1) }
 {
     let inside = expect(tokens, at, "{")?;
@@ -245,7 +245,7 @@ fn read_else(
     levels: usize,
 ) -> Result<(Vec<Stmt>, usize), ExprError>
     requires { length names.now < 2 ^ 32 }
-    ensures read { ReadAs (λ v. statements v.items) tokens.now (else_part (program_in levels names.now) (drop at (texts tokens.now))) result }
+    ensures read { ReadAsTokens (λ v. statements v.items) tokens.now (else_part (program_in levels names.now) (drop at (token_texts tokens.now))) result }
     ensures onward { IfOk result (λ r. at ≤ r.1) }
 {
     if stands(tokens, at, "else") {

@@ -2,7 +2,7 @@
 ghost use Rattle.std.specs.Prelude.{◌≡◌, ◌++◌, false, map, IfOk, OnErr, OnOk};
 ghost use Rattle.watch_expr.specs.Expression.{expression_of};
 ghost use Rattle.embed_cmds.specs.Running.{after_statement, after_statements, is_nonzero, program_state, said_item, said_line, value_in, value_word};
-ghost use Rattle.embed_cmds.specs.Tree.{body, item_of, statement_of, statements};
+ghost use Rattle.embed_cmds.specs.Tree.{program_body, item_of, statement_of, statements};
 ghost use Rattle.embed_cmds.specs.Variables.{with_value};
 
 use crate::program::{Program, SayItem, Stmt};
@@ -32,7 +32,7 @@ pub fn run_program<V: View>(
     vars: &mut Vars,
     out: &mut Text,
 ) -> Result<bool, AllocError>
-    ensures { IfOk result (λ stopped. after_statements (V.nodes v.now) (program_state vars.old out.old false) (body p.now)
+    ensures { IfOk result (λ stopped. after_statements (V.nodes v.now) (program_state vars.old out.old false) (program_body p.now)
         ≡ program_state vars.new out.new stopped) }
 {
     run_all(alloc, &p.stmts, v, vars, out)

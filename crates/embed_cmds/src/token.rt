@@ -2,10 +2,10 @@
 ghost use Rattle.std.specs.Prelude.{◌≡◌, ◌≤◌, ◌<◌, ◌^◌, IfOk, IfSome, codes, drop, length, option_map, slice_get, true};
 ghost use Rattle.std.specs.Option.{option_and_then};
 ghost use Rattle.std.specs.Result.{is_ok};
-ghost use Rattle.watch_expr.specs.Lexing.{texts};
+ghost use Rattle.watch_expr.specs.Lexing.{token_texts};
 ghost use Rattle.watch_expr.specs.Expression.{expression_of};
-ghost use Rattle.embed_cmds.specs.Parsing.{GoesAs, ReadAs};
-ghost use Rattle.embed_cmds.specs.Reading.{before_quote as before_quote_of, after_token, expression, keyword_of, string_of, token_as, word_of};
+ghost use Rattle.embed_cmds.specs.Parsing.{GoesAsToken, ReadAsTokens};
+ghost use Rattle.embed_cmds.specs.Reading.{before_quote as before_quote_of, after_token, expression, keyword_of, string_of, token_read_as, word_of};
 
 use crate::keyword::{Keyword, keyword_from};
 use fri_bytes::Bytes;
@@ -14,8 +14,8 @@ use watch_expr::{Expr, ExprError, Tokens, is_word, parse};
 
 /// Whether a token has this text.
 pub(crate) fn stands(tokens: &Tokens<'_>, at: usize, text: &str) -> bool
-    ensures text { result ≡ is_ok (after_token text.now (drop at (texts tokens.now))) }
-    ensures within { result ≡ true → at < length (texts tokens.now) }
+    ensures text { result ≡ is_ok (after_token text.now (drop at (token_texts tokens.now))) }
+    ensures within { result ≡ true → at < length (token_texts tokens.now) }
     ensures small { result ≡ true → at < 2 ^ 63 }
 {
     match tokens.text(at) {
@@ -26,7 +26,7 @@ pub(crate) fn stands(tokens: &Tokens<'_>, at: usize, text: &str) -> bool
 
 /// The number of the token after one that has to have this text.
 pub(crate) fn expect(tokens: &Tokens<'_>, at: usize, text: &str) -> Result<usize, ExprError>
-    ensures goes { GoesAs tokens.now (after_token text.now (drop at (texts tokens.now))) result }
+    ensures goes { GoesAsToken tokens.now (after_token text.now (drop at (token_texts tokens.now))) result }
     ensures onward { IfOk result (λ next. at ≤ next) }
 {
     if stands(tokens, at, text) {
@@ -42,7 +42,7 @@ pub(crate) fn read_word(
     tokens: &Tokens<'_>,
     at: usize,
 ) -> Result<(Bytes, usize), ExprError>
-    ensures read { ReadAs (λ b. b) tokens.now (token_as word_of (drop at (texts tokens.now))) result }
+    ensures read { ReadAsTokens (λ b. b) tokens.now (token_read_as word_of (drop at (token_texts tokens.now))) result }
     ensures onward { IfOk result (λ r. at ≤ r.1) }
 {
     let Some(word) = word_at(tokens, at) else {
@@ -53,7 +53,7 @@ pub(crate) fn read_word(
 }
 
 fn word_at<'a>(tokens: &Tokens<'a>, at: usize) -> Option<&'a [u8]>
-    ensures word { option_map (λ w. w.now) result ≡ option_and_then word_of (slice_get (texts tokens.now) at) }
+    ensures word { option_map (λ w. w.now) result ≡ option_and_then word_of (slice_get (token_texts tokens.now) at) }
     ensures small { IfSome result (λ _. at < 2 ^ 63) }
 {
     let text = tokens.text(at)?;
@@ -62,7 +62,7 @@ fn word_at<'a>(tokens: &Tokens<'a>, at: usize) -> Option<&'a [u8]>
 
 /// Reads the word that begins a statement.
 pub(crate) fn read_keyword(tokens: &Tokens<'_>, at: usize) -> Result<(Keyword, usize), ExprError>
-    ensures read { ReadAs (λ k. k) tokens.now (token_as keyword_of (drop at (texts tokens.now))) result }
+    ensures read { ReadAsTokens (λ k. k) tokens.now (token_read_as keyword_of (drop at (token_texts tokens.now))) result }
     ensures onward { IfOk result (λ r. at ≤ r.1) }
 {
     let Some(keyword) = keyword_at(tokens, at) else {
@@ -72,7 +72,7 @@ pub(crate) fn read_keyword(tokens: &Tokens<'_>, at: usize) -> Result<(Keyword, u
 }
 
 fn keyword_at(tokens: &Tokens<'_>, at: usize) -> Option<Keyword>
-    ensures keyword { result ≡ option_and_then keyword_of (slice_get (texts tokens.now) at) }
+    ensures keyword { result ≡ option_and_then keyword_of (slice_get (token_texts tokens.now) at) }
     ensures small { IfSome result (λ _. at < 2 ^ 63) }
 {
     keyword_from(tokens.text(at)?)
@@ -80,7 +80,7 @@ fn keyword_at(tokens: &Tokens<'_>, at: usize) -> Option<Keyword>
 
 /// The bytes between the quotes of a token that is a string.
 pub(crate) fn string_at<'a>(tokens: &Tokens<'a>, at: usize) -> Option<&'a [u8]>
-    ensures string { option_map (λ b. b.now) result ≡ option_and_then string_of (slice_get (texts tokens.now) at) }
+    ensures string { option_map (λ b. b.now) result ≡ option_and_then string_of (slice_get (token_texts tokens.now) at) }
     ensures small { IfSome result (λ _. at < 2 ^ 63) }
 {
     let (first, rest) = tokens.text(at)?.split_first()?;
@@ -106,7 +106,7 @@ pub(crate) fn read_expression(
     names: &[Bytes],
 ) -> Result<(Expr, usize), ExprError>
     requires { length names.now < 2 ^ 32 }
-    ensures read { ReadAs expression_of tokens.now (expression names.now (drop at (texts tokens.now))) result }
+    ensures read { ReadAsTokens expression_of tokens.now (expression names.now (drop at (token_texts tokens.now))) result }
     ensures onward { IfOk result (λ r. at ≤ r.1) }
 {
     watch_expr::laws::exact_reading();

@@ -1,8 +1,8 @@
 // The variables of a session.
 ghost use Rattle.std.specs.Prelude.{◌≡◌, [], length, slice_get, option_map, take, IfOk, OnErr, OnOk};
-ghost use Rattle.embed_cmds.specs.Faulty.{set_by, set_names};
-ghost use Rattle.embed_cmds.specs.Tree.{body, statement_of, statements};
-ghost use Rattle.embed_cmds.specs.Variables.{MentionsUpTo, is_mentioned, mention, mention_all, variable_value, with_value};
+ghost use Rattle.embed_cmds.specs.Faulty.{set_by_statement, set_names};
+ghost use Rattle.embed_cmds.specs.Tree.{program_body, statement_of, statements};
+ghost use Rattle.embed_cmds.specs.Variables.{MentionsVariables, is_mentioned, mention, mention_all, variable_value, with_value};
 
 use crate::program::{Program, Stmt};
 use indexmap::IndexMap;
@@ -60,7 +60,7 @@ impl Vars {
         p: &Program,
         most: usize,
     ) -> Result<bool, AllocError>
-        ensures ok { IfOk result (λ done. MentionsUpTo most self.old (set_names (body p.now)) self.new done) }
+        ensures ok { IfOk result (λ done. MentionsVariables most self.old (set_names (program_body p.now)) self.new done) }
         ensures err { OnErr result (self.new ≡ self.old) }
     {
         let before = self.names();
@@ -74,7 +74,7 @@ impl Vars {
 
     // Mentions the variables that the program sets; or none, where there is no memory for them all.
     fn mention_program(&mut self, alloc: Global, p: &Program) -> Result<(), AllocError>
-        ensures ok { OnOk result (self.new ≡ mention_all self.old (set_names (body p.now))) }
+        ensures ok { OnOk result (self.new ≡ mention_all self.old (set_names (program_body p.now))) }
         ensures err { OnErr result (self.new ≡ self.old) }
     {
         let before = self.names();
@@ -140,7 +140,7 @@ fn mention_statements(alloc: Global, stmts: &[Stmt], vars: &mut Vars) -> Result<
 
 #[cycle(mention)]
 fn mention_statement(alloc: Global, stmt: &Stmt, vars: &mut Vars) -> Result<(), AllocError>
-    ensures ok { OnOk result (vars.new ≡ mention_all vars.old (set_by (statement_of stmt.now))) }
+    ensures ok { OnOk result (vars.new ≡ mention_all vars.old (set_by_statement (statement_of stmt.now))) }
     ensures front { take (length vars.old) vars.new ≡ vars.old }
 {
     match stmt {

@@ -15,9 +15,9 @@ use Rattle.expression_text.specs.declared.expr.Width.{Width}
 use Rattle.expression_text.specs.declared.expr.Width.TheVariants as width
 use Rattle.expression_text.specs.declared.word.PlaceWord.TheVariants as place
 use Rattle.expression_text.specs.Expression.{Expression}
-use Rattle.expression_text.specs.Spelling.{is_word_byte, is_word, number_of, at_most, most_number, binary_sign, unary_sign, agg_word, place_word}
-use Rattle.expression_text.specs.Grammar.{IsAt, higher, two, one, number, variable, brackets, over, load, global, clock, events, size}
-use Rattle.expression_text.specs.Laws.{is_apart, NoneApart}
+use Rattle.expression_text.specs.Spelling.{is_word_byte, is_word, number_of, number_at_most, most_number, binary_sign, unary_sign, agg_word, place_word}
+use Rattle.expression_text.specs.Grammar.{IsExprAtLevel, higher, two, one, number, variable, brackets, over, load, global, clock, events, size}
+use Rattle.expression_text.specs.Laws.{is_apart_token, NoneApart}
 use Rattle.expression_text.proofs.KnownWords.{same_bytes}
 
 -- what no token apart has
@@ -36,7 +36,7 @@ quoted : (P : List ℕ → Bool) → Unlike P → (text : List ℕ) → (slice_i
 quoted P u [] e t = true_false (P []) t u.none
 quoted P u (b ∷ text) e t = true_false (P (b ∷ text)) t (ap (λ (x : ℕ). P (x ∷ text)) (eqb-true b 34 e) ∙ u.string text)
 
-apart : (P : List ℕ → Bool) → Unlike P → (text : List ℕ) → P text ≡ true → is_apart text ≡ true → ⊥
+apart : (P : List ℕ → Bool) → Unlike P → (text : List ℕ) → P text ≡ true → is_apart_token text ≡ true → ⊥
 apart P u text t e =
     let a = bytes_eq text (codes ",") in
     let b = bytes_eq text (codes ";") in
@@ -63,8 +63,8 @@ refuted false h = refl
 words : Unlike is_word
 words = record { comma = refl; semicolon = refl; opening = refl; closing = refl; string = λ rest. and_right (ltb 0 (length (34 ∷ rest))) (list_all is_word_byte (34 ∷ rest)) refl; none = refl }
 
-word_apart : (text : List ℕ) → is_word text ≡ true → not (is_apart text) ≡ true
-word_apart text e = refuted (is_apart text) (λ a. apart is_word words text e a)
+word_apart : (text : List ℕ) → is_word text ≡ true → not (is_apart_token text) ≡ true
+word_apart text e = refuted (is_apart_token text) (λ a. apart is_word words text e a)
 
 abbrev is_number : List ℕ → Bool
 is_number text = is_some (number_of text)
@@ -74,14 +74,14 @@ no_digits rest = rw (and_right (ltb 0 (length (34 ∷ rest))) (list_all is_ascii
 
 numbers : Unlike is_number
 unfolding number_of
-numbers = record { comma = refl; semicolon = refl; opening = refl; closing = refl; string = λ rest. ap (λ (o : Option ℕ). is_some (at_most most_number o)) (no_digits rest); none = refl }
+numbers = record { comma = refl; semicolon = refl; opening = refl; closing = refl; string = λ rest. ap (λ (o : Option ℕ). is_some (number_at_most most_number o)) (no_digits rest); none = refl }
 
-number_apart : (text : List ℕ) (n : ℕ) → number_of text ≡ Some n → not (is_apart text) ≡ true
-number_apart text n e = refuted (is_apart text) (λ a. apart is_number numbers text (ap is_some e) a)
+number_apart : (text : List ℕ) (n : ℕ) → number_of text ≡ Some n → not (is_apart_token text) ≡ true
+number_apart text n e = refuted (is_apart_token text) (λ a. apart is_number numbers text (ap is_some e) a)
 
 -- ---- the words and signs of the grammar
 
-binary_apart : (op : Binary) → not (is_apart (binary_sign op)) ≡ true
+binary_apart : (op : Binary) → not (is_apart_token (binary_sign op)) ≡ true
 binary_apart binary.Or = refl
 binary_apart binary.And = refl
 binary_apart binary.Eq = refl
@@ -96,17 +96,17 @@ binary_apart binary.Mul = refl
 binary_apart binary.Div = refl
 binary_apart binary.Rem = refl
 
-unary_apart : (op : Unary) → not (is_apart (unary_sign op)) ≡ true
+unary_apart : (op : Unary) → not (is_apart_token (unary_sign op)) ≡ true
 unary_apart unary.Minus = refl
 unary_apart unary.Not = refl
 
-agg_apart : (a : Agg) → not (is_apart (agg_word a)) ≡ true
+agg_apart : (a : Agg) → not (is_apart_token (agg_word a)) ≡ true
 agg_apart agg.Sum = refl
 agg_apart agg.Min = refl
 agg_apart agg.Max = refl
 agg_apart agg.Count = refl
 
-width_apart : (w : Width) → not (is_apart (place_word (place.Load w))) ≡ true
+width_apart : (w : Width) → not (is_apart_token (place_word (place.Load w))) ≡ true
 width_apart width.U8 = refl
 width_apart width.U16 = refl
 width_apart width.U32 = refl
@@ -118,19 +118,19 @@ width_apart width.I64 = refl
 -- ---- expressions
 
 abbrev AllIn : List (List ℕ) → Type 0
-AllIn ts = list_all (λ t. not (is_apart t)) ts ≡ true
+AllIn ts = list_all (λ t. not (is_apart_token t)) ts ≡ true
 
-in_front : (t : List ℕ) (ts : List (List ℕ)) → not (is_apart t) ≡ true → AllIn ts → AllIn (t ∷ ts)
-in_front t ts e h = and_from (not (is_apart t)) (list_all (λ t. not (is_apart t)) ts) e h
+in_front : (t : List ℕ) (ts : List (List ℕ)) → not (is_apart_token t) ≡ true → AllIn ts → AllIn (t ∷ ts)
+in_front t ts e h = and_from (not (is_apart_token t)) (list_all (λ t. not (is_apart_token t)) ts) e h
 
 joined : (a b : List (List ℕ)) → AllIn a → AllIn b → AllIn (a ++ b)
 joined [] b h k = k
 joined (t ∷ a) b h k =
-    let p = and_parts (not (is_apart t)) (list_all (λ t. not (is_apart t)) a) h in
+    let p = and_parts (not (is_apart_token t)) (list_all (λ t. not (is_apart_token t)) a) h in
     in_front t (a ++ b) p.0 (joined a b p.1 k)
 
 module _ (names : List (List ℕ)) where
-  all_in : {k : ℕ} {ts : List (List ℕ)} {x : Expression} → IsAt names k ts x → AllIn ts
+  all_in : {k : ℕ} {ts : List (List ℕ)} {x : Expression} → IsExprAtLevel names k ts x → AllIn ts
   all_in (higher h) = all_in h
   all_in (two {a} {b} op p q) = joined a (binary_sign op ∷ b) (all_in p) (in_front (binary_sign op) b (binary_apart op) (all_in q))
   all_in (one {a} op p) = in_front (unary_sign op) a (unary_apart op) (all_in p)

@@ -15,7 +15,7 @@ use Rattle.expression_text.specs.declared.word.PlaceWord.TheVariants as place
 use Rattle.expression_text.specs.declared.stack.Half.TheVariants as half
 use Rattle.expression_text.specs.declared.stack.Opening.{Opening}
 use Rattle.expression_text.specs.declared.stack.Opening.TheVariants as opening
-use Rattle.expression_text.specs.Machine.{PendingOperator, Front, Inside, Want, Part, step, closing, is_closed_with}
+use Rattle.expression_text.specs.Machine.{PendingOperator, Front, Inside, Want, Part, machine_step, closing, is_closed_with}
 use Rattle.expression_text.specs.Spelling.{number_of, binary_sign, binaries, binary_of, unary_sign, unaries, unary_of, agg_word, aggs, agg_of, place_word, places, place_of}
 
 -- ---- what is found passes the test
@@ -84,27 +84,27 @@ place_again place.Size = refl
 -- ---- what a token that is where an operand is wanted leads to
 
 module _ (names : List (List ℕ)) (s : List PendingOperator) where
-  pub sign_read : (op : Unary) → step names (Want s) (unary_sign op) ≡ Some (Want (Front op ∷ s))
+  pub sign_read : (op : Unary) → machine_step names (Want s) (unary_sign op) ≡ Some (Want (Front op ∷ s))
   unfolding number_of unary_of
   sign_read unary.Minus = refl
   sign_read unary.Not = refl
 
-  pub agg_read : (a : Agg) → step names (Want s) (agg_word a) ≡ Some (Part s (half.Named a))
+  pub agg_read : (a : Agg) → machine_step names (Want s) (agg_word a) ≡ Some (Part s (half.Named a))
   unfolding number_of unary_of agg_of
   agg_read agg.Sum = refl
   agg_read agg.Min = refl
   agg_read agg.Max = refl
   agg_read agg.Count = refl
 
-  pub bracket_read : step names (Want s) (codes "(") ≡ Some (Want (Inside opening.Bracket ∷ s))
+  pub bracket_read : machine_step names (Want s) (codes "(") ≡ Some (Want (Inside opening.Bracket ∷ s))
   unfolding number_of unary_of agg_of
   bracket_read = refl
 
-  pub dollar_read : step names (Want s) (codes "$") ≡ Some (Part s half.Dollar)
+  pub dollar_read : machine_step names (Want s) (codes "$") ≡ Some (Part s half.Dollar)
   unfolding number_of unary_of agg_of
   dollar_read = refl
 
-  pub at_read : step names (Want s) (codes "@") ≡ Some (Part s half.At)
+  pub at_read : machine_step names (Want s) (codes "@") ≡ Some (Part s half.At)
   unfolding number_of unary_of agg_of
   at_read = refl
 

@@ -7,7 +7,7 @@ use Rattle.std.proofs.lemmas.List.{length-append, length-take-le, take-append-dr
 use Rattle.std.proofs.lemmas.List.Sums.{prefix_len-le-length}
 use Rattle.expression_text.specs.Spelling.{is_word_byte, is_word}
 use Rattle.expression_text.specs.Lexing.{is_blank, is_string_byte, is_sign, is_pair, IsToken, word, string, sign, pair, IsLongest, BeginsNone}
-use Rattle.expression_text.specs.Front.{word_end, quoted, string_end, sign_at, front}
+use Rattle.expression_text.specs.Front.{word_end, quoted_string_end, string_end, sign_at, longest_token}
 use Rattle.expression_text.proofs.SettledOperators.{tested}
 
 -- ---- which byte stands first
@@ -102,7 +102,7 @@ string_ends body rest e =
     let bytes = body ++ 34 ∷ rest in
     let found : position (λ b. not (is_string_byte b)) bytes ≡ Some (length body) =
     ap (λ (n : ℕ). cond (ltb n (length bytes)) (Some n) None) (body_end body rest e) ∙ rw (lt-ltb (length body) (length bytes) (longer body rest)) refl in
-    ap (quoted bytes) found ∙ ap (λ (b : ℕ). cond (b == 34) (Some (length body + 2)) None) (quote_there body rest)
+    ap (quoted_string_end bytes) found ∙ ap (λ (b : ℕ). cond (b == 34) (Some (length body + 2)) None) (quote_there body rest)
 
 string_here : (body bytes : List ℕ) (k : ℕ) → list_all is_string_byte body ≡ true → body ++ 34 ∷ [] ≡ take k bytes → k ≤ length bytes → string_end bytes ≡ Some (suc k)
 string_here body bytes k e is le =
@@ -120,7 +120,7 @@ pub record Ends (bytes : List ℕ) (n : ℕ) : Type 0 where
   pub body : list_all is_string_byte (take at bytes) ≡ true
   pub quote : slice_index bytes at ≡ 34
 
-ended : (bytes : List ℕ) (p n : ℕ) (inside quote : Bool) → p ≡ prefix_len (λ b. not (not (is_string_byte b))) bytes → ltb p (length bytes) ≡ inside → (slice_index bytes p == 34) ≡ quote → quoted bytes (cond inside (Some p) None) ≡ Some n → Ends bytes n
+ended : (bytes : List ℕ) (p n : ℕ) (inside quote : Bool) → p ≡ prefix_len (λ b. not (not (is_string_byte b))) bytes → ltb p (length bytes) ≡ inside → (slice_index bytes p == 34) ≡ quote → quoted_string_end bytes (cond inside (Some p) None) ≡ Some n → Ends bytes n
 ended bytes p n true true is i q e =
     let shown : cond (slice_index bytes p == 34) (Some (p + 2)) None ≡ Some n = e in
     let some : ◌≡◌ {A = Option ℕ} (Some (p + 2)) (Some n) = sym (ap (λ (b : Bool). cond b (Some (p + 2)) None) q) ∙ shown in
@@ -313,21 +313,21 @@ token_at b bytes n false false i j e = let h = signs b bytes n e in record { wit
 
 -- ---- the longest token
 
-longest_at : (b : ℕ) (bytes : List ℕ) (n m : ℕ) → front (b ∷ bytes) ≡ Some n → m ≤ length (b ∷ bytes) → IsToken (take m (b ∷ bytes)) → m ≤ n
+longest_at : (b : ℕ) (bytes : List ℕ) (n m : ℕ) → longest_token (b ∷ bytes) ≡ Some n → m ≤ length (b ∷ bytes) → IsToken (take m (b ∷ bytes)) → m ≤ n
 longest_at b bytes n zero e le h = omega arith
 longest_at b bytes n (suc k) e le h = bound b bytes n (suc k) (is_word_byte b) (b == 34) refl refl e (begun h b bytes k (omega arith) refl)
 
-pub front_longest : (bytes : List ℕ) (n : ℕ) → front bytes ≡ Some n → IsLongest bytes n
+pub front_longest : (bytes : List ℕ) (n : ℕ) → longest_token bytes ≡ Some n → IsLongest bytes n
 front_longest [] n e = absurd cc
 front_longest (b ∷ bytes) n e =
     let t = token_at b bytes n (is_word_byte b) (b == 34) refl refl e in
     record { within = t.within; token = t.token; longest = λ m le h. longest_at b bytes n m e le h }
 
-none_at : (b : ℕ) (bytes : List ℕ) (m : ℕ) → front (b ∷ bytes) ≡ None → m ≤ length (b ∷ bytes) → IsToken (take m (b ∷ bytes)) → ⊥
+none_at : (b : ℕ) (bytes : List ℕ) (m : ℕ) → longest_token (b ∷ bytes) ≡ None → m ≤ length (b ∷ bytes) → IsToken (take m (b ∷ bytes)) → ⊥
 none_at b bytes zero e le h = nonempty h refl
 none_at b bytes (suc k) e le h = ruled_out b bytes (suc k) (is_word_byte b) (b == 34) refl refl e (begun h b bytes k (omega arith) refl)
 
-pub front_none : (b : ℕ) (bytes : List ℕ) → front (b ∷ bytes) ≡ None → BeginsNone (b ∷ bytes)
+pub front_none : (b : ℕ) (bytes : List ℕ) → longest_token (b ∷ bytes) ≡ None → BeginsNone (b ∷ bytes)
 front_none b bytes e = λ m le h. none_at b bytes m e le h
 
 -- a token has a byte

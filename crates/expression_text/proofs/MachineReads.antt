@@ -16,35 +16,35 @@ use Rattle.expression_text.specs.declared.word.PlaceWord.{PlaceWord}
 use Rattle.expression_text.specs.declared.word.PlaceWord.TheVariants as place
 use Rattle.expression_text.specs.Expression.{Expression, Number, One, Two, Over, Var, Load, Global, Clock, Events, Size}
 use Rattle.expression_text.specs.Spelling.{is_word, number_of, node_of_word, binary_sign, binary_of, unary_sign, unary_of, agg_word, agg_of, place_word, place_of}
-use Rattle.expression_text.specs.Grammar.{UNARY, FIRST, operator_level, left_level, IsAt, higher, two, one, number, variable, brackets, over, load, global, clock, events, size, IsExpr, BeginsExpr}
-use Rattle.expression_text.specs.Machine.{PendingOperator, Left, Front, Inside, MachineState, Want, Have, Part, settle_operators, after_operator, closing, is_closed_with, enclose, close, Went, More, Whole, Opens, when, only_if, at_place, begin_as, begun_by, onward, lead, want_sign, want_number, have_as, step, steps, whole_expression, whole}
+use Rattle.expression_text.specs.Grammar.{UNARY, FIRST, operator_level, left_level, IsExprAtLevel, higher, two, one, number, variable, brackets, over, load, global, clock, events, size, IsExpr, BeginsExpr}
+use Rattle.expression_text.specs.Machine.{PendingOperator, Left, Front, Inside, MachineState, Want, Have, Part, settle_operators, after_operator, closing, is_closed_with, enclose_expression, close, TokenWent, More, Whole, Opens, went_when, went_only_if, at_place, begin_as, begun_by_token, onward_token, lead_token, step_wanting_sign, step_wanting_number, have_as, machine_step, machine_steps, whole_expression, whole}
 use Rattle.expression_text.proofs.SettledOperators.{tested, left_high, left_low, Fits, fits_more, fits_unary, settle_stops, operator_goes, operator_gave}
 use Rattle.expression_text.proofs.KnownWords.{same_bytes, binary_is, binary_again, unary_is, agg_is, place_is, place_again, sign_read, agg_read, bracket_read, dollar_read, at_read, closing_again, zero_is}
 
 module _ (names : List (List ℕ)) where
   -- what is spelled at a level is spelled at each lower one
-  pub weaken : (m k : ℕ) (ts : List (List ℕ)) (x : Expression) → k ≤ m → IsAt names m ts x → IsAt names k ts x
-  weaken zero k ts x le h = subst (λ (j : ℕ). IsAt names j ts x) (let e : zero ≡ k = omega arith in e) h
+  pub weaken : (m k : ℕ) (ts : List (List ℕ)) (x : Expression) → k ≤ m → IsExprAtLevel names m ts x → IsExprAtLevel names k ts x
+  weaken zero k ts x le h = subst (λ (j : ℕ). IsExprAtLevel names j ts x) (let e : zero ≡ k = omega arith in e) h
   weaken (suc m) k ts x le h = elim (tested (nat_le k m)) [
     | inl t ↦ weaken m k ts x (leb-true k m t) (higher h)
-    | inr f ↦ subst (λ (j : ℕ). IsAt names j ts x) (let e : suc m ≡ k = omega (arith, leb-false k m f) in e) h
+    | inr f ↦ subst (λ (j : ℕ). IsExprAtLevel names j ts x) (let e : suc m ≡ k = omega (arith, leb-false k m f) in e) h
   ]
 
   -- ---- what is spelled is read
 
-  pub steps_append : (o : Option MachineState) (a b : List (List ℕ)) → steps names o (a ++ b) ≡ steps names (steps names o a) b
+  pub steps_append : (o : Option MachineState) (a b : List (List ℕ)) → machine_steps names o (a ++ b) ≡ machine_steps names (machine_steps names o a) b
   steps_append None [] [] = refl
   steps_append None [] (k ∷ ks) = refl
   steps_append None (k ∷ a) [] = refl
   steps_append None (k ∷ a) (j ∷ b) = refl
   steps_append (Some st) [] b = refl
-  steps_append (Some st) (k ∷ a) b = steps_append (step names st k) a b
+  steps_append (Some st) (k ∷ a) b = steps_append (machine_step names st k) a b
 
-  steps_none : (ks : List (List ℕ)) → steps names None ks ≡ None
+  steps_none : (ks : List (List ℕ)) → machine_steps names None ks ≡ None
   steps_none [] = refl
   steps_none (k ∷ ks) = refl
 
-  reached : (o : Option MachineState) (ks : List (List ℕ)) (st : MachineState) → steps names o ks ≡ Some st → (st : MachineState) × (o ≡ Some st)
+  reached : (o : Option MachineState) (ks : List (List ℕ)) (st : MachineState) → machine_steps names o ks ≡ Some st → (st : MachineState) × (o ≡ Some st)
   reached None ks st e = absurd (let f = sym (steps_none ks) ∙ e in cc)
   reached (Some st) ks last e = (st, refl)
 
@@ -52,40 +52,40 @@ module _ (names : List (List ℕ)) where
   pub record Reads (k : ℕ) (s : List PendingOperator) (ts : List (List ℕ)) (x : Expression) : Type 0 where
     pub after : List PendingOperator
     pub last : Expression
-    pub reads : steps names (Some (Want s)) ts ≡ Some (Have after last)
+    pub reads : machine_steps names (Some (Want s)) ts ≡ Some (Have after last)
     pub settles : (m : ℕ) → m ≤ k → settle_operators m after last ≡ settle_operators m s x
 
   -- what is enclosed, with the token that closes it
-  closed : (o : Opening) (s : List PendingOperator) (a : List (List ℕ)) (x : Expression) → Reads 0 (Inside o ∷ s) a x → steps names (Some (Want (Inside o ∷ s))) (a ++ closing o ∷ []) ≡ Some (Have s (enclose o x))
+  closed : (o : Opening) (s : List PendingOperator) (a : List (List ℕ)) (x : Expression) → Reads 0 (Inside o ∷ s) a x → machine_steps names (Some (Want (Inside o ∷ s))) (a ++ closing o ∷ []) ≡ Some (Have s (enclose_expression o x))
   closed o s a x r =
       let k = closing o in
       let p : settle_operators 0 r.after r.last ≡ (Inside o ∷ s, x) = r.settles 0 (omega arith) in
       let again = closing_again o in
-      let q : step names (Have r.after r.last) k ≡ Some (Have s (enclose o x)) =
-      ap (λ (b : Option Binary). have_as b r.after r.last k) again.0 ∙ ap (close k) p ∙ ap (λ (b : Bool). cond b (Some (Have s (enclose o x))) None) again.1 in
-      steps_append (Some (Want (Inside o ∷ s))) a (k ∷ []) ∙ ap (λ (o : Option MachineState). steps names o (k ∷ [])) r.reads ∙ ap (λ (o : Option MachineState). steps names o []) q
+      let q : machine_step names (Have r.after r.last) k ≡ Some (Have s (enclose_expression o x)) =
+      ap (λ (b : Option Binary). have_as b r.after r.last k) again.0 ∙ ap (close k) p ∙ ap (λ (b : Bool). cond b (Some (Have s (enclose_expression o x))) None) again.1 in
+      steps_append (Some (Want (Inside o ∷ s))) a (k ∷ []) ∙ ap (λ (o : Option MachineState). machine_steps names o (k ∷ [])) r.reads ∙ ap (λ (o : Option MachineState). machine_steps names o []) q
 
   -- a fixed sequence in front of the rest
-  variable_steps : (s : List PendingOperator) (word : List ℕ) → is_word word ≡ true → steps names (Some (Want s)) (codes "$" ∷ word ∷ []) ≡ Some (Have s (Var word))
+  variable_steps : (s : List PendingOperator) (word : List ℕ) → is_word word ≡ true → machine_steps names (Some (Want s)) (codes "$" ∷ word ∷ []) ≡ Some (Have s (Var word))
   variable_steps s word e =
-      ap (λ (o : Option MachineState). steps names o (word ∷ [])) (dollar_read names s) ∙ ap (λ (b : Bool). steps names (lead s (only_if b (Whole (Var word)))) []) e
+      ap (λ (o : Option MachineState). machine_steps names o (word ∷ [])) (dollar_read names s) ∙ ap (λ (b : Bool). machine_steps names (lead_token s (went_only_if b (Whole (Var word)))) []) e
 
-  agg_steps : (s : List PendingOperator) (a : Agg) (rest : List (List ℕ)) → steps names (Some (Want s)) (agg_word a ∷ codes "(" ∷ rest) ≡ steps names (Some (Want (Inside (opening.Call a) ∷ s))) rest
-  agg_steps s a rest = ap (λ (o : Option MachineState). steps names o (codes "(" ∷ rest)) (agg_read names s a)
+  agg_steps : (s : List PendingOperator) (a : Agg) (rest : List (List ℕ)) → machine_steps names (Some (Want s)) (agg_word a ∷ codes "(" ∷ rest) ≡ machine_steps names (Some (Want (Inside (opening.Call a) ∷ s))) rest
+  agg_steps s a rest = ap (λ (o : Option MachineState). machine_steps names o (codes "(" ∷ rest)) (agg_read names s a)
 
-  place_steps : (s : List PendingOperator) (name : List ℕ) (p : PlaceWord) (rest : List (List ℕ)) → is_word name ≡ true → steps names (Some (Want s)) (codes "@" ∷ name ∷ codes "." ∷ place_word p ∷ rest) ≡ steps names (lead s (Some (at_place (node_of_word names name) p))) rest
+  place_steps : (s : List PendingOperator) (name : List ℕ) (p : PlaceWord) (rest : List (List ℕ)) → is_word name ≡ true → machine_steps names (Some (Want s)) (codes "@" ∷ name ∷ codes "." ∷ place_word p ∷ rest) ≡ machine_steps names (lead_token s (Some (at_place (node_of_word names name) p))) rest
   place_steps s name p rest e =
       let node = node_of_word names name in
-      ap (λ (o : Option MachineState). steps names o (name ∷ codes "." ∷ place_word p ∷ rest)) (at_read names s)
-      ∙ ap (λ (b : Bool). steps names (lead s (only_if b (More (half.Node node)))) (codes "." ∷ place_word p ∷ rest)) e
-      ∙ ap (λ (o : Option PlaceWord). steps names (lead s (when o (at_place node))) rest) (place_again p)
+      ap (λ (o : Option MachineState). machine_steps names o (name ∷ codes "." ∷ place_word p ∷ rest)) (at_read names s)
+      ∙ ap (λ (b : Bool). machine_steps names (lead_token s (went_only_if b (More (half.Node node)))) (codes "." ∷ place_word p ∷ rest)) e
+      ∙ ap (λ (o : Option PlaceWord). machine_steps names (lead_token s (went_when o (at_place node))) rest) (place_again p)
 
-  global_steps : (s : List PendingOperator) (name word : List ℕ) (n : ℕ) → is_word name ≡ true → number_of word ≡ Some n → steps names (Some (Want s)) (codes "@" ∷ name ∷ codes "." ∷ codes "global" ∷ codes "[" ∷ word ∷ codes "]" ∷ []) ≡ Some (Have s (Global (node_of_word names name) n))
+  global_steps : (s : List PendingOperator) (name word : List ℕ) (n : ℕ) → is_word name ≡ true → number_of word ≡ Some n → machine_steps names (Some (Want s)) (codes "@" ∷ name ∷ codes "." ∷ codes "global" ∷ codes "[" ∷ word ∷ codes "]" ∷ []) ≡ Some (Have s (Global (node_of_word names name) n))
   global_steps s name word n e f =
       place_steps s name place.Global (codes "[" ∷ word ∷ codes "]" ∷ []) e
-      ∙ ap (λ (o : Option ℕ). steps names (lead s (when o (λ k. More (half.Indexed (node_of_word names name) k)))) (codes "]" ∷ [])) f
+      ∙ ap (λ (o : Option ℕ). machine_steps names (lead_token s (went_when o (λ k. More (half.Indexed (node_of_word names name) k)))) (codes "]" ∷ [])) f
 
-  pub read_again : {k : ℕ} {ts : List (List ℕ)} {x : Expression} → IsAt names k ts x → (s : List PendingOperator) → Fits k s → Reads k s ts x
+  pub read_again : {k : ℕ} {ts : List (List ℕ)} {x : Expression} → IsExprAtLevel names k ts x → (s : List PendingOperator) → Fits k s → Reads k s ts x
   read_again {k} {ts} {x} (higher h) s fits =
       let r = read_again h s (fits_more k (suc k) s (omega arith) fits) in
       record { after = r.after; last = r.last; reads = r.reads; settles = λ m le. r.settles m (omega arith) }
@@ -94,22 +94,22 @@ module _ (names : List (List ℕ)) where
       let second = read_again q (Left op x ∷ s) (let lt : operator_level op < suc (operator_level op) = omega arith in lt) in
       let stops : settle_operators (left_level op) first.after first.last ≡ (s, x) = first.settles (left_level op) (omega arith) ∙ settle_stops (left_level op) s x (left_low op) (fits_more (operator_level op) (left_level op) s (left_high op) fits) in
       let sign = binary_sign op in
-      let goes : step names (Have first.after first.last) sign ≡ Some (Want (Left op x ∷ s)) =
+      let goes : machine_step names (Have first.after first.last) sign ≡ Some (Want (Left op x ∷ s)) =
       ap (λ (b : Option Binary). have_as b first.after first.last sign) (binary_again op) ∙ ap (after_operator op) stops ∙ operator_goes op s x fits in
       record {
         after = second.after;
         last = second.last;
-        reads = steps_append (Some (Want s)) a (sign ∷ b) ∙ ap (λ (o : Option MachineState). steps names o (sign ∷ b)) first.reads ∙ ap (λ (o : Option MachineState). steps names o b) goes ∙ second.reads;
+        reads = steps_append (Some (Want s)) a (sign ∷ b) ∙ ap (λ (o : Option MachineState). machine_steps names o (sign ∷ b)) first.reads ∙ ap (λ (o : Option MachineState). machine_steps names o b) goes ∙ second.reads;
         settles = λ m le. second.settles m (omega arith) ∙ (rw (le-leb m (operator_level op) le) refl);
       }
   read_again (one {a} {x} op p) s fits =
       let r = read_again p (Front op ∷ s) (let le : UNARY ≤ UNARY = omega arith in le) in
-      record { after = r.after; last = r.last; reads = ap (λ (o : Option MachineState). steps names o a) (sign_read names s op) ∙ r.reads; settles = r.settles }
-  read_again (number word n e) s fits = record { after = s; last = Number n; reads = ap (λ (o : Option ℕ). steps names (want_number o s word) []) e; settles = λ m le. refl }
+      record { after = r.after; last = r.last; reads = ap (λ (o : Option MachineState). machine_steps names o a) (sign_read names s op) ∙ r.reads; settles = r.settles }
+  read_again (number word n e) s fits = record { after = s; last = Number n; reads = ap (λ (o : Option ℕ). machine_steps names (step_wanting_number o s word) []) e; settles = λ m le. refl }
   read_again (variable word e) s fits = record { after = s; last = Var word; reads = variable_steps s word e; settles = λ m le. refl }
   read_again (brackets {a} {x} p) s fits =
       let inner = closed opening.Bracket s a x (read_again p (Inside opening.Bracket ∷ s) tt) in
-      record { after = s; last = x; reads = ap (λ (o : Option MachineState). steps names o (a ++ codes ")" ∷ [])) (bracket_read names s) ∙ inner; settles = λ m le. refl }
+      record { after = s; last = x; reads = ap (λ (o : Option MachineState). machine_steps names o (a ++ codes ")" ∷ [])) (bracket_read names s) ∙ inner; settles = λ m le. refl }
   read_again (over {a} {x} agg p) s fits =
       let inner = closed (opening.Call agg) s a x (read_again p (Inside (opening.Call agg) ∷ s) tt) in
       record { after = s; last = Over agg x; reads = agg_steps s agg (a ++ codes ")" ∷ []) ∙ inner; settles = λ m le. refl }
@@ -123,16 +123,16 @@ module _ (names : List (List ℕ)) where
   read_again (size name e) s fits = record { after = s; last = Size (node_of_word names name); reads = place_steps s name place.Size [] e; settles = λ m le. refl }
 
   -- what is spelled is a whole expression
-  pub whole_again : (ts : List (List ℕ)) (x : Expression) → IsExpr names ts x → (st : MachineState) × (steps names (Some (Want [])) ts ≡ Some st) × (whole st ≡ Some x)
+  pub whole_again : (ts : List (List ℕ)) (x : Expression) → IsExpr names ts x → (st : MachineState) × (machine_steps names (Some (Want [])) ts ≡ Some st) × (whole st ≡ Some x)
   whole_again ts x h =
       let r = read_again h [] tt in
       (Have r.after r.last, r.reads, ap whole_expression (r.settles 0 (omega arith)))
 
   -- what begins an expression is read
-  pub begins_reads : (ts : List (List ℕ)) → BeginsExpr names ts → (st : MachineState) × (steps names (Some (Want [])) ts ≡ Some st)
+  pub begins_reads : (ts : List (List ℕ)) → BeginsExpr names ts → (st : MachineState) × (machine_steps names (Some (Want [])) ts ≡ Some st)
   begins_reads ts b =
       let r = read_again b.spelled [] tt in
-      reached (steps names (Some (Want [])) ts) b.rest (Have r.after r.last) (sym (steps_append (Some (Want [])) ts b.rest) ∙ r.reads)
+      reached (machine_steps names (Some (Want [])) ts) b.rest (Have r.after r.last) (sym (steps_append (Some (Want [])) ts b.rest) ∙ r.reads)
 
   -- ---- what the machine reads is spelled
 
@@ -155,22 +155,22 @@ module _ (names : List (List ℕ)) where
   IsHalf (half.Named agg) ts = ts ≡ agg_word agg ∷ []
 
   -- the outcome of an operand that has begun
-  abbrev pub Came : Went → List (List ℕ) → Type 0
+  abbrev pub Came : TokenWent → List (List ℕ) → Type 0
   Came (More h) ts = IsHalf h ts
-  Came (Whole x) ts = IsAt names FIRST ts x
+  Came (Whole x) ts = IsExprAtLevel names FIRST ts x
   Came (Opens o) ts = IsOpening o ts
 
   -- the tokens that lead to what waits
   abbrev pub Leads : List PendingOperator → List (List ℕ) → Type 0
   Leads [] w = w ≡ []
-  Leads (Left op x ∷ s) w = (b a : List (List ℕ)) × (w ≡ b ++ (a ++ binary_sign op ∷ [])) × Leads s b × IsAt names (left_level op) a x × Fits (operator_level op) s
+  Leads (Left op x ∷ s) w = (b a : List (List ℕ)) × (w ≡ b ++ (a ++ binary_sign op ∷ [])) × Leads s b × IsExprAtLevel names (left_level op) a x × Fits (operator_level op) s
   Leads (Front op ∷ s) w = (b : List (List ℕ)) × (w ≡ b ++ unary_sign op ∷ []) × Leads s b
   Leads (Inside o ∷ s) w = (b ts : List (List ℕ)) × (w ≡ b ++ ts) × Leads s b × IsOpening o ts
 
   -- the tokens that lead to a state
   abbrev pub Stands : MachineState → List (List ℕ) → Type 0
   Stands (Want s) w = Leads s w
-  Stands (Have s x) w = (b a : List (List ℕ)) × (w ≡ b ++ a) × Leads s b × IsAt names FIRST a x
+  Stands (Have s x) w = (b a : List (List ℕ)) × (w ≡ b ++ a) × Leads s b × IsExprAtLevel names FIRST a x
   Stands (Part s h) w = (b ts : List (List ℕ)) × (w ≡ b ++ ts) × Leads s b × IsHalf h ts
 
   -- what waits and an operand of this level
@@ -179,18 +179,18 @@ module _ (names : List (List ℕ)) where
     pub after : List (List ℕ)
     pub parts : w ≡ before ++ after
     pub leads : Leads p.0 before
-    pub spelled : IsAt names m after p.1
+    pub spelled : IsExprAtLevel names m after p.1
     pub fits : Fits m p.0
 
   moved : (m : ℕ) (v w : List (List ℕ)) (p q : List PendingOperator × Expression) → v ≡ w → p ≡ q → Settled m v p → Settled m w q
   moved m v w p q e f h = subst (λ (r : List PendingOperator × Expression). Settled m w r) f (subst (λ (u : List (List ℕ)). Settled m u p) e h)
 
-  settle_keeps : (m k : ℕ) (s : List PendingOperator) (x : Expression) (b a : List (List ℕ)) → m ≤ 4 → m ≤ k → Fits k s → Leads s b → IsAt names k a x → Settled m (b ++ a) (settle_operators m s x)
+  settle_keeps : (m k : ℕ) (s : List PendingOperator) (x : Expression) (b a : List (List ℕ)) → m ≤ 4 → m ≤ k → Fits k s → Leads s b → IsExprAtLevel names k a x → Settled m (b ++ a) (settle_operators m s x)
   settle_keeps m k [] x b a small le fits leads h = record { before = b; after = a; parts = refl; leads = leads; spelled = weaken k m a x le h; fits = tt }
   settle_keeps m k (Left op y ∷ s) x b a small le fits leads h =
       elim (tested (nat_le m (operator_level op))) [
         | inl t ↦
-            let both : IsAt names (operator_level op) (leads.1 ++ binary_sign op ∷ a) (Two op y x) = two op leads.4 (weaken k (suc (operator_level op)) a x fits h) in
+            let both : IsExprAtLevel names (operator_level op) (leads.1 ++ binary_sign op ∷ a) (Two op y x) = two op leads.4 (weaken k (suc (operator_level op)) a x fits h) in
             let rest = settle_keeps m (operator_level op) s (Two op y x) leads.0 (leads.1 ++ binary_sign op ∷ a) small (leb-true m (operator_level op) t) leads.5 leads.3 both in
             let parts : leads.0 ++ (leads.1 ++ binary_sign op ∷ a) ≡ b ++ a = rw leads.2 (simp append_assoc) in
             moved m _ _ (settle_operators m s (Two op y x)) (settle_operators m (Left op y ∷ s) x) parts (rw t refl) rest
@@ -198,7 +198,7 @@ module _ (names : List (List ℕ)) where
             moved m _ _ (Left op y ∷ s, x) (settle_operators m (Left op y ∷ s) x) (let e : b ++ a ≡ b ++ a = refl in e) (rw f refl) (record { before = b; after = a; parts = refl; leads = leads; spelled = weaken k m a x le h; fits = leb-false m (operator_level op) f })
       ]
   settle_keeps m k (Front op ∷ s) x b a small le fits leads h =
-      let both : IsAt names UNARY (unary_sign op ∷ a) (One op x) = one op (weaken k UNARY a x fits h) in
+      let both : IsExprAtLevel names UNARY (unary_sign op ∷ a) (One op x) = one op (weaken k UNARY a x fits h) in
       let rest = settle_keeps m UNARY s (One op x) leads.0 (unary_sign op ∷ a) small (omega arith) (fits_unary UNARY s (omega arith)) leads.2 both in
       let parts : leads.0 ++ (unary_sign op ∷ a) ≡ b ++ a = rw leads.1 (simp append_assoc) in
       moved m _ _ (settle_operators m s (One op x)) (settle_operators m (Front op ∷ s) x) parts refl rest
@@ -220,41 +220,41 @@ module _ (names : List (List ℕ)) where
 
   -- the places of a node that a name names
   module _ (name : List ℕ) (n : NodeName) (is : is_word name ≡ true) (names_it : node_of_word names name ≡ n) where
-    load_of : {a : List (List ℕ)} {x : Expression} (width : Width) → IsAt names 0 a x → IsAt names FIRST (codes "@" ∷ name ∷ codes "." ∷ place_word (place.Load width) ∷ codes "[" ∷ (a ++ codes "]" ∷ [])) (Load n width x)
-    load_of {a} {x} width h = subst (λ (m : NodeName). IsAt names FIRST (codes "@" ∷ name ∷ codes "." ∷ place_word (place.Load width) ∷ codes "[" ∷ (a ++ codes "]" ∷ [])) (Load m width x)) names_it (load name width is h)
+    load_of : {a : List (List ℕ)} {x : Expression} (width : Width) → IsExprAtLevel names 0 a x → IsExprAtLevel names FIRST (codes "@" ∷ name ∷ codes "." ∷ place_word (place.Load width) ∷ codes "[" ∷ (a ++ codes "]" ∷ [])) (Load n width x)
+    load_of {a} {x} width h = subst (λ (m : NodeName). IsExprAtLevel names FIRST (codes "@" ∷ name ∷ codes "." ∷ place_word (place.Load width) ∷ codes "[" ∷ (a ++ codes "]" ∷ [])) (Load m width x)) names_it (load name width is h)
 
-    global_of : (word : List ℕ) (k : ℕ) → number_of word ≡ Some k → IsAt names FIRST (codes "@" ∷ name ∷ codes "." ∷ codes "global" ∷ codes "[" ∷ word ∷ codes "]" ∷ []) (Global n k)
-    global_of word k e = subst (λ (m : NodeName). IsAt names FIRST (codes "@" ∷ name ∷ codes "." ∷ codes "global" ∷ codes "[" ∷ word ∷ codes "]" ∷ []) (Global m k)) names_it (global name word k is e)
+    global_of : (word : List ℕ) (k : ℕ) → number_of word ≡ Some k → IsExprAtLevel names FIRST (codes "@" ∷ name ∷ codes "." ∷ codes "global" ∷ codes "[" ∷ word ∷ codes "]" ∷ []) (Global n k)
+    global_of word k e = subst (λ (m : NodeName). IsExprAtLevel names FIRST (codes "@" ∷ name ∷ codes "." ∷ codes "global" ∷ codes "[" ∷ word ∷ codes "]" ∷ []) (Global m k)) names_it (global name word k is e)
 
-    clock_of : IsAt names FIRST (codes "@" ∷ name ∷ codes "." ∷ codes "clock" ∷ []) (Clock n)
-    clock_of = subst (λ (m : NodeName). IsAt names FIRST (codes "@" ∷ name ∷ codes "." ∷ codes "clock" ∷ []) (Clock m)) names_it (clock name is)
+    clock_of : IsExprAtLevel names FIRST (codes "@" ∷ name ∷ codes "." ∷ codes "clock" ∷ []) (Clock n)
+    clock_of = subst (λ (m : NodeName). IsExprAtLevel names FIRST (codes "@" ∷ name ∷ codes "." ∷ codes "clock" ∷ []) (Clock m)) names_it (clock name is)
 
-    events_of : IsAt names FIRST (codes "@" ∷ name ∷ codes "." ∷ codes "events" ∷ []) (Events n)
-    events_of = subst (λ (m : NodeName). IsAt names FIRST (codes "@" ∷ name ∷ codes "." ∷ codes "events" ∷ []) (Events m)) names_it (events name is)
+    events_of : IsExprAtLevel names FIRST (codes "@" ∷ name ∷ codes "." ∷ codes "events" ∷ []) (Events n)
+    events_of = subst (λ (m : NodeName). IsExprAtLevel names FIRST (codes "@" ∷ name ∷ codes "." ∷ codes "events" ∷ []) (Events m)) names_it (events name is)
 
-    size_of : IsAt names FIRST (codes "@" ∷ name ∷ codes "." ∷ codes "size" ∷ []) (Size n)
-    size_of = subst (λ (m : NodeName). IsAt names FIRST (codes "@" ∷ name ∷ codes "." ∷ codes "size" ∷ []) (Size m)) names_it (size name is)
+    size_of : IsExprAtLevel names FIRST (codes "@" ∷ name ∷ codes "." ∷ codes "size" ∷ []) (Size n)
+    size_of = subst (λ (m : NodeName). IsExprAtLevel names FIRST (codes "@" ∷ name ∷ codes "." ∷ codes "size" ∷ []) (Size m)) names_it (size name is)
 
   -- what opens, what is in it and what closes it
-  enclosed_closed : (o : Opening) (ts a : List (List ℕ)) (x : Expression) → IsOpening o ts → IsAt names 0 a x → IsAt names FIRST (ts ++ (a ++ closing o ∷ [])) (enclose o x)
+  enclosed_closed : (o : Opening) (ts a : List (List ℕ)) (x : Expression) → IsOpening o ts → IsExprAtLevel names 0 a x → IsExprAtLevel names FIRST (ts ++ (a ++ closing o ∷ [])) (enclose_expression o x)
   enclosed_closed opening.Bracket ts a x i h = rw i (brackets h)
   enclosed_closed (opening.Call agg) ts a x i h = rw i (over agg h)
   enclosed_closed (opening.Load node width) ts a x i h = rw i.3 (load_of i.0 node i.1 i.2 width h)
 
-  enclosed_first : (o : Opening) (k : List ℕ) (ts a : List (List ℕ)) (x : Expression) → IsOpening o ts → IsAt names 0 a x → is_closed_with o k ≡ true → IsAt names FIRST (ts ++ (a ++ k ∷ [])) (enclose o x)
-  enclosed_first o k ts a x i h e = subst (λ (t : List ℕ). IsAt names FIRST (ts ++ (a ++ t ∷ [])) (enclose o x)) (sym (same_bytes k (closing o) e)) (enclosed_closed o ts a x i h)
+  enclosed_first : (o : Opening) (k : List ℕ) (ts a : List (List ℕ)) (x : Expression) → IsOpening o ts → IsExprAtLevel names 0 a x → is_closed_with o k ≡ true → IsExprAtLevel names FIRST (ts ++ (a ++ k ∷ [])) (enclose_expression o x)
+  enclosed_first o k ts a x i h e = subst (λ (t : List ℕ). IsExprAtLevel names FIRST (ts ++ (a ++ t ∷ [])) (enclose_expression o x)) (sym (same_bytes k (closing o) e)) (enclosed_closed o ts a x i h)
 
   close_keeps : (k : List ℕ) (s : List PendingOperator) (x : Expression) (w : List (List ℕ)) (st : MachineState) → Settled 0 w (s, x) → close k (s, x) ≡ Some st → Stands st (w ++ k ∷ [])
   close_keeps k [] x w st h e = absurd cc
   close_keeps k (Left op y ∷ s) x w st h e = absurd cc
   close_keeps k (Front op ∷ s) x w st h e = absurd cc
   close_keeps k (Inside o ∷ s) x w st h e =
-      let c = kept (is_closed_with o k) (Have s (enclose o x)) st e in
+      let c = kept (is_closed_with o k) (Have s (enclose_expression o x)) st e in
       let l = h.leads in
       let parts : w ++ k ∷ [] ≡ l.0 ++ (l.1 ++ (h.after ++ k ∷ [])) = rw (h.parts, l.2) (simp append_assoc) in
       subst (λ (t : MachineState). Stands t (w ++ k ∷ [])) c.1 (l.0, l.1 ++ (h.after ++ k ∷ []), parts, l.3, enclosed_first o k l.1 h.after x l.4 h.spelled c.0)
 
-  have_keeps : (s : List PendingOperator) (x : Expression) (w b a : List (List ℕ)) (k : List ℕ) (st : MachineState) (o : Option Binary) → binary_of k ≡ o → w ≡ b ++ a → Leads s b → IsAt names FIRST a x → have_as o s x k ≡ Some st → Stands st (w ++ k ∷ [])
+  have_keeps : (s : List PendingOperator) (x : Expression) (w b a : List (List ℕ)) (k : List ℕ) (st : MachineState) (o : Option Binary) → binary_of k ≡ o → w ≡ b ++ a → Leads s b → IsExprAtLevel names FIRST a x → have_as o s x k ≡ Some st → Stands st (w ++ k ∷ [])
   have_keeps s x w b a k st (Some op) is parts leads h e =
       let settled = settle_keeps (left_level op) FIRST s x b a (left_low op) (omega (arith, left_low op)) (fits_unary FIRST s (omega arith)) leads h in
       subst (λ (t : List ℕ). Stands st (w ++ t ∷ [])) (sym (binary_is k op is)) (operator_keeps op (settle_operators (left_level op) s x) w st (moved (left_level op) _ w _ _ (sym parts) refl settled) e)
@@ -263,23 +263,23 @@ module _ (names : List (List ℕ)) where
       let p = settle_operators 0 s x in
       close_keeps k p.0 p.1 w st (moved 0 _ w _ _ (sym parts) refl settled) e
 
-  when_some : {A : Type 0} (o : Option A) (f : A → Went) (g : Went) → when o f ≡ Some g → (a : A) × (o ≡ Some a) × (f a ≡ g)
+  when_some : {A : Type 0} (o : Option A) (f : A → TokenWent) (g : TokenWent) → went_when o f ≡ Some g → (a : A) × (o ≡ Some a) × (f a ≡ g)
   when_some None f g e = absurd cc
   when_some (Some a) f g e = (a, refl, cc)
 
-  came : (a b : Went) (ts : List (List ℕ)) → a ≡ b → Came a ts → Came b ts
-  came a b ts e h = subst (λ (g : Went). Came g ts) e h
+  came : (a b : TokenWent) (ts : List (List ℕ)) → a ≡ b → Came a ts → Came b ts
+  came a b ts e h = subst (λ (g : TokenWent). Came g ts) e h
 
-  given_some : (b : Bool) (f g : Went) → only_if b f ≡ Some g → (b ≡ true) × (f ≡ g)
+  given_some : (b : Bool) (f g : TokenWent) → went_only_if b f ≡ Some g → (b ≡ true) × (f ≡ g)
   given_some true f g e = (refl, cc)
   given_some false f g e = absurd cc
 
   -- a token where only this one is given
-  single : (text sign : List ℕ) (f g : Went) → only_if (bytes_eq text sign) f ≡ Some g → (text ∷ [] ≡ sign ∷ []) × (f ≡ g)
+  single : (text sign : List ℕ) (f g : TokenWent) → went_only_if (bytes_eq text sign) f ≡ Some g → (text ∷ [] ≡ sign ∷ []) × (f ≡ g)
   single text sign f g e =
       let p = given_some (bytes_eq text sign) f g e in (ap (λ (t : List ℕ). t ∷ []) (same_bytes text sign p.0), p.1)
 
-  begin_as_keeps : (o : Option Agg) (k : List ℕ) (g : Went) → agg_of k ≡ o → begin_as o k ≡ Some g → Came g (k ∷ [])
+  begin_as_keeps : (o : Option Agg) (k : List ℕ) (g : TokenWent) → agg_of k ≡ o → begin_as o k ≡ Some g → Came g (k ∷ [])
   begin_as_keeps (Some agg) k g i e = came (More (half.Named agg)) g _ (cc) (ap (λ (t : List ℕ). t ∷ []) (agg_is k agg i))
   begin_as_keeps None k g i e =
       elim (tested (bytes_eq k (codes "("))) [
@@ -292,7 +292,7 @@ module _ (names : List (List ℕ)) where
             ]
       ]
 
-  begin_keeps : (k : List ℕ) (g : Went) → begun_by k ≡ Some g → Came g (k ∷ [])
+  begin_keeps : (k : List ℕ) (g : TokenWent) → begun_by_token k ≡ Some g → Came g (k ∷ [])
   begin_keeps k g e = begin_as_keeps (agg_of k) k g refl e
 
   place_keeps : (name : List ℕ) (n : NodeName) (p : PlaceWord) → is_word name ≡ true → node_of_word names name ≡ n → Came (at_place n p) (codes "@" ∷ name ∷ codes "." ∷ place_word p ∷ [])
@@ -302,7 +302,7 @@ module _ (names : List (List ℕ)) where
   place_keeps name n place.Events e f = events_of name n e f
   place_keeps name n place.Size e f = size_of name n e f
 
-  onward_keeps : (h : Half) (k : List ℕ) (ts : List (List ℕ)) (g : Went) → IsHalf h ts → onward names h k ≡ Some g → Came g (ts ++ k ∷ [])
+  onward_keeps : (h : Half) (k : List ℕ) (ts : List (List ℕ)) (g : TokenWent) → IsHalf h ts → onward_token names h k ≡ Some g → Came g (ts ++ k ∷ [])
   onward_keeps half.Dollar k ts g h e = let p = given_some (is_word k) _ g e in came (Whole (Var k)) g _ p.1 (rw h (variable k p.0))
   onward_keeps half.At k ts g h e = let p = given_some (is_word k) _ g e in came (More (half.Node (node_of_word names k))) g _ p.1 (k, p.0, refl, rw h refl)
   onward_keeps (half.Node n) k ts g h e = let p = single k (codes ".") _ g e in came (More (half.Dotted n)) g _ p.1 (h.0, h.1, h.2, rw (h.3, p.0) refl)
@@ -317,32 +317,32 @@ module _ (names : List (List ℕ)) where
   onward_keeps (half.Indexed n m) k ts g h e = let p = single k (codes "]") _ g e in came (Whole (Global n m)) g _ p.1 (rw (h.5, p.0) (global_of h.0 n h.2 h.3 h.1 m h.4))
   onward_keeps (half.Named agg) k ts g h e = let p = single k (codes "(") _ g e in came (Opens (opening.Call agg)) g _ p.1 (rw (h, p.0) refl)
 
-  lead_keeps : (s : List PendingOperator) (o : Option Went) (b ts : List (List ℕ)) (st : MachineState) → Leads s b → ((g : Went) → o ≡ Some g → Came g ts) → lead s o ≡ Some st → Stands st (b ++ ts)
+  lead_keeps : (s : List PendingOperator) (o : Option TokenWent) (b ts : List (List ℕ)) (st : MachineState) → Leads s b → ((g : TokenWent) → o ≡ Some g → Came g ts) → lead_token s o ≡ Some st → Stands st (b ++ ts)
   lead_keeps s None b ts st leads h e = absurd cc
   lead_keeps s (Some (More half)) b ts st leads h e = stood (Part s half) st _ e (b, ts, refl, leads, h (More half) refl)
   lead_keeps s (Some (Whole x)) b ts st leads h e = stood (Have s x) st _ e (b, ts, refl, leads, h (Whole x) refl)
   lead_keeps s (Some (Opens o)) b ts st leads h e = stood (Want (Inside o ∷ s)) st _ e (b, ts, refl, leads, h (Opens o) refl)
 
-  want_sign_keeps : (s : List PendingOperator) (w : List (List ℕ)) (k : List ℕ) (o : Option Unary) (st : MachineState) → unary_of k ≡ o → Leads s w → want_sign o s k ≡ Some st → Stands st (w ++ k ∷ [])
-  want_sign_keeps s w k None st i h e = lead_keeps s (begun_by k) w (k ∷ []) st h (begin_keeps k) e
+  want_sign_keeps : (s : List PendingOperator) (w : List (List ℕ)) (k : List ℕ) (o : Option Unary) (st : MachineState) → unary_of k ≡ o → Leads s w → step_wanting_sign o s k ≡ Some st → Stands st (w ++ k ∷ [])
+  want_sign_keeps s w k None st i h e = lead_keeps s (begun_by_token k) w (k ∷ []) st h (begin_keeps k) e
   want_sign_keeps s w k (Some op) st i h e = stood (Want (Front op ∷ s)) st _ e (w, ap (λ (t : List ℕ). w ++ t ∷ []) (unary_is k op i), h)
 
-  want_keeps : (s : List PendingOperator) (w : List (List ℕ)) (k : List ℕ) (o : Option ℕ) (st : MachineState) → number_of k ≡ o → Leads s w → want_number o s k ≡ Some st → Stands st (w ++ k ∷ [])
+  want_keeps : (s : List PendingOperator) (w : List (List ℕ)) (k : List ℕ) (o : Option ℕ) (st : MachineState) → number_of k ≡ o → Leads s w → step_wanting_number o s k ≡ Some st → Stands st (w ++ k ∷ [])
   want_keeps s w k (Some n) st i h e = stood (Have s (Number n)) st _ e (w, k ∷ [], refl, h, number k n i)
   want_keeps s w k None st i h e = want_sign_keeps s w k (unary_of k) st refl h e
 
-  pub step_keeps : (st : MachineState) (w : List (List ℕ)) (k : List ℕ) (next : MachineState) → Stands st w → step names st k ≡ Some next → Stands next (w ++ k ∷ [])
+  pub step_keeps : (st : MachineState) (w : List (List ℕ)) (k : List ℕ) (next : MachineState) → Stands st w → machine_step names st k ≡ Some next → Stands next (w ++ k ∷ [])
   step_keeps (Want s) w k next h e = want_keeps s w k (number_of k) next refl h e
   step_keeps (Have s x) w k next h e = have_keeps s x w h.0 h.1 k next (binary_of k) refl h.2 h.3 h.4 e
   step_keeps (Part s p) w k next h e =
       subst (λ (u : List (List ℕ)). Stands next u) (let parts : h.0 ++ (h.1 ++ k ∷ []) ≡ w ++ k ∷ [] = rw h.2 (simp append_assoc) in parts)
-      (lead_keeps s (onward names p k) h.0 (h.1 ++ k ∷ []) next h.3 (λ g i. onward_keeps p k h.1 g h.4 i) e)
+      (lead_keeps s (onward_token names p k) h.0 (h.1 ++ k ∷ []) next h.3 (λ g i. onward_keeps p k h.1 g h.4 i) e)
 
-  pub steps_keep : (st : MachineState) (w ks : List (List ℕ)) (last : MachineState) → Stands st w → steps names (Some st) ks ≡ Some last → Stands last (w ++ ks)
+  pub steps_keep : (st : MachineState) (w ks : List (List ℕ)) (last : MachineState) → Stands st w → machine_steps names (Some st) ks ≡ Some last → Stands last (w ++ ks)
   steps_keep st w [] last h e = subst (λ (t : MachineState). Stands t (w ++ [])) (let i : st ≡ last = cc in i) (subst (λ (u : List (List ℕ)). Stands st u) (sym (append-nil w)) h)
   steps_keep st w (k ∷ ks) last h e =
-      let first = reached (step names st k) ks last e in
-      let more : steps names (Some first.0) ks ≡ Some last = ap (λ (o : Option MachineState). steps names o ks) (sym first.1) ∙ e in
+      let first = reached (machine_step names st k) ks last e in
+      let more : machine_steps names (Some first.0) ks ≡ Some last = ap (λ (o : Option MachineState). machine_steps names o ks) (sym first.1) ∙ e in
       subst (λ (u : List (List ℕ)). Stands last u) (append_assoc w (k ∷ []) ks) (steps_keep first.0 (w ++ k ∷ []) ks last (step_keeps st w k first.0 h first.1) more)
 
   -- ---- what was taken goes on to a whole expression
@@ -353,11 +353,11 @@ module _ (names : List (List ℕ)) where
   begins_is : (a b : List (List ℕ)) → a ≡ b → BeginsExpr names a → BeginsExpr names b
   begins_is a b e h = subst (BeginsExpr names) e h
 
-  completes : (k : ℕ) (s : List PendingOperator) (x : Expression) (b a : List (List ℕ)) → Leads s b → Fits k s → IsAt names k a x → BeginsExpr names (b ++ a)
+  completes : (k : ℕ) (s : List PendingOperator) (x : Expression) (b a : List (List ℕ)) → Leads s b → Fits k s → IsExprAtLevel names k a x → BeginsExpr names (b ++ a)
   completes k [] x b a leads fits h =
       begins_is a (b ++ a) (rw leads refl) (record { rest = []; whole = x; spelled = subst (λ (u : List (List ℕ)). IsExpr names u x) (sym (append-nil a)) (weaken k 0 a x (omega arith) h) })
   completes k (Left op y ∷ s) x b a leads fits h =
-      let both : IsAt names (operator_level op) (leads.1 ++ binary_sign op ∷ a) (Two op y x) = two op leads.4 (weaken k (suc (operator_level op)) a x fits h) in
+      let both : IsExprAtLevel names (operator_level op) (leads.1 ++ binary_sign op ∷ a) (Two op y x) = two op leads.4 (weaken k (suc (operator_level op)) a x fits h) in
       begins_is _ _ (let parts : leads.0 ++ (leads.1 ++ binary_sign op ∷ a) ≡ b ++ a = rw leads.2 (simp append_assoc) in parts)
       (completes (operator_level op) s (Two op y x) leads.0 (leads.1 ++ binary_sign op ∷ a) leads.3 leads.5 both)
   completes k (Front op ∷ s) x b a leads fits h =
@@ -365,14 +365,14 @@ module _ (names : List (List ℕ)) where
       (completes UNARY s (One op x) leads.0 (unary_sign op ∷ a) leads.2 (fits_unary UNARY s (omega arith)) (one op (weaken k UNARY a x fits h)))
   completes k (Inside o ∷ s) x b a leads fits h =
       let c = closing o in
-      let all = completes FIRST s (enclose o x) leads.0 (leads.1 ++ (a ++ c ∷ [])) leads.3 (fits_unary FIRST s (omega arith)) (enclosed_closed o leads.1 a x leads.4 (weaken k 0 a x (omega arith) h)) in
+      let all = completes FIRST s (enclose_expression o x) leads.0 (leads.1 ++ (a ++ c ∷ [])) leads.3 (fits_unary FIRST s (omega arith)) (enclosed_closed o leads.1 a x leads.4 (weaken k 0 a x (omega arith) h)) in
       begins_less (b ++ a) (c ∷ []) (begins_is _ _ (let parts : leads.0 ++ (leads.1 ++ (a ++ c ∷ [])) ≡ (b ++ a) ++ c ∷ [] = rw leads.2 (simp append_assoc) in parts) all)
 
   -- an operand that has begun goes on to a whole one
   abbrev Completes : List (List ℕ) → Type 0
-  Completes ts = (more : List (List ℕ)) × (x : Expression) × IsAt names FIRST (ts ++ more) x
+  Completes ts = (more : List (List ℕ)) × (x : Expression) × IsExprAtLevel names FIRST (ts ++ more) x
 
-  zero_in : IsAt names 0 (codes "0" ∷ []) (Number 0)
+  zero_in : IsExprAtLevel names 0 (codes "0" ∷ []) (Number 0)
   zero_in = weaken FIRST 0 _ _ (omega arith) (number (codes "0") 0 zero_is)
 
   half_finishes : (h : Half) (ts : List (List ℕ)) → IsHalf h ts → Completes ts

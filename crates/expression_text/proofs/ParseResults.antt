@@ -9,10 +9,10 @@ use Rattle.expression_text.specs.declared.stack.Mode.{Mode}
 use Rattle.expression_text.specs.declared.stack.Step.{Step}
 use Rattle.expression_text.specs.declared.stack.Step.TheVariants as stepped
 use Rattle.expression_text.specs.Expression.{Expression, expression_of}
-use Rattle.expression_text.specs.Lexing.{Lexed, texts}
+use Rattle.expression_text.specs.Lexing.{LexedLine, token_texts}
 use Rattle.expression_text.specs.Grammar.{IsExpr, TakesExpr, ParsedExpr}
-use Rattle.expression_text.specs.Machine.{MachineState, Want, step, steps, whole}
-use Rattle.expression_text.specs.inside.Frames.{state, Finishes, TakesToken}
+use Rattle.expression_text.specs.Machine.{MachineState, Want, machine_step, machine_steps, whole}
+use Rattle.expression_text.specs.inside.Frames.{machine_state, FinishesReading, TakesToken}
 use Rattle.expression_text.proofs.MachineReads.{Stands, steps_append, steps_keep, stands_begins, whole_says, whole_again, begins_reads}
 
 -- ---- lists
@@ -44,7 +44,7 @@ taken-more ts from at t le e =
 past : (ts : List (List ℕ)) (from at : ℕ) → from ≤ at → slice_get ts at ≡ None → at - from < length (drop from ts) → ⊥
 past ts from at le e lt = missing ts at e (omega (arith, length-drop from ts))
 
-finishes_as : (line : Lexed) (a b : MachineState) (at : ℕ) (result : Result (Expr × ℕ) ExprError) → whole a ≡ whole b → Finishes line a at result → Finishes line b at result
+finishes_as : (line : LexedLine) (a b : MachineState) (at : ℕ) (result : Result (Expr × ℕ) ExprError) → whole a ≡ whole b → FinishesReading line a at result → FinishesReading line b at result
 finishes_as line a b at (Ok r) e f = (sym e ∙ f.0, f.1)
 finishes_as line a b at (Err (Syntax column)) e f = (sym e ∙ f.0, f.1)
 finishes_as line a b at (Err NoNode) e f = f
@@ -57,12 +57,12 @@ module _ (names : List (List ℕ)) where
   pub record Reached (ts : List (List ℕ)) (from at : ℕ) (st : MachineState) : Type 0 where
     pub below : from ≤ at
     pub within : at - from ≤ length (drop from ts)
-    pub reads : steps names (Some (Want [])) (take (at - from) (drop from ts)) ≡ Some st
+    pub reads : machine_steps names (Some (Want [])) (take (at - from) (drop from ts)) ≡ Some st
 
   -- and the next one, if any, goes on with no expression
   pub record Stops (ts : List (List ℕ)) (from at : ℕ) (st : MachineState) : Type 0 where
     pub reached : Reached ts from at st
-    pub refused : at - from < length (drop from ts) → steps names (Some (Want [])) (take (at - from + 1) (drop from ts)) ≡ None
+    pub refused : at - from < length (drop from ts) → machine_steps names (Some (Want [])) (take (at - from + 1) (drop from ts)) ≡ None
 
   takes : (ts : List (List ℕ)) (from at : ℕ) (st : MachineState) → Stops ts from at st → TakesExpr names (drop from ts) (at - from)
   takes ts from at st h =
@@ -87,11 +87,11 @@ module _ (names : List (List ℕ)) where
       let i : again.0 ≡ st = cc in
       let e : ◌≡◌ {A = Option Expression} (Some x) None = sym again.2 ∙ ap whole i ∙ w in cc
 
-  pub parsed : (line : Lexed) (from at : ℕ) (st : MachineState) (result : Result (Expr × ℕ) ExprError) → Stops (texts line) from at st → Finishes line st at result → ParsedExpr names line from result
+  pub parsed : (line : LexedLine) (from at : ℕ) (st : MachineState) (result : Result (Expr × ℕ) ExprError) → Stops (token_texts line) from at st → FinishesReading line st at result → ParsedExpr names line from result
   parsed line from at st (Ok r) h f =
-      let ts = texts line in
+      let ts = token_texts line in
       subst (λ (n : ℕ). (from ≤ n) × TakesExpr names (drop from ts) (n - from) × IsExpr names (take (n - from) (drop from ts)) (expression_of r.0)) (sym f.1) (h.reached.below, takes ts from at st h, spelled ts from at st (expression_of r.0) h f.0)
-  parsed line from at st (Err (Syntax column)) h f = (at, f.1, h.reached.below, takes (texts line) from at st h, none (texts line) from at st h f.0)
+  parsed line from at st (Err (Syntax column)) h f = (at, f.1, h.reached.below, takes (token_texts line) from at st h, none (token_texts line) from at st h f.0)
   parsed line from at st (Err NoNode) h f = f
   parsed line from at st (Err TooDeep) h f = f
   parsed line from at st (Err Nested) h f = f
@@ -99,7 +99,7 @@ module _ (names : List (List ℕ)) where
 
   -- ---- the loop
 
-  only : (o : Option MachineState) → steps names o [] ≡ o
+  only : (o : Option MachineState) → machine_steps names o [] ≡ o
   only None = refl
   only (Some st) = refl
 
@@ -110,34 +110,34 @@ module _ (names : List (List ℕ)) where
       record {
         below = omega arith;
         within = omega arith;
-        reads = ap (λ (n : ℕ). steps names (Some (Want [])) (take n (drop from ts))) zero_long;
+        reads = ap (λ (n : ℕ). machine_steps names (Some (Want [])) (take n (drop from ts))) zero_long;
       }
 
-  reads_more : (ts : List (List ℕ)) (from at : ℕ) (t : List ℕ) (st : MachineState) → Reached ts from at st → slice_get ts at ≡ Some t → steps names (Some (Want [])) (take (at - from + 1) (drop from ts)) ≡ step names st t
+  reads_more : (ts : List (List ℕ)) (from at : ℕ) (t : List ℕ) (st : MachineState) → Reached ts from at st → slice_get ts at ≡ Some t → machine_steps names (Some (Want [])) (take (at - from + 1) (drop from ts)) ≡ machine_step names st t
   reads_more ts from at t st h e =
-      ap (steps names (Some (Want []))) (taken-more ts from at t h.below e)
+      ap (machine_steps names (Some (Want []))) (taken-more ts from at t h.below e)
       ∙ steps_append names (Some (Want [])) (take (at - from) (drop from ts)) (t ∷ [])
-      ∙ ap (λ (o : Option MachineState). steps names o (t ∷ [])) h.reads
-      ∙ only (step names st t)
+      ∙ ap (λ (o : Option MachineState). machine_steps names o (t ∷ [])) h.reads
+      ∙ only (machine_step names st t)
 
   -- the token was taken
-  pub went_on : (ts : List (List ℕ)) (from at : ℕ) (t : List ℕ) (old : MachineState) (fs : List Frame) (r : Step) (m : Mode) → Reached ts from at old → slice_get ts at ≡ Some t → r ≡ stepped.Next m → TakesToken names old t fs r → Reached ts from (at + 1) (state fs m)
+  pub went_on : (ts : List (List ℕ)) (from at : ℕ) (t : List ℕ) (old : MachineState) (fs : List Frame) (r : Step) (m : Mode) → Reached ts from at old → slice_get ts at ≡ Some t → r ≡ stepped.Next m → TakesToken names old t fs r → Reached ts from (at + 1) (machine_state fs m)
   went_on ts from at t old fs r m h e is s =
-      let next : step names old t ≡ Some (state fs m) = subst (λ (q : Step). TakesToken names old t fs q) is s in
+      let next : machine_step names old t ≡ Some (machine_state fs m) = subst (λ (q : Step). TakesToken names old t fs q) is s in
       let place : at + 1 - from ≡ at - from + 1 = omega (arith, h.below) in
       record {
         below = omega (arith, h.below);
         within = omega (arith, h.below, length-drop from ts, slice_get_within ts at t e);
-        reads = ap (λ (n : ℕ). steps names (Some (Want [])) (take n (drop from ts))) place ∙ reads_more ts from at t old h e ∙ next;
+        reads = ap (λ (n : ℕ). machine_steps names (Some (Want [])) (take n (drop from ts))) place ∙ reads_more ts from at t old h e ∙ next;
       }
 
   -- and here it was not
-  pub stopped : (line : Lexed) (from at : ℕ) (t : List ℕ) (old : MachineState) (fs : List Frame) (r : Step) (m : Mode) (result : Result (Expr × ℕ) ExprError) → Reached (texts line) from at old → slice_get (texts line) at ≡ Some t → r ≡ stepped.Refused m → TakesToken names old t fs r → Finishes line (state fs m) at result → ParsedExpr names line from result
+  pub stopped : (line : LexedLine) (from at : ℕ) (t : List ℕ) (old : MachineState) (fs : List Frame) (r : Step) (m : Mode) (result : Result (Expr × ℕ) ExprError) → Reached (token_texts line) from at old → slice_get (token_texts line) at ≡ Some t → r ≡ stepped.Refused m → TakesToken names old t fs r → FinishesReading line (machine_state fs m) at result → ParsedExpr names line from result
   stopped line from at t old fs r m result h e is s f =
-      let both : (step names old t ≡ None) × (whole (state fs m) ≡ whole old) = subst (λ (q : Step). TakesToken names old t fs q) is s in
-      parsed line from at old result (record { reached = h; refused = λ lt. reads_more (texts line) from at t old h e ∙ both.0 }) (finishes_as line (state fs m) old at result both.1 f)
+      let both : (machine_step names old t ≡ None) × (whole (machine_state fs m) ≡ whole old) = subst (λ (q : Step). TakesToken names old t fs q) is s in
+      parsed line from at old result (record { reached = h; refused = λ lt. reads_more (token_texts line) from at t old h e ∙ both.0 }) (finishes_as line (machine_state fs m) old at result both.1 f)
 
   -- all tokens were read
-  pub all_taken : (line : Lexed) (from at : ℕ) (st : MachineState) (result : Result (Expr × ℕ) ExprError) → Reached (texts line) from at st → slice_get (texts line) at ≡ None → Finishes line st at result → ParsedExpr names line from result
+  pub all_taken : (line : LexedLine) (from at : ℕ) (st : MachineState) (result : Result (Expr × ℕ) ExprError) → Reached (token_texts line) from at st → slice_get (token_texts line) at ≡ None → FinishesReading line st at result → ParsedExpr names line from result
   all_taken line from at st result h e f =
-      parsed line from at st result (record { reached = h; refused = λ lt. absurd (past (texts line) from at h.below e lt) }) f
+      parsed line from at st result (record { reached = h; refused = λ lt. absurd (past (token_texts line) from at h.below e lt) }) f

@@ -5,7 +5,7 @@ use Rattle.expression_text.specs.declared.expr.Binary.{Binary}
 use Rattle.expression_text.specs.declared.expr.Binary.TheVariants as binary
 use Rattle.expression_text.specs.Expression.{Expression, One, Two}
 use Rattle.expression_text.specs.Grammar.{UNARY, operator_level, left_level}
-use Rattle.expression_text.specs.Machine.{PendingOperator, Left, Front, Inside, MachineState, Want, Have, settle_operators, compares, after_operator, whole_expression, whole}
+use Rattle.expression_text.specs.Machine.{PendingOperator, Left, Front, Inside, MachineState, Want, Have, settle_operators, compares_left, after_operator, whole_expression, whole}
 
 -- ---- levels
 
@@ -78,13 +78,13 @@ settle_stops k (Front op ∷ s) x le h = absurd (omega arith)
 settle_stops k (Inside o ∷ s) x le h = refl
 
 -- no comparison stands below one
-fits_compare : (s : List PendingOperator) → Fits 3 s → compares s ≡ false → Fits 2 s
+fits_compare : (s : List PendingOperator) → Fits 3 s → compares_left s ≡ false → Fits 2 s
 fits_compare [] h c = tt
 fits_compare (Left op y ∷ s) h c = omega (arith, eqb-false (operator_level op) 2 c)
 fits_compare (Front op ∷ s) h c = absurd (omega arith)
 fits_compare (Inside o ∷ s) h c = tt
 
-compares_not : (s : List PendingOperator) → Fits 2 s → compares s ≡ false
+compares_not : (s : List PendingOperator) → Fits 2 s → compares_left s ≡ false
 compares_not [] h = refl
 compares_not (Left op y ∷ s) h = ne_eqb (operator_level op) 2 (λ e. omega arith)
 compares_not (Front op ∷ s) h = refl
@@ -93,13 +93,13 @@ compares_not (Inside o ∷ s) h = refl
 pub operator_goes : (op : Binary) (s : List PendingOperator) (x : Expression) → Fits (operator_level op) s → after_operator op (s, x) ≡ Some (Want (Left op x ∷ s))
 operator_goes op s x h = elim (sides op) [
   | inl p ↦ rw p.1 refl
-  | inr p ↦ let c : compares s ≡ false = compares_not s (subst (λ (k : ℕ). Fits k s) p.0 h) in rw (p.0, c) refl
+  | inr p ↦ let c : compares_left s ≡ false = compares_not s (subst (λ (k : ℕ). Fits k s) p.0 h) in rw (p.0, c) refl
 ]
 
 pub operator_gave : (op : Binary) (s : List PendingOperator) (x : Expression) (st : MachineState) → Fits (left_level op) s → after_operator op (s, x) ≡ Some st → (Some (Want (Left op x ∷ s)) ≡ Some st) × Fits (operator_level op) s
 operator_gave op s x st h e = elim (sides op) [
   | inl p ↦ (rw p.1 at e, subst (λ (k : ℕ). Fits k s) p.0 h)
-  | inr p ↦ elim (tested (compares s)) [
+  | inr p ↦ elim (tested (compares_left s)) [
     | inl c ↦ absurd (let f = rw (p.0, c) at e in cc)
     | inr c ↦ (rw (p.0, c) at e, subst (λ (k : ℕ). Fits k s) (sym p.0) (fits_compare s (subst (λ (k : ℕ). Fits k s) p.1 h) c))
   ]

@@ -11,9 +11,9 @@ use Rattle.std.proofs.lemmas.Str.{IsUtf8-from_ascii}
 use Rattle.std.proofs.lemmas.Str.Ascii.{IsAscii-from_all}
 use Rattle.fri_text.specs.declared.error.TextError.TheVariants.{TooGreat}
 use Rattle.fri_text.specs.Decimal.{up_to}
-use Rattle.expression_text.specs.Spelling.{at_most, hex_number_of, most_number}
+use Rattle.expression_text.specs.Spelling.{number_at_most, hex_number_of, most_number}
 
-pub at_most_up_to : (max : ℕ) (o : Option ℕ) → result_ok (up_to max o) ≡ at_most max o
+pub at_most_up_to : (max : ℕ) (o : Option ℕ) → result_ok (up_to max o) ≡ number_at_most max o
 at_most_up_to max None = refl
 at_most_up_to max (Some n) = elim (leb n max) as (λ b. result_ok (cond b (Ok n) (Err TooGreat)) ≡ cond b (Some n) None) [ true ↦ refl | false ↦ refl ]
 
@@ -73,14 +73,14 @@ no_plus (b ∷ ds) e =
     ap (λ (t : Bool). drop (cond t 1 0) (b ∷ ds)) (ne_eqb b 43 (hex_small b p.0).1)
 
 -- where std finds no number of 64 bits in digits, theirs is above any that may be asked for
-pub too_great : {E : Type 0} (max : ℕ) (ds text : List ℕ) (parsed : Result ℕ E) (fault : E) → max < 2 ^ 64 → eqb (length ds) 0 ≡ false → list_all is_ascii_hexdigit ds ≡ true → text ≡ ds → ParsesUnsigned 64 16 text parsed → parsed ≡ Err fault → at_most max (Some (digits_value 16 ds)) ≡ None
+pub too_great : {E : Type 0} (max : ℕ) (ds text : List ℕ) (parsed : Result ℕ E) (fault : E) → max < 2 ^ 64 → eqb (length ds) 0 ≡ false → list_all is_ascii_hexdigit ds ≡ true → text ≡ ds → ParsesUnsigned 64 16 text parsed → parsed ≡ Err fault → number_at_most max (Some (digits_value 16 ds)) ≡ None
 too_great max ds text parsed fault small some digits same parses failed =
     let long : 0 < length ds = let ne = eqb-false (length ds) 0 some in omega arith in
     let at_digits = rw (same, failed, no_plus ds digits) at parses in
     let over : max < digits_value 16 ds = elim (cases_lt (digits_value 16 ds) (2 ^ 64)) [ inl below ↦ absurd (at_digits ((long, all_digits ds digits), below)) | inr above ↦ omega arith ] in
     rw (lt-leb (digits_value 16 ds) max over) refl
 
-pub hex_number_is : (ds : List ℕ) → eqb (length ds) 0 ≡ false → list_all is_ascii_hexdigit ds ≡ true → hex_number_of ds ≡ at_most most_number (Some (digits_value 16 ds))
+pub hex_number_is : (ds : List ℕ) → eqb (length ds) 0 ≡ false → list_all is_ascii_hexdigit ds ≡ true → hex_number_of ds ≡ number_at_most most_number (Some (digits_value 16 ds))
 hex_number_is ds some digits =
     let long : 0 < length ds = let ne = eqb-false (length ds) 0 some in omega arith in
     rw (lt-ltb 0 (length ds) long, digits) refl

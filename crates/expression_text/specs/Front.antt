@@ -9,13 +9,13 @@ abbrev pub word_end : List ℕ → ℕ
 word_end bytes = prefix_len is_word_byte bytes
 
 -- where the first byte that is in no string is at this place, it has to be a quote
-abbrev pub quoted : List ℕ → Option ℕ → Option ℕ
-quoted bytes None = None
-quoted bytes (Some n) = if slice_index bytes n == 34 then Some (n + 2) else None
+abbrev pub quoted_string_end : List ℕ → Option ℕ → Option ℕ
+quoted_string_end bytes None = None
+quoted_string_end bytes (Some n) = if slice_index bytes n == 34 then Some (n + 2) else None
 
 -- how many bytes the string has whose first quote was taken, with its quotes
 abbrev pub string_end : List ℕ → Option ℕ
-string_end bytes = quoted bytes (position (λ b. not (is_string_byte b)) bytes)
+string_end bytes = quoted_string_end bytes (position (λ b. not (is_string_byte b)) bytes)
 
 -- how many bytes the sign with this byte in front has
 abbrev pub sign_at : ℕ → List ℕ → Option ℕ
@@ -23,8 +23,8 @@ sign_at a [] = if is_sign a then Some 1 else None
 sign_at a (b ∷ bytes) = if is_pair a b then Some 2 else (if is_sign a then Some 1 else None)
 
 -- how many bytes the longest token has, if one begins the bytes
-abbrev pub front : List ℕ → Option ℕ
-front [] = None
-front (b ∷ bytes) =
+abbrev pub longest_token : List ℕ → Option ℕ
+longest_token [] = None
+longest_token (b ∷ bytes) =
     if is_word_byte b then Some (word_end (b ∷ bytes)) else
     (if b == 34 then string_end bytes else sign_at b bytes)

@@ -9,7 +9,7 @@ use Rattle.expression_text.specs.declared.expr.Agg.{Agg}
 use Rattle.expression_text.specs.declared.expr.Width.{Width}
 use Rattle.expression_text.specs.declared.expr.Expr.{Expr}
 use Rattle.expression_text.specs.declared.word.PlaceWord.TheVariants as place
-use Rattle.expression_text.specs.Lexing.{Lexed, texts, column_at}
+use Rattle.expression_text.specs.Lexing.{LexedLine, token_texts, column_of_token}
 use Rattle.expression_text.specs.Spelling.{is_word, number_of, node_of_word, binary_sign, unary_sign, agg_word, place_word}
 use Rattle.expression_text.specs.Expression.{Expression, Number, Var, One, Two, Over, Load, Global, Clock, Events, Size, expression_of}
 
@@ -54,26 +54,26 @@ left_level binary.Div = 4
 left_level binary.Rem = 4
 
 -- With these names of nodes, the tokens spell the expression at this level.
-pub data IsAt (names : List (List ℕ)) : ℕ → List (List ℕ) → Expression → Type 0 where
-  higher : {k : ℕ} {ts : List (List ℕ)} {x : Expression} → IsAt names (suc k) ts x → IsAt names k ts x
-  two : {a b : List (List ℕ)} {x y : Expression} (op : Binary) → IsAt names (left_level op) a x → IsAt names (suc (operator_level op)) b y
-      → IsAt names (operator_level op) (a ++ binary_sign op ∷ b) (Two op x y)
-  one : {a : List (List ℕ)} {x : Expression} (op : Unary) → IsAt names UNARY a x → IsAt names UNARY (unary_sign op ∷ a) (One op x)
-  number : (word : List ℕ) (n : ℕ) → number_of word ≡ Some n → IsAt names FIRST (word ∷ []) (Number n)
-  variable : (word : List ℕ) → is_word word ≡ true → IsAt names FIRST (codes "$" ∷ word ∷ []) (Var word)
-  brackets : {a : List (List ℕ)} {x : Expression} → IsAt names 0 a x → IsAt names FIRST (codes "(" ∷ (a ++ codes ")" ∷ [])) x
-  over : {a : List (List ℕ)} {x : Expression} (agg : Agg) → IsAt names 0 a x → IsAt names FIRST (agg_word agg ∷ codes "(" ∷ (a ++ codes ")" ∷ [])) (Over agg x)
-  load : {a : List (List ℕ)} {x : Expression} (name : List ℕ) (width : Width) → is_word name ≡ true → IsAt names 0 a x
-      → IsAt names FIRST (codes "@" ∷ name ∷ codes "." ∷ place_word (place.Load width) ∷ codes "[" ∷ (a ++ codes "]" ∷ [])) (Load (node_of_word names name) width x)
+pub data IsExprAtLevel (names : List (List ℕ)) : ℕ → List (List ℕ) → Expression → Type 0 where
+  higher : {k : ℕ} {ts : List (List ℕ)} {x : Expression} → IsExprAtLevel names (suc k) ts x → IsExprAtLevel names k ts x
+  two : {a b : List (List ℕ)} {x y : Expression} (op : Binary) → IsExprAtLevel names (left_level op) a x → IsExprAtLevel names (suc (operator_level op)) b y
+      → IsExprAtLevel names (operator_level op) (a ++ binary_sign op ∷ b) (Two op x y)
+  one : {a : List (List ℕ)} {x : Expression} (op : Unary) → IsExprAtLevel names UNARY a x → IsExprAtLevel names UNARY (unary_sign op ∷ a) (One op x)
+  number : (word : List ℕ) (n : ℕ) → number_of word ≡ Some n → IsExprAtLevel names FIRST (word ∷ []) (Number n)
+  variable : (word : List ℕ) → is_word word ≡ true → IsExprAtLevel names FIRST (codes "$" ∷ word ∷ []) (Var word)
+  brackets : {a : List (List ℕ)} {x : Expression} → IsExprAtLevel names 0 a x → IsExprAtLevel names FIRST (codes "(" ∷ (a ++ codes ")" ∷ [])) x
+  over : {a : List (List ℕ)} {x : Expression} (agg : Agg) → IsExprAtLevel names 0 a x → IsExprAtLevel names FIRST (agg_word agg ∷ codes "(" ∷ (a ++ codes ")" ∷ [])) (Over agg x)
+  load : {a : List (List ℕ)} {x : Expression} (name : List ℕ) (width : Width) → is_word name ≡ true → IsExprAtLevel names 0 a x
+      → IsExprAtLevel names FIRST (codes "@" ∷ name ∷ codes "." ∷ place_word (place.Load width) ∷ codes "[" ∷ (a ++ codes "]" ∷ [])) (Load (node_of_word names name) width x)
   global : (name word : List ℕ) (n : ℕ) → is_word name ≡ true → number_of word ≡ Some n
-      → IsAt names FIRST (codes "@" ∷ name ∷ codes "." ∷ codes "global" ∷ codes "[" ∷ word ∷ codes "]" ∷ []) (Global (node_of_word names name) n)
-  clock : (name : List ℕ) → is_word name ≡ true → IsAt names FIRST (codes "@" ∷ name ∷ codes "." ∷ codes "clock" ∷ []) (Clock (node_of_word names name))
-  events : (name : List ℕ) → is_word name ≡ true → IsAt names FIRST (codes "@" ∷ name ∷ codes "." ∷ codes "events" ∷ []) (Events (node_of_word names name))
-  size : (name : List ℕ) → is_word name ≡ true → IsAt names FIRST (codes "@" ∷ name ∷ codes "." ∷ codes "size" ∷ []) (Size (node_of_word names name))
+      → IsExprAtLevel names FIRST (codes "@" ∷ name ∷ codes "." ∷ codes "global" ∷ codes "[" ∷ word ∷ codes "]" ∷ []) (Global (node_of_word names name) n)
+  clock : (name : List ℕ) → is_word name ≡ true → IsExprAtLevel names FIRST (codes "@" ∷ name ∷ codes "." ∷ codes "clock" ∷ []) (Clock (node_of_word names name))
+  events : (name : List ℕ) → is_word name ≡ true → IsExprAtLevel names FIRST (codes "@" ∷ name ∷ codes "." ∷ codes "events" ∷ []) (Events (node_of_word names name))
+  size : (name : List ℕ) → is_word name ≡ true → IsExprAtLevel names FIRST (codes "@" ∷ name ∷ codes "." ∷ codes "size" ∷ []) (Size (node_of_word names name))
 
 -- the tokens spell the expression
 abbrev pub IsExpr : List (List ℕ) → List (List ℕ) → Expression → Type 0
-IsExpr names ts x = IsAt names 0 ts x
+IsExpr names ts x = IsExprAtLevel names 0 ts x
 
 -- the tokens begin some expression
 pub record BeginsExpr (names ts : List (List ℕ)) : Type 0 where
@@ -88,16 +88,16 @@ pub record TakesExpr (names ts : List (List ℕ)) (n : ℕ) : Type 0 where
   pub longest : n < length ts → BeginsExpr names (take (n + 1) ts) → ⊥
 
 -- the tokens of a line from one on, up to another
-abbrev pub tokens_between : Lexed → ℕ → ℕ → List (List ℕ)
-tokens_between line from to = take (to - from) (drop from (texts line))
+abbrev pub tokens_between : LexedLine → ℕ → ℕ → List (List ℕ)
+tokens_between line from to = take (to - from) (drop from (token_texts line))
 
 -- What parsing from a token on gives, but for memory: as many of the tokens are taken as begin some expression.
 -- Where they are a whole one, it is given with the number of the next token, and otherwise that token's column.
-abbrev pub ParsedExpr : List (List ℕ) → Lexed → ℕ → Result (Expr × ℕ) ExprError → Type 0
+abbrev pub ParsedExpr : List (List ℕ) → LexedLine → ℕ → Result (Expr × ℕ) ExprError → Type 0
 ParsedExpr names line from (Ok r) =
-    (from ≤ r.1) × TakesExpr names (drop from (texts line)) (r.1 - from) × IsExpr names (tokens_between line from r.1) (expression_of r.0)
+    (from ≤ r.1) × TakesExpr names (drop from (token_texts line)) (r.1 - from) × IsExpr names (tokens_between line from r.1) (expression_of r.0)
 ParsedExpr names line from (Err (Syntax column)) =
-    (n : ℕ) × (column ≡ column_at line n) × (from ≤ n) × TakesExpr names (drop from (texts line)) (n - from)
+    (n : ℕ) × (column ≡ column_of_token line n) × (from ≤ n) × TakesExpr names (drop from (token_texts line)) (n - from)
     × ((x : Expression) → IsExpr names (tokens_between line from n) x → ⊥)
 ParsedExpr names line from (Err NoNode) = ⊥
 ParsedExpr names line from (Err TooDeep) = ⊥

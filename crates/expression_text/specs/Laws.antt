@@ -1,28 +1,28 @@
 -- What holds of lines and expressions, whatever they are.
 use Rattle.std.specs.Prelude.{◌≡◌, ◌↔◌, ℕ, Bool, true, not, ◌||◌, ◌==◌, codes, bytes_eq, slice_index, List, [], Some, Ok, Err}
 use Rattle.std.specs.List.{list_all}
-use Rattle.expression_text.specs.Lexing.{Placed, Lexes, IsBadAt}
-use Rattle.expression_text.specs.Computed.{cut_tokens, expression_spelled, begins_some, viable}
+use Rattle.expression_text.specs.Lexing.{PlacedToken, LexesTokens, IsBadAt}
+use Rattle.expression_text.specs.Computed.{cut_tokens, expression_spelled, begins_some_expression, viable_tokens}
 use Rattle.expression_text.specs.Grammar.{IsExpr, BeginsExpr, TakesExpr}
 use Rattle.expression_text.specs.Expression.{Expression}
 
 -- What is computed of a line is its tokens, or the column of the first byte that begins none. So a line has one of
 -- both, and in one way.
 pub record ExactCut : Type 0 where
-  pub tokens : (line : List ℕ) (ts : List Placed) → (cut_tokens line ≡ Ok ts) ↔ Lexes 1 line ts
+  pub tokens : (line : List ℕ) (ts : List PlacedToken) → (cut_tokens line ≡ Ok ts) ↔ LexesTokens 1 line ts
   pub bad : (line : List ℕ) (column : ℕ) → (cut_tokens line ≡ Err column) ↔ IsBadAt 1 line column
 
 -- What is computed of tokens is the expression that they spell, whether they begin one, and how many of them do. So
 -- tokens spell one expression at most.
 pub record ExactReading : Type 0 where
   pub expressions : (names ts : List (List ℕ)) (x : Expression) → (expression_spelled names ts ≡ Some x) ↔ IsExpr names ts x
-  pub begins : (names ts : List (List ℕ)) → (begins_some names ts ≡ true) ↔ BeginsExpr names ts
-  pub viable : (names ts : List (List ℕ)) (n : ℕ) → TakesExpr names ts n → viable names [] ts ≡ n
+  pub begins : (names ts : List (List ℕ)) → (begins_some_expression names ts ≡ true) ↔ BeginsExpr names ts
+  pub viable : (names ts : List (List ℕ)) (n : ℕ) → TakesExpr names ts n → viable_tokens names [] ts ≡ n
 
 -- a comma, a semicolon, a brace or a string
-abbrev pub is_apart : List ℕ → Bool
-is_apart text = bytes_eq text (codes ",") || bytes_eq text (codes ";") || bytes_eq text (codes "{") || bytes_eq text (codes "}") || (slice_index text 0 == 34)
+abbrev pub is_apart_token : List ℕ → Bool
+is_apart_token text = bytes_eq text (codes ",") || bytes_eq text (codes ";") || bytes_eq text (codes "{") || bytes_eq text (codes "}") || (slice_index text 0 == 34)
 
 -- none of these is in an expression
 abbrev pub NoneApart : Type 0
-NoneApart = (names ts : List (List ℕ)) (x : Expression) → IsExpr names ts x → list_all (λ t. not (is_apart t)) ts ≡ true
+NoneApart = (names ts : List (List ℕ)) (x : Expression) → IsExpr names ts x → list_all (λ t. not (is_apart_token t)) ts ≡ true

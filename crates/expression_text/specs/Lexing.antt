@@ -7,30 +7,30 @@ use Rattle.expression_text.specs.declared.error.ExprError.TheVariants.{Syntax, N
 use Rattle.expression_text.specs.Spelling.{is_word, number_of}
 
 -- a token: its bytes, and the column of the first of them, counted from 1
-pub record Placed : Type 0 where
+pub record PlacedToken : Type 0 where
   pub text : List ℕ
   pub column : ℕ
 
 -- a line in tokens, and the column after the line
-pub record Lexed : Type 0 where
-  pub tokens : List Placed
+pub record LexedLine : Type 0 where
+  pub tokens : List PlacedToken
   pub end : ℕ
 
 -- the bytes of the tokens
-abbrev pub texts : Lexed → List (List ℕ)
-texts line = map (λ t. t.text) line.tokens
+abbrev pub token_texts : LexedLine → List (List ℕ)
+token_texts line = map (λ t. t.text) line.tokens
 
 -- the column of a token, from 0, and after the last one that of the line's end
-abbrev pub column_at : Lexed → ℕ → ℕ
-column_at line n = unwrap_or (option_map (λ t. t.column) (slice_get line.tokens n)) line.end
+abbrev pub column_of_token : LexedLine → ℕ → ℕ
+column_of_token line n = unwrap_or (option_map (λ t. t.column) (slice_get line.tokens n)) line.end
 
 abbrev pub number_of_token : Option (List ℕ) → Option ℕ
 number_of_token None = None
 number_of_token (Some text) = number_of text
 
 -- the number that a token is, if there is such a token and it is one
-abbrev pub number_of_token_at : Lexed → ℕ → Option ℕ
-number_of_token_at line n = number_of_token (slice_get (texts line) n)
+abbrev pub number_of_token_at : LexedLine → ℕ → Option ℕ
+number_of_token_at line n = number_of_token (slice_get (token_texts line) n)
 
 -- ---- tokens
 
@@ -71,11 +71,11 @@ BeginsNone bytes = (m : ℕ) → m ≤ length bytes → IsToken (take m bytes) �
 
 -- The bytes from a column on are these tokens: blanks are passed over, and at each other place stands the longest
 -- token that begins there.
-pub data Lexes : ℕ → List ℕ → List Placed → Type 0 where
-  end : (column : ℕ) → Lexes column [] []
-  blank : (column b : ℕ) (bytes : List ℕ) (ts : List Placed) → is_blank b ≡ true → Lexes (column + 1) bytes ts → Lexes column (b ∷ bytes) ts
-  token : (column n : ℕ) (bytes : List ℕ) (ts : List Placed) → IsLongest bytes n → Lexes (column + n) (drop n bytes) ts
-      → Lexes column bytes (record { text = take n bytes; column = column } ∷ ts)
+pub data LexesTokens : ℕ → List ℕ → List PlacedToken → Type 0 where
+  end : (column : ℕ) → LexesTokens column [] []
+  blank : (column b : ℕ) (bytes : List ℕ) (ts : List PlacedToken) → is_blank b ≡ true → LexesTokens (column + 1) bytes ts → LexesTokens column (b ∷ bytes) ts
+  token : (column n : ℕ) (bytes : List ℕ) (ts : List PlacedToken) → IsLongest bytes n → LexesTokens (column + n) (drop n bytes) ts
+      → LexesTokens column bytes (record { text = take n bytes; column = column } ∷ ts)
 
 -- Among the bytes from a column on, the first byte that begins no token is at this one.
 pub data IsBadAt : ℕ → List ℕ → ℕ → Type 0 where
@@ -92,19 +92,19 @@ depth_after depth text =
     (if bytes_eq text (codes ")") || bytes_eq text (codes "]") || bytes_eq text (codes "}") then depth - 1 else depth)
 
 -- where so many are open, more than 64 are at some place
-abbrev pub goes_deep : ℕ → List (List ℕ) → Bool
-goes_deep depth [] = false
-goes_deep depth (text ∷ texts) = nat_lt 64 (depth_after depth text) || goes_deep (depth_after depth text) texts
+abbrev pub brackets_go_deep : ℕ → List (List ℕ) → Bool
+brackets_go_deep depth [] = false
+brackets_go_deep depth (text ∷ texts) = nat_lt 64 (depth_after depth text) || brackets_go_deep (depth_after depth text) texts
 
 -- more than 512 tokens, or more than 64 brackets that are open at once
 abbrev pub is_too_deep : List (List ℕ) → Bool
-is_too_deep texts = nat_lt 512 (length texts) || goes_deep 0 texts
+is_too_deep texts = nat_lt 512 (length texts) || brackets_go_deep 0 texts
 
 -- What is answered of a line, but for memory.
-abbrev pub LexedAs : List ℕ → Result Lexed ExprError → Type 0
-LexedAs line (Ok lexed) = Lexes 1 line lexed.tokens × (lexed.end ≡ length line + 1) × (is_too_deep (texts lexed) ≡ false)
+abbrev pub LexedAs : List ℕ → Result LexedLine ExprError → Type 0
+LexedAs line (Ok lexed) = LexesTokens 1 line lexed.tokens × (lexed.end ≡ length line + 1) × (is_too_deep (token_texts lexed) ≡ false)
 LexedAs line (Err (Syntax column)) = IsBadAt 1 line column
-LexedAs line (Err TooDeep) = (tokens : List Placed) × Lexes 1 line tokens × (is_too_deep (map (λ t. t.text) tokens) ≡ true)
+LexedAs line (Err TooDeep) = (tokens : List PlacedToken) × LexesTokens 1 line tokens × (is_too_deep (map (λ t. t.text) tokens) ≡ true)
 LexedAs line (Err NoNode) = ⊥
 LexedAs line (Err Nested) = ⊥
 LexedAs line (Err NoMemory) = Unit {0}

@@ -33,18 +33,18 @@ abbrev pub most_number : ℕ
 most_number = 9223372036854775807
 
 -- the number, if it is no greater
-abbrev pub at_most : ℕ → Option ℕ → Option ℕ
-at_most max None = None
-at_most max (Some n) = if nat_le n max then Some n else None
+abbrev pub number_at_most : ℕ → Option ℕ → Option ℕ
+number_at_most max None = None
+number_at_most max (Some n) = if nat_le n max then Some n else None
 
 -- the number in hexadecimal digits, of either case
 abbrev pub hex_number_of : List ℕ → Option ℕ
 hex_number_of digits =
-    if nat_lt 0 (length digits) && list_all is_ascii_hexdigit digits then at_most most_number (Some (digits_value 16 digits)) else None
+    if nat_lt 0 (length digits) && list_all is_ascii_hexdigit digits then number_at_most most_number (Some (digits_value 16 digits)) else None
 
 -- The number that a word is: in decimal digits, or in hexadecimal ones after 0x.
 abbrev pub number_in : List ℕ → Option ℕ
-number_in word = if bytes_eq (take 2 word) (codes "0x") then hex_number_of (drop 2 word) else at_most most_number (decimal_of word)
+number_in word = if bytes_eq (take 2 word) (codes "0x") then hex_number_of (drop 2 word) else number_at_most most_number (decimal_of word)
 
 unfoldable pub number_of : List ℕ → Option ℕ
 number_of word = number_in word

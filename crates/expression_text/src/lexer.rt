@@ -1,7 +1,7 @@
 // Cuts a line into tokens.
 ghost use Rattle.std.specs.Prelude.{◌≡◌, ◌<◌, ◌≤◌, IfSome, length, not, map, position};
 ghost use Rattle.expression_text.specs.Lexing.{LexedAs, is_blank as is_blank_byte, is_string_byte as is_byte_of_string, is_sign as is_sign_byte, is_pair as is_pair_of, depth_after, is_too_deep as is_too_deep_list};
-ghost use Rattle.expression_text.specs.Front.{front, string_end, sign_at, word_end};
+ghost use Rattle.expression_text.specs.Front.{longest_token, string_end, sign_at, word_end};
 
 use crate::error::ExprError;
 use crate::token::{Token, Tokens};
@@ -47,7 +47,7 @@ pub fn lex<'a>(alloc: Global, line: &'a [u8]) -> Result<Tokens<'a>, ExprError>
 
 /// How many bytes the longest token has that begins the bytes, if one does.
 fn token_length(bytes: &[u8]) -> Option<usize>
-    ensures { result ≡ front bytes.now }
+    ensures { result ≡ longest_token bytes.now }
 {
     let (first, rest) = bytes.split_first()?;
     if is_word_byte(*first) {

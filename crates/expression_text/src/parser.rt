@@ -3,8 +3,8 @@ ghost use Rattle.std.specs.Prelude.{◌≡◌, ◌<◌, ◌^◌, [], IfOk, lengt
 ghost use Rattle.expression_text.specs.Grammar.{ParsedExpr, left_level};
 ghost use Rattle.expression_text.specs.Expression.{expression_of};
 ghost use Rattle.expression_text.specs.Spelling.{unary_of};
-ghost use Rattle.expression_text.specs.Machine.{More, Opens, begun_by, onward, at_place, after_operator, close as after_closing, want_sign, only_if, lead, is_closed_with, closing as closing_sign, enclose};
-ghost use Rattle.expression_text.specs.inside.Frames.{pile, settled_frames, state, TakesToken, GivesStep, Finishes, went_of, went_if, Led, Closes};
+ghost use Rattle.expression_text.specs.Machine.{More, Opens, begun_by_token, onward_token, at_place, after_operator, close as after_closing, step_wanting_sign, went_only_if, lead_token, is_closed_with, closing as closing_sign, enclose_expression};
+ghost use Rattle.expression_text.specs.inside.Frames.{pile_operators, settled_frames, machine_state, TakesToken, GivesStep, FinishesReading, went_of, went_if, LedByToken, ClosesOpening};
 
 use crate::error::ExprError;
 use crate::expr::{Binary, Expr, NodeName};
@@ -47,7 +47,7 @@ fn advance(
     text: &[u8],
 ) -> Result<Step, AllocError>
     requires { length names.now < 2 ^ 32 }
-    ensures { IfOk result (λ s. TakesToken names.now (state frames.old.items mode) text.now frames.new.items s) }
+    ensures { IfOk result (λ s. TakesToken names.now (machine_state frames.old.items mode) text.now frames.new.items s) }
 {
     match mode {
         Mode::Want => want(frames, text),
@@ -67,7 +67,7 @@ fn finish(
     mode: Mode,
     at: usize,
 ) -> Result<(Expr, usize), ExprError>
-    ensures { Finishes tokens.now (state frames.items mode) at result }
+    ensures { FinishesReading tokens.now (machine_state frames.items mode) at result }
 {
     match mode {
         Mode::Want => Err(ExprError::Syntax(tokens.column(at))),
@@ -84,7 +84,7 @@ fn finish(
 
 /// Where an operand is wanted.
 fn want(frames: &mut Vec<Frame>, text: &[u8]) -> Result<Step, AllocError>
-    ensures { IfOk result (λ s. TakesToken [] (state frames.old.items Mode.Want) text.now frames.new.items s) }
+    ensures { IfOk result (λ s. TakesToken [] (machine_state frames.old.items Mode.Want) text.now frames.new.items s) }
 {
     match read_number(text) {
         Some(n) => Ok(Step::Next(Mode::Have(Expr::Number(n)))),
@@ -95,8 +95,8 @@ fn want(frames: &mut Vec<Frame>, text: &[u8]) -> Result<Step, AllocError>
 /// Where an operand is wanted and no number stands.
 #[tactic(auto, using(crate::proofs::StackPiles::pile_push))]
 fn want_operand(frames: &mut Vec<Frame>, text: &[u8]) -> Result<Step, AllocError>
-    ensures { IfOk result (λ s. GivesStep (want_sign (unary_of text.now) (pile [] frames.old.items) text.now)
-        (state frames.old.items Mode.Want) frames.new.items s) }
+    ensures { IfOk result (λ s. GivesStep (step_wanting_sign (unary_of text.now) (pile_operators [] frames.old.items) text.now)
+        (machine_state frames.old.items Mode.Want) frames.new.items s) }
 {
     match read_unary(text) {
         Some(op) => {
@@ -116,7 +116,7 @@ fn part(
     text: &[u8],
 ) -> Result<Step, AllocError>
     requires { length names.now < 2 ^ 32 }
-    ensures { IfOk result (λ s. TakesToken names.now (state frames.old.items (Mode.Part half)) text.now frames.new.items s) }
+    ensures { IfOk result (λ s. TakesToken names.now (machine_state frames.old.items (Mode.Part half)) text.now frames.new.items s) }
 {
     let went = continued(alloc, names, half, text)?;
     Ok(led(frames, went, Mode::Part(half))?)
@@ -125,7 +125,7 @@ fn part(
 /// Goes on with what a token gave, or stays.
 #[tactic(auto, using(crate::proofs::StackPiles::pile_push))]
 fn led(frames: &mut Vec<Frame>, went: Option<Went>, mode: Mode) -> Result<Step, AllocError>
-    ensures { IfOk result (λ s. Led (lead (pile [] frames.old.items) (went_if went)) (state frames.old.items mode) frames.new.items s) }
+    ensures { IfOk result (λ s. LedByToken (lead_token (pile_operators [] frames.old.items) (went_if went)) (machine_state frames.old.items mode) frames.new.items s) }
 {
     match went {
         Some(Went::More(half)) => Ok(Step::Next(Mode::Part(half))),
@@ -140,7 +140,7 @@ fn led(frames: &mut Vec<Frame>, went: Option<Went>, mode: Mode) -> Result<Step, 
 
 /// What a token begins that is no number and no sign in front.
 fn begun(text: &[u8]) -> Option<Went>
-    ensures { went_if result ≡ begun_by text.now }
+    ensures { went_if result ≡ begun_by_token text.now }
 {
     if let Some(agg) = read_agg(text) {
         return Some(Went::More(Half::Named(agg)));
@@ -155,13 +155,13 @@ fn begun(text: &[u8]) -> Option<Went>
 }
 
 fn more_if(test: bool, half: Half) -> Option<Went>
-    ensures { went_if result ≡ only_if test (More half) }
+    ensures { went_if result ≡ went_only_if test (More half) }
 {
     if test { Some(Went::More(half)) } else { None }
 }
 
 fn opens_if(test: bool, opening: Opening) -> Option<Went>
-    ensures { went_if result ≡ only_if test (Opens opening) }
+    ensures { went_if result ≡ went_only_if test (Opens opening) }
 {
     if test {
         Some(Went::Opens(opening))
@@ -178,7 +178,7 @@ fn continued(
     text: &[u8],
 ) -> Result<Option<Went>, AllocError>
     requires { length names.now < 2 ^ 32 }
-    ensures { IfOk result (λ went. went_if went ≡ onward names.now half text.now) }
+    ensures { IfOk result (λ went. went_if went ≡ onward_token names.now half text.now) }
 {
     match half {
         Half::Dollar => variable(alloc, text),
@@ -197,7 +197,7 @@ fn continued(
 }
 
 fn variable(alloc: Global, text: &[u8]) -> Result<Option<Went>, AllocError>
-    ensures { IfOk result (λ went. went_if went ≡ onward [] Half.Dollar text.now) }
+    ensures { IfOk result (λ went. went_if went ≡ onward_token [] Half.Dollar text.now) }
 {
     if !is_word(text) {
         return Ok(None);
@@ -208,13 +208,13 @@ fn variable(alloc: Global, text: &[u8]) -> Result<Option<Went>, AllocError>
 
 fn named(names: &[Bytes], text: &[u8]) -> Option<Went>
     requires { length names.now < 2 ^ 32 }
-    ensures { went_if result ≡ onward names.now Half.At text.now }
+    ensures { went_if result ≡ onward_token names.now Half.At text.now }
 {
     more_if(is_word(text), Half::Node(read_node(names, text)))
 }
 
 fn placed(node: NodeName, text: &[u8]) -> Option<Went>
-    ensures { went_if result ≡ onward [] (Half.Dotted node) text.now }
+    ensures { went_if result ≡ onward_token [] (Half.Dotted node) text.now }
 {
     match read_place(text) {
         Some(place) => Some(at(node, place)),
@@ -235,7 +235,7 @@ fn at(node: NodeName, place: PlaceWord) -> Went
 }
 
 fn indexed(node: NodeName, text: &[u8]) -> Option<Went>
-    ensures { went_if result ≡ onward [] (Half.Indexing node) text.now }
+    ensures { went_if result ≡ onward_token [] (Half.Indexing node) text.now }
 {
     match read_number(text) {
         Some(n) => Some(Went::More(Half::Indexed(node, n))),
@@ -244,7 +244,7 @@ fn indexed(node: NodeName, text: &[u8]) -> Option<Went>
 }
 
 fn global(node: NodeName, n: u64, text: &[u8]) -> Option<Went>
-    ensures { went_if result ≡ onward [] (Half.Indexed node n) text.now }
+    ensures { went_if result ≡ onward_token [] (Half.Indexed node n) text.now }
 {
     if text == b"]".as_slice() {
         Some(Went::Whole(Expr::Global(node, n)))
@@ -256,7 +256,7 @@ fn global(node: NodeName, n: u64, text: &[u8]) -> Option<Went>
 /// After an operand, an operator.
 fn operator(alloc: Global, frames: &mut Vec<Frame>, x: Expr, op: Binary) -> Result<Step, AllocError>
     ensures { IfOk result (λ s. GivesStep (after_operator op (settled_frames (left_level op) frames.old.items x))
-        (state frames.old.items (Mode.Have x)) frames.new.items s) }
+        (machine_state frames.old.items (Mode.Have x)) frames.new.items s) }
 {
     let left = settled(alloc, frames, left_of(op), x)?;
     if chains(frames, op) {
@@ -269,7 +269,7 @@ fn operator(alloc: Global, frames: &mut Vec<Frame>, x: Expr, op: Binary) -> Resu
 /// After an operand, a token that is no operator.
 fn close(alloc: Global, frames: &mut Vec<Frame>, x: Expr, text: &[u8]) -> Result<Step, AllocError>
     ensures { IfOk result (λ s. GivesStep (after_closing text.now (settled_frames 0 frames.old.items x))
-        (state frames.old.items (Mode.Have x)) frames.new.items s) }
+        (machine_state frames.old.items (Mode.Have x)) frames.new.items s) }
 {
     let inner = settled(alloc, frames, 0, x)?;
     match frames.pop() {
@@ -295,7 +295,7 @@ fn closed(
     opening: Opening,
     text: &[u8],
 ) -> Result<Step, AllocError>
-    ensures { IfOk result (λ s. Closes (record { opening = opening; inner = expression_of inner; below = pile [] frames.old.items })
+    ensures { IfOk result (λ s. ClosesOpening (record { opening = opening; inner = expression_of inner; below = pile_operators [] frames.old.items })
         text.now frames.new.items s) }
 {
     if !is_closed_by(opening, text) {
@@ -322,7 +322,7 @@ fn closing(opening: Opening) -> &'static str
 }
 
 fn enclosed(alloc: Global, opening: Opening, x: Expr) -> Result<Expr, AllocError>
-    ensures { IfOk result (λ y. expression_of y ≡ enclose opening (expression_of x)) }
+    ensures { IfOk result (λ y. expression_of y ≡ enclose_expression opening (expression_of x)) }
 {
     match opening {
         Opening::Bracket => Ok(x),

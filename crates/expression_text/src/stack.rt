@@ -2,8 +2,8 @@
 ghost use Rattle.std.specs.Prelude.{◌≡◌, [], ◌∷◌, IfOk, ◌==◌, ◌&&◌};
 ghost use Rattle.expression_text.specs.Grammar.{operator_level, left_level};
 ghost use Rattle.expression_text.specs.Expression.{expression_of};
-ghost use Rattle.expression_text.specs.Machine.{settle_operators, compares};
-ghost use Rattle.expression_text.specs.inside.Frames.{pile, pending};
+ghost use Rattle.expression_text.specs.Machine.{settle_operators, compares_left};
+ghost use Rattle.expression_text.specs.inside.Frames.{pile_operators, pending_of_frame};
 
 use crate::expr::{Agg, Binary, Expr, NodeName, Unary, Width};
 use std::alloc::{AllocError, Global};
@@ -89,7 +89,7 @@ pub(crate) fn settled(
     least: u8,
     operand: Expr,
 ) -> Result<Expr, AllocError>
-    ensures { IfOk result (λ x. settle_operators least (pile [] frames.old.items) (expression_of operand) ≡ (pile [] frames.new.items, expression_of x)) }
+    ensures { IfOk result (λ x. settle_operators least (pile_operators [] frames.old.items) (expression_of operand) ≡ (pile_operators [] frames.new.items, expression_of x)) }
 {
     let mut x = operand;
     while let Some(frame) = frames.pop() {
@@ -113,7 +113,7 @@ pub(crate) fn settled(
 
 /// Whether the operator compares what a comparison gives.
 pub(crate) fn chains(frames: &Vec<Frame>, op: Binary) -> bool
-    ensures { result ≡ (operator_level op == 2 && compares (pile [] frames.now.items)) }
+    ensures { result ≡ (operator_level op == 2 && compares_left (pile_operators [] frames.now.items)) }
 {
     match frames.last() {
         Some(frame) => level_of(op) == 2 && is_comparison(frame),
@@ -122,7 +122,7 @@ pub(crate) fn chains(frames: &Vec<Frame>, op: Binary) -> bool
 }
 
 fn is_comparison(frame: &Frame) -> bool
-    ensures { result ≡ compares (pending frame.now ∷ []) }
+    ensures { result ≡ compares_left (pending_of_frame frame.now ∷ []) }
 {
     match frame {
         Frame::Left(op, _) => level_of(*op) == 2,

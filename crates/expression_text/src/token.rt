@@ -1,6 +1,6 @@
 // The tokens of a line.
 ghost use Rattle.std.specs.Prelude.{◌≡◌, ◌<◌, ◌^◌, IfSome, length, slice_get, option_map};
-ghost use Rattle.expression_text.specs.Lexing.{texts, column_at, number_of_token_at};
+ghost use Rattle.expression_text.specs.Lexing.{token_texts, column_of_token, number_of_token_at};
 
 use crate::number::read_number;
 use std::marker::Model;
@@ -13,9 +13,9 @@ pub(crate) struct Token<'a> {
 }
 
 impl<'a> Model for Token<'a> {
-    ghost use Rattle.expression_text.specs.Lexing.{Placed};
+    ghost use Rattle.expression_text.specs.Lexing.{PlacedToken};
 
-    ghost Value = { Placed };
+    ghost Value = { PlacedToken };
 
     ghost view = { λ t. record { text = t.text.now; column = t.column } };
 }
@@ -28,9 +28,9 @@ pub struct Tokens<'a> {
 }
 
 impl<'a> Model for Tokens<'a> {
-    ghost use Rattle.expression_text.specs.Lexing.{Lexed};
+    ghost use Rattle.expression_text.specs.Lexing.{LexedLine};
 
-    ghost Value = { Lexed };
+    ghost Value = { LexedLine };
 
     ghost view = { λ t. record { tokens = t.tokens.items; end = t.end } };
 }
@@ -45,7 +45,7 @@ impl<'a> Tokens<'a> {
 
     /// The bytes of the token with this number, from 0, and None exactly after the last.
     pub fn text(&self, n: usize) -> Option<&'a [u8]>
-        ensures text { option_map (λ text. text.now) result ≡ slice_get (texts self.now) n }
+        ensures text { option_map (λ text. text.now) result ≡ slice_get (token_texts self.now) n }
         ensures small { IfSome result (λ _. n < 2 ^ 63) }
     {
         Some(self.tokens.get(n)?.text)
@@ -60,7 +60,7 @@ impl<'a> Tokens<'a> {
 
     /// The column of the token, and after the last token the one after the line.
     pub fn column(&self, n: usize) -> u32
-        ensures { result ≡ column_at self.now n }
+        ensures { result ≡ column_of_token self.now n }
     {
         match self.tokens.get(n) {
             Some(token) => token.column,

@@ -4,8 +4,8 @@ use Rattle.std.specs.Prelude.{option_and_then}
 use Rattle.std.proofs.Math.Nat.{pow-suc}
 use Rattle.std.proofs.lemmas.Bool.{ltb-true, ltb-false, lt-ltb, le-ltb, leb-false, lt-leb, ne_eqb, or_from, or_parts}
 use Rattle.std.proofs.lemmas.Option.{some_pair_parts}
-use Rattle.fri_bytes.specs.Reading.{Reads, Begins}
-use Rattle.fri_bytes.specs.Short.{IsShort, IsShortest, short_at, short_bytes, short_within, short_within_at, longer}
+use Rattle.fri_bytes.specs.Reading.{Reads, BeginsSpelling}
+use Rattle.fri_bytes.specs.Short.{IsShort, IsShortest, short_at, short_bytes, short_within, short_within_at, longer_short}
 use Rattle.fri_bytes.proofs.Readers.{bind_some, chosen, kept}
 
 -- a number of eight bits or more takes one byte and those of the bits above
@@ -98,14 +98,14 @@ shortest_written (suc most) n (b ∷ c ∷ bs) fits (big, byte, high, some, valu
 
 -- ---- it is read where it stands, and nothing else is
 
-longer_some : (b high : ℕ) (rest : List ℕ) → 1 ≤ high → high < 2 ^ 57 → longer b (high, rest) ≡ Some (128 * high + (b - 128), rest)
+longer_some : (b high : ℕ) (rest : List ℕ) → 1 ≤ high → high < 2 ^ 57 → longer_short b (high, rest) ≡ Some (128 * high + (b - 128), rest)
 longer_some b high rest some small = rw (or_from (eqb high 0) (leb (2 ^ 57) high) (ne_eqb high 0 (λ none. omega arith)) (lt-leb (2 ^ 57) high small)) refl
 
 not_zero : (n : ℕ) → eqb n 0 ≡ false → 1 ≤ n
 not_zero zero e = absurd cc
 not_zero (suc n) e = omega arith
 
-longer_found : (b n : ℕ) (x : ℕ × List ℕ) (rest : List ℕ) → longer b x ≡ Some (n, rest) → (1 ≤ x.0) × (x.0 < 2 ^ 57) × (n ≡ 128 * x.0 + (b - 128)) × (x.1 ≡ rest)
+longer_found : (b n : ℕ) (x : ℕ × List ℕ) (rest : List ℕ) → longer_short b x ≡ Some (n, rest) → (1 ≤ x.0) × (x.0 < 2 ^ 57) × (n ≡ 128 * x.0 + (b - 128)) × (x.1 ≡ rest)
 longer_found b n x rest e = elim (chosen (eqb x.0 0 || leb (2 ^ 57) x.0) None (Some (128 * x.0 + (b - 128), x.1)) (Some (n, rest)) e) [
   | inl p ↦ absurd (let no = p.1 in cc)
   | inr p ↦
@@ -114,18 +114,18 @@ longer_found b n x rest e = elim (chosen (eqb x.0 0 || leb (2 ^ 57) x.0) None (S
       (not_zero x.0 tests.0, leb-false (2 ^ 57) x.0 tests.1, sym parts.0, parts.1)
 ]
 
-short_takes : (most : ℕ) (bytes : List ℕ) (n : ℕ) (rest : List ℕ) → short_within_at most bytes ≡ Some (n, rest) → Begins IsShort bytes n rest
+short_takes : (most : ℕ) (bytes : List ℕ) (n : ℕ) (rest : List ℕ) → short_within_at most bytes ≡ Some (n, rest) → BeginsSpelling IsShort bytes n rest
 short_takes zero bytes n rest e = absurd cc
 short_takes (suc most) [] n rest e = absurd cc
-short_takes (suc most) (b ∷ bs) n rest e = elim (chosen (ltb b 128) (Some (b, bs)) (cond (ltb b 256) (option_and_then (longer b) (short_within_at most bs)) None) (Some (n, rest)) e) [
+short_takes (suc most) (b ∷ bs) n rest e = elim (chosen (ltb b 128) (Some (b, bs)) (cond (ltb b 256) (option_and_then (longer_short b) (short_within_at most bs)) None) (Some (n, rest)) e) [
   | inl p ↦
       let parts = some_pair_parts b n bs rest p.1 in
       let small : b < 128 = ltb-true b 128 p.0 in
       (b ∷ [], ap (λ (t : List ℕ). b ∷ t) parts.1, record { small = omega (arith, parts.0); shortest = (small, sym parts.0) })
   | inr p ↦
-      let q = kept (ltb b 256) (option_and_then (longer b) (short_within_at most bs)) (n, rest) p.1 in
+      let q = kept (ltb b 256) (option_and_then (longer_short b) (short_within_at most bs)) (n, rest) p.1 in
       let byte : b < 256 = ltb-true b 256 q.0 in
-      let x = bind_some (longer b) (short_within_at most bs) (n, rest) q.1 in
+      let x = bind_some (longer_short b) (short_within_at most bs) (n, rest) q.1 in
       let found = longer_found b n x.0 rest x.2 in
       let after = short_takes most bs x.0.0 x.0.1 x.1 in
       let big : 128 ≤ b = ltb-false b 128 p.0 in (

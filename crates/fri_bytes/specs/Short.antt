@@ -27,15 +27,15 @@ short_bytes n = short_within 10 n
 -- ---- reading from the front: the number and the bytes after it, or nothing
 
 -- seven bits and those of the bytes after them, which are not 0 and fit
-abbrev pub longer : ℕ → ℕ × List ℕ → Option (ℕ × List ℕ)
-longer b x = if (x.0 == 0) || nat_le (2 ^ 57) x.0 then None else Some (128 * x.0 + (b - 128), x.1)
+abbrev pub longer_short : ℕ → ℕ × List ℕ → Option (ℕ × List ℕ)
+longer_short b x = if (x.0 == 0) || nat_le (2 ^ 57) x.0 then None else Some (128 * x.0 + (b - 128), x.1)
 
 -- the number in at most so many bytes
 abbrev pub short_within_at : ℕ → List ℕ → Option (ℕ × List ℕ)
 short_within_at zero bytes = None
 short_within_at (suc more) [] = None
 short_within_at (suc more) (b ∷ bytes) =
-    if nat_lt b 128 then Some (b, bytes) else (if nat_lt b 256 then option_and_then (longer b) (short_within_at more bytes) else None)
+    if nat_lt b 128 then Some (b, bytes) else (if nat_lt b 256 then option_and_then (longer_short b) (short_within_at more bytes) else None)
 
 -- the short number at the front of the bytes
 unfoldable pub short_at : List ℕ → Option (ℕ × List ℕ)

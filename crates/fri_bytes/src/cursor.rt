@@ -2,7 +2,7 @@
 ghost use Rattle.std.specs.Prelude.{◌≡◌, ◌+◌, ◌^◌, ◌<◌, ◌≤◌, pos, IfSome, IfNone, option_map};
 ghost use Rattle.std.specs.Int.{w16, w32, w64};
 ghost use Rattle.fri_bytes.specs.Leb.{IsUnsigned, IsSigned, unsigned_at, signed_at};
-ghost use Rattle.fri_bytes.specs.Reading.{Takes, Begins, OnlyBegins, NoneBegins, byte_at, piece_at, le_at};
+ghost use Rattle.fri_bytes.specs.Reading.{TakesFromCursor, BeginsSpelling, OnlySpellingBegins, NoSpellingBegins, byte_at, piece_at, le_at};
 ghost use Rattle.fri_bytes.specs.Short.{IsShort, short_at};
 
 use crate::leb::{signed, unsigned};
@@ -54,7 +54,7 @@ impl<'a> Cursor<'a> {
 
     /// The next `n` bytes, a piece of the slice that is read.
     pub fn take(&mut self, n: usize) -> Option<&'a [u8]>
-        ensures { Takes self.old self.new (option_map (λ x. x.now) result) (piece_at n self.old.left) }
+        ensures { TakesFromCursor self.old self.new (option_map (λ x. x.now) result) (piece_at n self.old.left) }
     {
         let (piece, rest) = self.rest.split_at_checked(n)?;
         self.rest = rest;
@@ -64,7 +64,7 @@ impl<'a> Cursor<'a> {
 
     /// The next byte.
     pub fn byte(&mut self) -> Option<u8>
-        ensures { Takes self.old self.new result (byte_at self.old.left) }
+        ensures { TakesFromCursor self.old self.new result (byte_at self.old.left) }
     {
         let (first, rest) = self.rest.split_first()?;
         self.rest = rest;
@@ -74,7 +74,7 @@ impl<'a> Cursor<'a> {
 
     /// The next 2 bytes as a number, the lowest first.
     pub fn u16_le(&mut self) -> Option<u16>
-        ensures { Takes self.old self.new result (le_at w16 self.old.left) }
+        ensures { TakesFromCursor self.old self.new result (le_at w16 self.old.left) }
     {
         let piece = self.take(2)?;
         Some(LittleEndian::read_u16(piece))
@@ -82,7 +82,7 @@ impl<'a> Cursor<'a> {
 
     /// The next 4 bytes as a number, the lowest first.
     pub fn u32_le(&mut self) -> Option<u32>
-        ensures { Takes self.old self.new result (le_at w32 self.old.left) }
+        ensures { TakesFromCursor self.old self.new result (le_at w32 self.old.left) }
     {
         let piece = self.take(4)?;
         Some(LittleEndian::read_u32(piece))
@@ -90,7 +90,7 @@ impl<'a> Cursor<'a> {
 
     /// The next 8 bytes as a number, the lowest first.
     pub fn u64_le(&mut self) -> Option<u64>
-        ensures { Takes self.old self.new result (le_at w64 self.old.left) }
+        ensures { TakesFromCursor self.old self.new result (le_at w64 self.old.left) }
     {
         let piece = self.take(8)?;
         Some(LittleEndian::read_u64(piece))
@@ -100,10 +100,10 @@ impl<'a> Cursor<'a> {
     /// no such spelling is at the front.
     #[inline(always)]
     pub fn short_u64(&mut self) -> Option<u64>
-        ensures taken { Takes self.old self.new result (short_at self.old.left) }
-        ensures spelled { IfSome result (λ n. Begins IsShort self.old.left n self.new.left) }
-        ensures only { IfSome result (λ n. OnlyBegins IsShort self.old.left n self.new.left) }
-        ensures none { IfNone result (NoneBegins IsShort self.old.left) }
+        ensures taken { TakesFromCursor self.old self.new result (short_at self.old.left) }
+        ensures spelled { IfSome result (λ n. BeginsSpelling IsShort self.old.left n self.new.left) }
+        ensures only { IfSome result (λ n. OnlySpellingBegins IsShort self.old.left n self.new.left) }
+        ensures none { IfNone result (NoSpellingBegins IsShort self.old.left) }
     {
         let (number, rest) = short(self.rest)?;
         self.at += self.rest.len() - rest.len();
@@ -115,10 +115,10 @@ impl<'a> Cursor<'a> {
     /// 5.2.2): at most 5 bytes, which may be more than the number needs. None where no such spelling
     /// is at the front.
     pub fn leb_u32(&mut self) -> Option<u32>
-        ensures taken { Takes self.old self.new result (unsigned_at (2 ^ 32) self.old.left) }
-        ensures spelled { IfSome result (λ n. Begins (IsUnsigned (2 ^ 32)) self.old.left n self.new.left) }
-        ensures only { IfSome result (λ n. OnlyBegins (IsUnsigned (2 ^ 32)) self.old.left n self.new.left) }
-        ensures none { IfNone result (NoneBegins (IsUnsigned (2 ^ 32)) self.old.left) }
+        ensures taken { TakesFromCursor self.old self.new result (unsigned_at (2 ^ 32) self.old.left) }
+        ensures spelled { IfSome result (λ n. BeginsSpelling (IsUnsigned (2 ^ 32)) self.old.left n self.new.left) }
+        ensures only { IfSome result (λ n. OnlySpellingBegins (IsUnsigned (2 ^ 32)) self.old.left n self.new.left) }
+        ensures none { IfNone result (NoSpellingBegins (IsUnsigned (2 ^ 32)) self.old.left) }
     {
         let (number, rest) = unsigned(self.rest, 1 << 32)?;
         self.at += self.rest.len() - rest.len();
@@ -128,10 +128,10 @@ impl<'a> Cursor<'a> {
 
     /// The next signed number of 32 bits in LEB128 (section 5.2.2): at most 5 bytes.
     pub fn leb_s32(&mut self) -> Option<i32>
-        ensures taken { Takes self.old self.new result (signed_at (2 ^ 31) self.old.left) }
-        ensures spelled { IfSome result (λ z. Begins (IsSigned (2 ^ 31)) self.old.left z self.new.left) }
-        ensures only { IfSome result (λ z. OnlyBegins (IsSigned (2 ^ 31)) self.old.left z self.new.left) }
-        ensures none { IfNone result (NoneBegins (IsSigned (2 ^ 31)) self.old.left) }
+        ensures taken { TakesFromCursor self.old self.new result (signed_at (2 ^ 31) self.old.left) }
+        ensures spelled { IfSome result (λ z. BeginsSpelling (IsSigned (2 ^ 31)) self.old.left z self.new.left) }
+        ensures only { IfSome result (λ z. OnlySpellingBegins (IsSigned (2 ^ 31)) self.old.left z self.new.left) }
+        ensures none { IfNone result (NoSpellingBegins (IsSigned (2 ^ 31)) self.old.left) }
     {
         let (number, rest) = signed(self.rest, 1 << 31)?;
         self.at += self.rest.len() - rest.len();
@@ -141,10 +141,10 @@ impl<'a> Cursor<'a> {
 
     /// The next signed number of 64 bits in LEB128 (section 5.2.2): at most 10 bytes.
     pub fn leb_s64(&mut self) -> Option<i64>
-        ensures taken { Takes self.old self.new result (signed_at (2 ^ 63) self.old.left) }
-        ensures spelled { IfSome result (λ z. Begins (IsSigned (2 ^ 63)) self.old.left z self.new.left) }
-        ensures only { IfSome result (λ z. OnlyBegins (IsSigned (2 ^ 63)) self.old.left z self.new.left) }
-        ensures none { IfNone result (NoneBegins (IsSigned (2 ^ 63)) self.old.left) }
+        ensures taken { TakesFromCursor self.old self.new result (signed_at (2 ^ 63) self.old.left) }
+        ensures spelled { IfSome result (λ z. BeginsSpelling (IsSigned (2 ^ 63)) self.old.left z self.new.left) }
+        ensures only { IfSome result (λ z. OnlySpellingBegins (IsSigned (2 ^ 63)) self.old.left z self.new.left) }
+        ensures none { IfNone result (NoSpellingBegins (IsSigned (2 ^ 63)) self.old.left) }
     {
         let (number, rest) = signed(self.rest, 1 << 63)?;
         self.at += self.rest.len() - rest.len();

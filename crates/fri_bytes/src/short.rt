@@ -1,6 +1,6 @@
 // Short numbers, in the shortest spelling of seven bits a byte. Each call goes at most ten bytes deep.
 ghost use Rattle.std.specs.Prelude.{◌≡◌, ◌++◌, ◌<◌, ◌≤◌, ◌^◌, length, IfSome, OnOk, OnErr, option_and_then, option_map, take};
-ghost use Rattle.fri_bytes.specs.Short.{longer as longer_of, short_at, short_bytes, short_within as within_bytes, short_within_at};
+ghost use Rattle.fri_bytes.specs.Short.{longer_short as longer_of, short_at, short_bytes, short_within as within_bytes, short_within_at};
 
 use crate::put::{put_byte, put_bytes};
 use std::alloc::AllocError;
@@ -17,11 +17,11 @@ pub(crate) fn short(bytes: &[u8]) -> Option<(u64, &[u8])>
     if *first < 128 {
         return Some((u64::from(*first), rest));
     }
-    longer(*first, rest)
+    longer_short(*first, rest)
 }
 
 // The number of a first byte that is not its last and of those after it, which most often are one or two.
-fn longer(first: u8, bytes: &[u8]) -> Option<(u64, &[u8])>
+fn longer_short(first: u8, bytes: &[u8]) -> Option<(u64, &[u8])>
     requires { 128 ≤ first }
     ensures value { option_map (λ x. (x.0, x.1.now)) result ≡ option_and_then (longer_of first) (short_within_at 9 bytes.now) }
     ensures shorter { IfSome result (λ x. length x.1.now ≤ length bytes.now) }

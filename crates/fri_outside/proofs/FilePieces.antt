@@ -7,19 +7,19 @@ use Rattle.std.proofs.lemmas.Bool.Decides.{nat_tests}
 use Rattle.std.proofs.lemmas.List.{length-take, take_all}
 use Rattle.std.proofs.lemmas.Option.{same_Some}
 use Rattle.fri_outside.specs.Outside.{Held, Over, found_within}
-use Rattle.fri_outside.specs.Reading.{MovesBytes}
+use Rattle.fri_outside.specs.Reading.{MovesFrontOfBytes}
 
 -- ---- piece by piece
 
-pub moves_none : (left : Option (List ℕ)) (bytes : List ℕ) → MovesBytes left left bytes bytes
+pub moves_none : (left : Option (List ℕ)) (bytes : List ℕ) → MovesFrontOfBytes left left bytes bytes
 moves_none left bytes = ([], Consumes-nil left, sym (append-nil bytes))
 
-pub moves_more : (left now next : Option (List ℕ)) (before between after piece : List ℕ) → MovesBytes left now before between → Consumes now next piece → after ≡ between ++ piece → MovesBytes left next before after
+pub moves_more : (left now next : Option (List ℕ)) (before between after piece : List ℕ) → MovesFrontOfBytes left now before between → Consumes now next piece → after ≡ between ++ piece → MovesFrontOfBytes left next before after
 moves_more left now next before between after piece moved more is =
     (moved.0 ++ piece, Consumes-trans left now next moved.0 piece moved.1 more, is ∙ ap (λ (bytes : List ℕ). bytes ++ piece) moved.2 ∙ append_assoc before moved.0 piece)
 
 -- and then to the end
-pub moves_all : (left now : Option (List ℕ)) (before between after all : List ℕ) → MovesBytes left now before between → IfSome now (λ rest. after ≡ between ++ rest) → left ≡ Some all → after ≡ before ++ all
+pub moves_all : (left now : Option (List ℕ)) (before between after all : List ℕ) → MovesFrontOfBytes left now before between → IfSome now (λ rest. after ≡ between ++ rest) → left ≡ Some all → after ≡ before ++ all
 moves_all None now before between after all moved end is = cc
 moves_all (Some bytes) None before between after all moved end is = absurd moved.1
 moves_all (Some bytes) (Some rest) before between after all moved end is =

@@ -5,7 +5,7 @@ use Rattle.std.proofs.Math.Seq.{take-length, drop-append_seam}
 use Rattle.std.proofs.lemmas.List.{take-append-le, drop-append-le, take_all, length-drop}
 use Rattle.std.proofs.lemmas.List.Elements.{All-cons, All-head, All-nil, All-tail}
 use Rattle.std.proofs.lemmas.Grind.{common_steps}
-use Rattle.fri_outside.specs.Memory.{Hears, IsMark, Says, SinkInMemory, SourceInMemory, asking_at}
+use Rattle.fri_outside.specs.Memory.{HearsInMemory, IsAskingMark, SaysInMemory, SinkInMemory, SourceInMemory, asking_at}
 use Rattle.fri_outside.specs.Outside.{after_sink_write}
 use Rattle.fri_outside.specs.Terminal.{Asking}
 use Rattle.fri_outside.specs.declared.files.WriteError.{WriteError}
@@ -15,21 +15,21 @@ abbrev pub told : List ℕ → List ℕ → List Mark → List Asking
 told said given marks = map (λ m. asking_at said given m.said m.heard m.count) marks
 
 abbrev pub Are : List ℕ → List ℕ → List Mark → Type 0
-Are said given marks = All (λ m. IsMark said given m.said m.heard m.count) marks
+Are said given marks = All (λ m. IsAskingMark said given m.said m.heard m.count) marks
 
 module _ (said given : List ℕ) where
   -- more was said
-  said_more : (more : List ℕ) (m : Mark) → IsMark said given m.said m.heard m.count → asking_at (said ++ more) given m.said m.heard m.count ≡ asking_at said given m.said m.heard m.count
+  said_more : (more : List ℕ) (m : Mark) → IsAskingMark said given m.said m.heard m.count → asking_at (said ++ more) given m.said m.heard m.count ≡ asking_at said given m.said m.heard m.count
   said_more more m is = ap (λ (s : List ℕ). record { said = Some s; given = take m.count (drop m.heard given) }) (take-append-le m.said said more is.is_said)
 
   pub told_said : (more : List ℕ) (marks : List Mark) → Are said given marks → told (said ++ more) given marks ≡ told said given marks
   told_said more [] are = refl
   told_said more (m ∷ ms) are =
-      ap (λ (a : Asking). a ∷ told (said ++ more) given ms) (said_more more m (All-head (λ n. IsMark said given n.said n.heard n.count) m ms are))
-      ∙ ap (λ (found : List Asking). asking_at said given m.said m.heard m.count ∷ found) (told_said more ms (All-tail (λ n. IsMark said given n.said n.heard n.count) m ms are))
+      ap (λ (a : Asking). a ∷ told (said ++ more) given ms) (said_more more m (All-head (λ n. IsAskingMark said given n.said n.heard n.count) m ms are))
+      ∙ ap (λ (found : List Asking). asking_at said given m.said m.heard m.count ∷ found) (told_said more ms (All-tail (λ n. IsAskingMark said given n.said n.heard n.count) m ms are))
 
   -- more was given
-  given_more : (more : List ℕ) (m : Mark) → IsMark said given m.said m.heard m.count → asking_at said (given ++ more) m.said m.heard m.count ≡ asking_at said given m.said m.heard m.count
+  given_more : (more : List ℕ) (m : Mark) → IsAskingMark said given m.said m.heard m.count → asking_at said (given ++ more) m.said m.heard m.count ≡ asking_at said given m.said m.heard m.count
   given_more more m is =
       let high = is.is_given in
       ap (λ (g : List ℕ). record { said = Some (take m.said said); given = take m.count g }) (drop-append-le m.heard given more (omega (arith, high)))
@@ -38,8 +38,8 @@ module _ (said given : List ℕ) where
   pub told_given : (more : List ℕ) (marks : List Mark) → Are said given marks → told said (given ++ more) marks ≡ told said given marks
   told_given more [] are = refl
   told_given more (m ∷ ms) are =
-      ap (λ (a : Asking). a ∷ told said (given ++ more) ms) (given_more more m (All-head (λ n. IsMark said given n.said n.heard n.count) m ms are))
-      ∙ ap (λ (found : List Asking). asking_at said given m.said m.heard m.count ∷ found) (told_given more ms (All-tail (λ n. IsMark said given n.said n.heard n.count) m ms are))
+      ap (λ (a : Asking). a ∷ told said (given ++ more) ms) (given_more more m (All-head (λ n. IsAskingMark said given n.said n.heard n.count) m ms are))
+      ∙ ap (λ (found : List Asking). asking_at said given m.said m.heard m.count ∷ found) (told_given more ms (All-tail (λ n. IsAskingMark said given n.said n.heard n.count) m ms are))
 
   told_last : (marks : List Mark) (m : Mark) → told said given (marks ++ m ∷ []) ≡ told said given marks ++ asking_at said given m.said m.heard m.count ∷ []
   told_last [] m = refl
@@ -54,7 +54,7 @@ told_now said given more n is =
 
 pub hears_noted : (out : SinkInMemory) (faults : ℕ) (old new : SourceInMemory) (marks : List Mark) (n : ℕ) (buf : List ℕ) → Are out.bytes old.given marks
     → old.rest ≡ take n buf ++ new.rest → (n ≡ 0 → old.rest ≡ []) → n ≤ length buf → new.given ≡ old.given ++ take n buf
-    → Hears (record { input = old; out = out; asked = told out.bytes old.given marks; faults = faults })
+    → HearsInMemory (record { input = old; out = out; asked = told out.bytes old.given marks; faults = faults })
     (record { input = new; out = out; asked = told out.bytes new.given (marks ++ record { said = length out.bytes; heard = length old.given; count = n } ∷ []); faults = faults }) (Ok n) buf
 hears_noted out faults old new marks n buf are bytes end low given =
     let m : Mark = record { said = length out.bytes; heard = length old.given; count = n } in
@@ -74,7 +74,7 @@ hears_noted out faults old new marks n buf are bytes end low given =
 
 pub says_kept : (old new : SinkInMemory) (faults : ℕ) (input : SourceInMemory) (marks : List Mark) (piece : List ℕ) (result : Result ℕ WriteError) → Are old.bytes input.given marks
     → IfOk result (λ count. count ≡ length piece) → MatchResult result (λ _. new.bytes ≡ old.bytes ++ piece) (λ _. new.bytes ≡ old.bytes) → new.faults ≡ after_sink_write old.faults result
-    → Says (record { input = input; out = old; asked = told old.bytes input.given marks; faults = faults })
+    → SaysInMemory (record { input = input; out = old; asked = told old.bytes input.given marks; faults = faults })
     (record { input = input; out = new; asked = told new.bytes input.given marks; faults = faults }) piece result
 says_kept old new faults input marks piece (Ok count) are whole bytes counted = record {
   whole = whole;

@@ -14,13 +14,13 @@ pub record Hearing : Type 0 where
   pub asked : Option (List Asking)
 
 -- nothing is heard
-abbrev pub deaf : Hearing
-deaf = record { left = None; faults = 0; asked = None }
+abbrev pub deaf_hearing : Hearing
+deaf_hearing = record { left = None; faults = 0; asked = None }
 
 -- the times at which more was given, where they are told, and one more
 abbrev pub with_asking : Option (List ℕ) → List ℕ → Option (List Asking) → Option (List Asking)
 with_asking said given asked = option_map (λ askings. askings ++ record { said = said; given = given } ∷ []) asked
 
 -- the bytes of some askings, one after the other
-abbrev pub given_in : List Asking → List ℕ
-given_in askings = flat_map (λ asking. asking.given) askings
+abbrev pub given_in_askings : List Asking → List ℕ
+given_in_askings askings = flat_map (λ asking. asking.given) askings

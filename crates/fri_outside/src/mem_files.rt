@@ -2,8 +2,8 @@
 ghost use Rattle.std.specs.Prelude.{◌≡◌, ◌↔◌, [], Some, OnOk, OnErr, IsErrOf, MatchResult};
 ghost use Rattle.std.specs.Option.{option_copied};
 ghost use Rattle.std.specs.FinMap.{empty, get, insert};
-ghost use Rattle.fri_outside.specs.Outside.{Held, found, SaysOf, after_read, after_write};
-ghost use Rattle.fri_outside.specs.Memory.{no_failures, IsDue, after_call, with_failure, appended, half, SameFaults};
+ghost use Rattle.fri_outside.specs.Outside.{Held, found_file, SaysOf, after_read, after_write};
+ghost use Rattle.fri_outside.specs.Memory.{no_failures, IsDueFailure, after_call, with_failure, appended_to_file, first_half, SameFaultCounts};
 
 use crate::plan::FailurePlan;
 use crate::shelf::Shelf;
@@ -89,14 +89,14 @@ impl Files for MemFiles {
     /// Answers `Failed` where the call is to fail, before the name is looked at.
     fn read(&mut self, alloc: Global, name: &str, limit: usize) -> Result<Vec<u8>, FileError>
         ensures answer { MatchResult result
-            (λ bytes. found self.old.folder name.now limit ≡ Held bytes.items)
-            (SaysOf (found self.old.folder name.now limit)) }
+            (λ bytes. found_file self.old.folder name.now limit ≡ Held bytes.items)
+            (SaysOf (found_file self.old.folder name.now limit)) }
         ensures same { self.new.folder ≡ self.old.folder }
 
-        ensures fails { IsErrOf result FileError.Failed ↔ IsDue self.old.plan }
+        ensures fails { IsErrOf result FileError.Failed ↔ IsDueFailure self.old.plan }
         ensures called { self.new.plan ≡ after_call self.old.plan }
         ensures counted { self.new.counts ≡ after_read self.old.counts result }
-        ensures quiet { self.old.plan.failing ≡ [] → SameFaults self.old.counts self.new.counts }
+        ensures quiet { self.old.plan.failing ≡ [] → SameFaultCounts self.old.counts self.new.counts }
     {
         if self.plan.count_call() {
             self.read_faults = self.read_faults.saturating_add(1);
@@ -120,10 +120,10 @@ impl Files for MemFiles {
         ensures ok { OnOk result (self.new.folder ≡ insert self.old.folder name.now []) }
         ensures err { OnErr result (self.new.folder ≡ self.old.folder) }
 
-        ensures fails { IsErrOf result WriteError.Failed ↔ IsDue self.old.plan }
+        ensures fails { IsErrOf result WriteError.Failed ↔ IsDueFailure self.old.plan }
         ensures called { self.new.plan ≡ after_call self.old.plan }
         ensures counted { self.new.counts ≡ after_write self.old.counts result }
-        ensures quiet { self.old.plan.failing ≡ [] → SameFaults self.old.counts self.new.counts }
+        ensures quiet { self.old.plan.failing ≡ [] → SameFaultCounts self.old.counts self.new.counts }
     {
         if self.plan.count_call() {
             self.write_faults = self.write_faults.saturating_add(1);
@@ -136,15 +136,15 @@ impl Files for MemFiles {
     /// A call that is to fail writes the first half of the piece, rounded down, or answers `NoMemory`
     /// where there is no room for that.
     fn append(&mut self, name: &str, piece: &[u8]) -> Result<(), WriteError>
-        ensures ok { OnOk result (self.new.folder ≡ appended name.now piece.now self.old.folder) }
-        ensures failed { IsErrOf result WriteError.Failed → self.new.folder ≡ appended name.now (half piece.now) self.old.folder }
+        ensures ok { OnOk result (self.new.folder ≡ appended_to_file name.now piece.now self.old.folder) }
+        ensures failed { IsErrOf result WriteError.Failed → self.new.folder ≡ appended_to_file name.now (first_half piece.now) self.old.folder }
         ensures no_memory { IsErrOf result WriteError.NoMemory → self.new.folder ≡ self.old.folder }
 
-        ensures fails { IsErrOf result WriteError.Failed → IsDue self.old.plan }
-        ensures passes { OnOk result (¬ IsDue self.old.plan) }
+        ensures fails { IsErrOf result WriteError.Failed → IsDueFailure self.old.plan }
+        ensures passes { OnOk result (¬ IsDueFailure self.old.plan) }
         ensures called { self.new.plan ≡ after_call self.old.plan }
         ensures counted { self.new.counts ≡ after_write self.old.counts result }
-        ensures quiet { self.old.plan.failing ≡ [] → SameFaults self.old.counts self.new.counts }
+        ensures quiet { self.old.plan.failing ≡ [] → SameFaultCounts self.old.counts self.new.counts }
     {
         if self.plan.count_call() {
             let half = piece.len() / 2;

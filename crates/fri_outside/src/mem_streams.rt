@@ -1,8 +1,8 @@
 // A source and a sink in memory, whose chosen calls fail.
 ghost use Rattle.std.specs.Prelude.{◌≡◌, ◌<◌, ◌≤◌, ◌++◌, ◌↔◌, [], Some, min, length, take, drop, IsErr, IfOk, IsErrOf, OnOk, OnErr, MatchResult};
 ghost use Rattle.fri_outside.specs.Outside.{after_source_read, after_sink_write};
-ghost use Rattle.fri_outside.specs.Terminal.{deaf};
-ghost use Rattle.fri_outside.specs.Memory.{no_failures, IsDue, after_call, with_failure};
+ghost use Rattle.fri_outside.specs.Terminal.{deaf_hearing};
+ghost use Rattle.fri_outside.specs.Memory.{no_failures, IsDueFailure, after_call, with_failure};
 
 use crate::plan::FailurePlan;
 use crate::{Failed, Sink, Source, WriteError};
@@ -83,7 +83,7 @@ impl Source for MemSource {
         ensures same { OnErr result (self.new.rest ≡ self.old.rest) }
         ensures given { MatchResult result (λ n. self.new.given ≡ self.old.given ++ take n buf.new) (λ _. self.new.given ≡ self.old.given) }
 
-        ensures fails { IsErr result ↔ IsDue self.old.plan }
+        ensures fails { IsErr result ↔ IsDueFailure self.old.plan }
         ensures called { self.new.plan ≡ after_call self.old.plan }
         ensures counted { self.new.faults ≡ after_source_read self.old.faults result }
         ensures quiet { self.old.plan.failing ≡ [] → self.new.faults ≡ self.old.faults }
@@ -150,7 +150,7 @@ impl Sink for MemSink {
 
     ghost faults = { λ sink. sink.faults };
 
-    ghost hearing = { λ _. deaf };
+    ghost hearing = { λ _. deaf_hearing };
 
     /// Takes the whole piece.
     fn write(&mut self, piece: &[u8]) -> Result<usize, WriteError>
@@ -159,7 +159,7 @@ impl Sink for MemSink {
         ensures bytes { MatchResult result (λ _. self.new.bytes ≡ self.old.bytes ++ piece.now)
             (λ _. self.new.bytes ≡ self.old.bytes) }
 
-        ensures fails { IsErrOf result WriteError.Failed ↔ IsDue self.old.plan }
+        ensures fails { IsErrOf result WriteError.Failed ↔ IsDueFailure self.old.plan }
         ensures called { self.new.plan ≡ after_call self.old.plan }
         ensures counted { self.new.faults ≡ after_sink_write self.old.faults result }
         ensures quiet { self.old.plan.failing ≡ [] → self.new.faults ≡ self.old.faults }

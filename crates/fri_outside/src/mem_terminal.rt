@@ -1,6 +1,6 @@
 // A source and a sink in memory as one terminal, which keeps in which order they were used.
 ghost use Rattle.std.specs.Prelude.{◌≡◌, ◌<◌, ◌≤◌, [], Some, length, IfOk};
-ghost use Rattle.fri_outside.specs.Memory.{Hears, Says};
+ghost use Rattle.fri_outside.specs.Memory.{HearsInMemory, SaysInMemory};
 
 use crate::{Failed, MemSink, MemSource, Sink, Source, Terminal, WriteError};
 use std::alloc::Global;
@@ -25,7 +25,7 @@ pub struct MemTerminal {
 
 impl Model for MemTerminal {
     ghost use Rattle.std.specs.Prelude.{All, map};
-    ghost use Rattle.fri_outside.specs.Memory.{IsMark, TerminalInMemory, asking_at};
+    ghost use Rattle.fri_outside.specs.Memory.{IsAskingMark, TerminalInMemory, asking_at};
 
     ghost Value = { TerminalInMemory };
 
@@ -36,7 +36,7 @@ impl Model for MemTerminal {
       faults = terminal.faults;
     } };
 
-    ghost invariant = { λ terminal. All (λ m. IsMark terminal.out.bytes terminal.input.given m.said m.heard m.count) terminal.marks.items };
+    ghost invariant = { λ terminal. All (λ m. IsAskingMark terminal.out.bytes terminal.input.given m.said m.heard m.count) terminal.marks.items };
 }
 
 impl MemTerminal {
@@ -62,7 +62,7 @@ impl MemTerminal {
     // Writes. What was noted stays.
     fn say(&mut self, piece: &[u8]) -> Result<usize, WriteError>
         requires { 0 < length piece.now }
-        ensures said { Says self.old self.new piece.now result }
+        ensures said { SaysInMemory self.old self.new piece.now result }
     {
         self.out.write(piece)
     }
@@ -70,7 +70,7 @@ impl MemTerminal {
     // Reads, and notes what came and what had been said by then. The room for the note is made first.
     fn hear(&mut self, buf: &mut [u8]) -> Result<usize, Failed>
         requires { 0 < length buf.old }
-        ensures heard { Hears self.old self.new result buf.new }
+        ensures heard { HearsInMemory self.old self.new result buf.new }
         ensures bound { IfOk result (λ n. n ≤ length buf.new) }
     {
         if self.marks.reserve(1).is_err() {

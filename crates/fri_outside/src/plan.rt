@@ -1,6 +1,6 @@
 // Which calls of an object in memory are to fail.
 ghost use Rattle.std.specs.Prelude.{◌≡◌, ◌↔◌, IsTrue, OnOk, OnErr};
-ghost use Rattle.fri_outside.specs.Memory.{no_failures, IsDue, after_call, with_failure};
+ghost use Rattle.fri_outside.specs.Memory.{no_failures, IsDueFailure, after_call, with_failure};
 
 use std::alloc::{AllocError, Global};
 use std::marker::Model;
@@ -13,9 +13,9 @@ pub(crate) struct FailurePlan {
 }
 
 impl Model for FailurePlan {
-    ghost use Rattle.fri_outside.specs.Memory.{Plan};
+    ghost use Rattle.fri_outside.specs.Memory.{FailurePlan};
 
-    ghost Value = { Plan };
+    ghost Value = { FailurePlan };
 
     ghost view = { λ plan. record { calls = plan.calls; failing = plan.failing.items } };
 }
@@ -41,7 +41,7 @@ impl FailurePlan {
 
     /// Counts a call, and says whether it is to fail.
     pub(crate) fn count_call(&mut self) -> bool
-        ensures due { IsTrue result ↔ IsDue self.old }
+        ensures due { IsTrue result ↔ IsDueFailure self.old }
         ensures counted { self.new ≡ after_call self.old }
     {
         self.calls = self.calls.saturating_add(1);

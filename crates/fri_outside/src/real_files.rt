@@ -1,8 +1,8 @@
 // The files of the runtime. They count what failed and what was missed, and tell no contents.
 ghost use Rattle.std.specs.Prelude.{◌≡◌, ◌≤◌, ◌+◌, None, Some, take, vec_len, IfOk, OnOk, MatchResult};
 ghost use Rattle.std.specs.Io.KnownBytes.{Appends};
-ghost use Rattle.fri_outside.specs.Outside.{Found, Held, SaysOf, WhenTold, after_read, after_write, found_within};
-ghost use Rattle.fri_outside.specs.Reading.{MovesBytes};
+ghost use Rattle.fri_outside.specs.Outside.{FoundFile, Held, SaysOf, WhenTold, after_read, after_write, found_within};
+ghost use Rattle.fri_outside.specs.Reading.{MovesFrontOfBytes};
 
 use crate::open_files::{OpenFiles, close};
 use crate::{FileError, Files, WriteError};
@@ -137,7 +137,7 @@ fn open_read_error(error: &io::Error) -> FileError {
 
 // Why bytes of an open file were not read, whatever the file has. It was found, so it is not absent.
 fn bytes_error(error: &io::Error) -> FileError
-    ensures { (here : Found) → SaysOf here result }
+    ensures { (here : FoundFile) → SaysOf here result }
 {
     match error.kind() {
         ErrorKind::OutOfMemory => FileError::NoMemory,
@@ -154,15 +154,15 @@ fn open_error(error: &io::Error) -> WriteError {
 }
 
 // How many bytes are copied at once.
-const PIECE: usize = 65_536;
+const FILE_PIECE: usize = 65_536;
 
 // Adds whole pieces after the bytes, of so many bytes in all that are expected. `read_to_end` would first fill what it
 // reads into with zeros, byte by byte, which takes longer than to read.
 fn append_pieces<F: Read>(file: &mut F, expected: u64, bytes: &mut Vec<u8>) -> io::Result<()>
-    ensures { OnOk result (MovesBytes (F.remaining file.old) (F.remaining file.new) bytes.old.items bytes.new.items) }
+    ensures { OnOk result (MovesFrontOfBytes (F.remaining file.old) (F.remaining file.new) bytes.old.items bytes.new.items) }
 {
-    let mut piece = [0; PIECE];
-    for _ in 0..expected / PIECE as u64 {
+    let mut piece = [0; FILE_PIECE];
+    for _ in 0..expected / FILE_PIECE as u64 {
         file.read_exact(&mut piece)?;
         bytes.extend_from_slice(&piece)?;
     }

@@ -1,6 +1,6 @@
 // A source over a reader and a sink over a writer. They count what failed, and tell no contents.
 ghost use Rattle.std.specs.Prelude.{◌≡◌, ◌<◌, ◌≤◌, None, length, IfOk};
-ghost use Rattle.fri_outside.specs.Terminal.{deaf};
+ghost use Rattle.fri_outside.specs.Terminal.{deaf_hearing};
 ghost use Rattle.fri_outside.specs.Outside.{after_source_read, after_sink_write};
 
 use crate::{Failed, Sink, Source, WriteError};
@@ -111,7 +111,7 @@ impl<W: Write + Drop> Sink for WriterSink<W> {
 
     ghost faults = { λ sink. sink };
 
-    ghost hearing = { λ _. deaf };
+    ghost hearing = { λ _. deaf_hearing };
 
     fn write(&mut self, piece: &[u8]) -> Result<usize, WriteError>
         requires { 0 < length piece.now }

@@ -2,7 +2,7 @@
 ghost use Rattle.std.specs.Prelude.{◌≡◌, OnOk, OnErr};
 ghost use Rattle.std.specs.Option.{option_copied};
 ghost use Rattle.std.specs.FinMap.{empty, get, insert};
-ghost use Rattle.fri_outside.specs.Memory.{appended};
+ghost use Rattle.fri_outside.specs.Memory.{appended_to_file};
 
 use std::alloc::{AllocError, Global};
 use std::collections::BTreeMap;
@@ -64,7 +64,7 @@ impl Shelf {
         name: &str,
         piece: &[u8],
     ) -> Result<(), AllocError>
-        ensures ok { OnOk result (self.new ≡ appended name.now piece.now self.old) }
+        ensures ok { OnOk result (self.new ≡ appended_to_file name.now piece.now self.old) }
         ensures err { OnErr result (self.new ≡ self.old) }
     {
         match self.files.get_mut(name) {

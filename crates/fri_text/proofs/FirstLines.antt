@@ -7,7 +7,7 @@ use Rattle.std.proofs.lemmas.Bool.{cases_Bool, eqb-false}
 use Rattle.std.proofs.lemmas.List.{drop-drop, length-drop}
 use Rattle.std.proofs.lemmas.List.Sums.{prefix_len-le-length}
 use Rattle.std.proofs.lemmas.Option.{cond_some, some_pair_parts}
-use Rattle.fri_bytes.specs.Reading.{CursorState, Takes, byte_at, piece_at}
+use Rattle.fri_bytes.specs.Reading.{CursorState, TakesFromCursor, byte_at, piece_at}
 use Rattle.fri_text.specs.Line.{is_line_feed, line_at, pieces_of, lines_of}
 
 unwrap_or-cond : (n most : ℕ) → n ≤ most → unwrap_or (cond (ltb n most) (Some n) None) most ≡ n
@@ -17,7 +17,7 @@ unwrap_or-cond n most h = grind arith
 unwrap_or-position : (bytes : List ℕ) → unwrap_or (position is_line_feed bytes) (length bytes) ≡ position_or_len is_line_feed bytes
 unwrap_or-position bytes = unwrap_or-cond (position_or_len is_line_feed bytes) (length bytes) (prefix_len-le-length _ bytes)
 
-byte_drops_at : (bytes : List ℕ) (old new : CursorState) (byte : Option ℕ) → old.left ≡ bytes → Takes old new byte (byte_at bytes) → (new.left ≡ drop 1 old.left) × (new.at + length new.left ≡ old.at + length old.left)
+byte_drops_at : (bytes : List ℕ) (old new : CursorState) (byte : Option ℕ) → old.left ≡ bytes → TakesFromCursor old new byte (byte_at bytes) → (new.left ≡ drop 1 old.left) × (new.at + length new.left ≡ old.at + length old.left)
 byte_drops_at [] old new None e h =
     (ap (λ (r : CursorState). r.left) h.1 ∙ e ∙ sym (ap (drop 1) e), ap (λ (r : CursorState). r.at + length r.left) h.1)
 byte_drops_at [] old new (Some b) e h = absurd (let no = h.0 in cc)
@@ -27,7 +27,7 @@ byte_drops_at (c ∷ bytes) old new (Some b) e h =
     (sym parts.1 ∙ sym (ap (drop 1) e), h.1)
 
 -- taking a byte, if there is one, drops it
-pub byte_drops : (old new : CursorState) (byte : Option ℕ) → Takes old new byte (byte_at old.left) → (new.left ≡ drop 1 old.left) × (new.at + length new.left ≡ old.at + length old.left)
+pub byte_drops : (old new : CursorState) (byte : Option ℕ) → TakesFromCursor old new byte (byte_at old.left) → (new.left ≡ drop 1 old.left) × (new.at + length new.left ≡ old.at + length old.left)
 byte_drops old new byte h = byte_drops_at old.left old new byte refl h
 
 positive : (bytes rest : List ℕ) → rest ≡ bytes → (length rest ≡ 0 → ⊥) → 0 < length bytes

@@ -2,7 +2,7 @@
 ghost use Rattle.std.specs.Prelude.{◌≡◌, ◌<◌, [], ◌∷◌, length, option_map, IfSome, MatchOption};
 ghost use Rattle.std.specs.List.{position};
 ghost use Rattle.std.specs.Str.Lines.{strip_carriage_return};
-ghost use Rattle.fri_bytes.specs.Reading.{Takes};
+ghost use Rattle.fri_bytes.specs.Reading.{TakesFromCursor};
 ghost use Rattle.fri_text.specs.Line.{is_line_feed, line_at, lines_of};
 
 use fri_bytes::Cursor;
@@ -10,7 +10,7 @@ use fri_bytes::Cursor;
 /// The next line. It ends with a line feed or with the bytes, and is given without the line feed and
 /// without one carriage return before its end. None comes only where nothing is left.
 pub fn next_line<'a>(from: &mut Cursor<'a>) -> Option<&'a [u8]>
-    ensures taken { Takes from.old from.new (option_map (λ x. x.now) result) (line_at from.old.left) }
+    ensures taken { TakesFromCursor from.old from.new (option_map (λ x. x.now) result) (line_at from.old.left) }
 
     // It is the first of all lines, and the others are those of the bytes that are left.
     ensures lines { MatchOption result (lines_of from.old.left ≡ [])

@@ -3,15 +3,15 @@ use Rattle.std.proofs.Common.{◌≡◌, ◌≢◌, ◌⊎◌, ◌∙◌, ◌++�
 use Rattle.std.specs.Io.KnownBytes.{append_known}
 use Rattle.std.specs.Result.{IsOk}
 use Rattle.std.proofs.lemmas.Option.{same_Some}
-use Rattle.fri_outside.specs.Outside.{Folder, Counts, Rose, WhenTold}
+use Rattle.fri_outside.specs.Outside.{Folder, Counts, CountRose, WhenTold}
 use Rattle.command_run.specs.declared.status.Status.{Status}
 use Rattle.command_run.specs.declared.status.Status.TheVariants as ends
 use Rattle.command_run.specs.declared.refusal.WorkText.{WorkText}
 use Rattle.command_run.specs.declared.refusal.WorkText.TheVariants as answered
 use Rattle.command_run.specs.declared.refusal.StopCause.{StopCause}
-use Rattle.command_run.specs.Call.{CountsFaults, DivergesOnlyIf, IsAnswerResult, IsAnswerStatus, KeepsFolder, MakesWorkFiles, PrintsRefusal, Raises, TellsOutcome}
+use Rattle.command_run.specs.Call.{CountsFaults, DivergesOnlyIf, IsAnswerResult, IsAnswerStatus, KeepsFolder, MakesWorkFiles, PrintsRefusal, RaisesCount, TellsOutcome}
 use Rattle.command_run.specs.Outcome.{CommandOutcome, outcome_text, writes_of, written_names}
-use Rattle.command_run.specs.Run.{CallEnds, Finished, Outside, Performed, expectation, file_state}
+use Rattle.command_run.specs.Run.{CallEnds, FinishedCommand, Outside, PerformedCommand, expectation, file_state}
 use Rattle.record_command.specs.Agreement.{IsRecordable, LeavesMoment, LeavesRecording}
 use Rattle.record_command.specs.Expected.{record_outcome}
 use Rattle.record_command.specs.Laws.{RecordingsRest}
@@ -28,7 +28,7 @@ use Rattle.schedule_command.specs.Seen.{AnswerRecordsBack}
 use Rattle.streams_command.specs.Streams.{streams_outcome}
 use Rattle.friday_app.specs.Agreement.{KeepsMoment, PrintsConverse, ShowsRecording}
 use Rattle.friday_app.specs.Command.{Command, Cut, Debug, Drill, Migrate, Record, Replay, Schedule, Streams}
-use Rattle.friday_app.specs.Expected.{expected, written_by}
+use Rattle.friday_app.specs.Expected.{expected_outcome, written_by}
 use Rattle.friday_app.specs.Input.{KeepsInput}
 use Rattle.friday_app.specs.Run.{CommandRun}
 
@@ -42,8 +42,8 @@ run_same {old = old} {new = new} {answer = answer} is run = subst (λ k. Command
 pub performed : (f : Folder → CommandOutcome) (may_diverge : Bool) (before after : Option Folder) (counts counts_after : Counts) (ended : Result WorkText StopCause)
     → ((o : CommandOutcome) → option_map f before ≡ Some o → TellsOutcome o ended)
     → ((o : CommandOutcome) → option_map f before ≡ Some o → MakesWorkFiles ended (writes_of o) before after)
-    → KeepsFolder ended before after → DivergesOnlyIf may_diverge ended → CountsFaults counts counts_after ended → IfErr ended (Raises counts counts_after)
-    → Performed (expectation (option_map f before) (λ folder. written_names (f folder)) may_diverge) (file_state before counts) (file_state after counts_after) ended
+    → KeepsFolder ended before after → DivergesOnlyIf may_diverge ended → CountsFaults counts counts_after ended → IfErr ended (RaisesCount counts counts_after)
+    → PerformedCommand (expectation (option_map f before) (λ folder. written_names (f folder)) may_diverge) (file_state before counts) (file_state after counts_after) ended
 performed f may_diverge before after counts counts_after ended tells makes keeps diverges counted cause = record {
   tells = tells;
   makes = makes;
@@ -55,8 +55,8 @@ performed f may_diverge before after counts counts_after ended tells makes keeps
 }
 
 -- its refusal names no input
-refused_file : {Large : List ℕ → Type 0} (old new : Outside) → PrintsRefusal old.taken new.taken (λ file. Rose old.counts.misses new.counts.misses)
-    → PrintsRefusal old.taken new.taken (λ file. Rose old.counts.misses new.counts.misses ⊎ Large file)
+refused_file : {Large : List ℕ → Type 0} (old new : Outside) → PrintsRefusal old.taken new.taken (λ file. CountRose old.counts.misses new.counts.misses)
+    → PrintsRefusal old.taken new.taken (λ file. CountRose old.counts.misses new.counts.misses ⊎ Large file)
 refused_file old new (earlier, file, (why, is, cause)) = (earlier, file, (why, is, λ large. inl (cause large)))
 
 -- what it left is shown
@@ -68,7 +68,7 @@ left_shown law images name answer old new recorded moment before is after here =
     law images name answer before after (λ answers. recorded answers before is after here) (subst (LeavesMoment images name before) here (moment before is))
 
 pub run_recorded : LeftIsShown → (images : Bool) (name : List ℕ) (ended : Result WorkText StopCause) (answer : Status) (old new : Outside)
-    → Finished (expectation (option_map (record_outcome images name) old.told) (λ folder. written_names (record_outcome images name folder)) false) ended old new answer
+    → FinishedCommand (expectation (option_map (record_outcome images name) old.told) (λ folder. written_names (record_outcome images name folder)) false) ended old new answer
     → (IsAnswerResult ended → WhenTold old.told (λ before. WhenTold new.told (LeavesRecording name before)))
     → WhenTold old.told (λ before. LeavesMoment images name before new.told)
     → CommandRun (Some (Record images name)) old new answer
@@ -93,7 +93,7 @@ may_diverge (Ok (answered.Diverged text)) = refl
 may_diverge (Err e) = tt
 
 pub run_replayed : (images : Bool) (pairs : List Pair) (ended : Result WorkText StopCause) (answer : Status) (old new : Outside)
-    → Finished (expectation (option_map (replay_outcome images pairs) old.told) (λ folder. written_names (replay_outcome images pairs folder)) true) ended old new answer
+    → FinishedCommand (expectation (option_map (replay_outcome images pairs) old.told) (λ folder. written_names (replay_outcome images pairs folder)) true) ended old new answer
     → CommandRun (Some (Replay images pairs)) old new answer
 run_replayed images pairs ended answer old new f = record {
   call = f.call;
@@ -110,7 +110,7 @@ run_replayed images pairs ended answer old new f = record {
 }
 
 pub run_drilled : (rounds : ℕ) (ended : Result WorkText StopCause) (answer : Status) (old new : Outside)
-    → Finished (expectation (Some (drill_outcome rounds)) (λ folder. []) false) ended old new answer → CommandRun (Some (Drill rounds)) old new answer
+    → FinishedCommand (expectation (Some (drill_outcome rounds)) (λ folder. []) false) ended old new answer → CommandRun (Some (Drill rounds)) old new answer
 run_drilled rounds ended answer old new f = record {
   call = f.call;
   usage = record { only = λ is. absurd (f.is_command is); always = λ none h. cc };
@@ -126,7 +126,7 @@ run_drilled rounds ended answer old new f = record {
 }
 
 pub run_migrated : (log_name new_name : List ℕ) (ended : Result WorkText StopCause) (answer : Status) (old new : Outside)
-    → Finished (expectation (option_map (migrate_outcome log_name new_name) old.told) (λ folder. written_names (migrate_outcome log_name new_name folder)) false) ended old new answer
+    → FinishedCommand (expectation (option_map (migrate_outcome log_name new_name) old.told) (λ folder. written_names (migrate_outcome log_name new_name folder)) false) ended old new answer
     → CommandRun (Some (Migrate log_name new_name)) old new answer
 run_migrated log_name new_name ended answer old new f = record {
   call = f.call;
@@ -150,7 +150,7 @@ again pairs folder (Ok (answered.Diverged text)) answer before after ok tells re
 again pairs folder (Err e) answer before after ok tells records is = let wrong : false ≡ true = ok in cc
 
 pub run_scheduled : (pairs : List Pair) (ended : Result WorkText StopCause) (answer : Status) (old new : Outside)
-    → Finished (expectation (option_map (schedule_outcome pairs) old.told) (λ folder. []) false) ended old new answer
+    → FinishedCommand (expectation (option_map (schedule_outcome pairs) old.told) (λ folder. []) false) ended old new answer
     → ((o : CommandOutcome) → option_map (schedule_outcome pairs) old.told ≡ Some o → TellsOutcome o ended)
     → WhenTold old.told (λ folder. IfOk ended (AnswerRecordsBack pairs folder))
     → CommandRun (Some (Schedule pairs)) old new answer
@@ -181,7 +181,7 @@ kept_past process event pairs folder (Ok answer) ok cuts = cuts
 kept_past process event pairs folder (Err e) ok cuts = absurd (never_ok ok)
 
 pub run_cut : (process event : ℕ) (pairs : List Pair) (ended : Result WorkText StopCause) (answer : Status) (old new : Outside)
-    → Finished (expectation (option_map (cut_outcome process event pairs) old.told) (λ folder. written_names (cut_outcome process event pairs folder)) false) ended old new answer
+    → FinishedCommand (expectation (option_map (cut_outcome process event pairs) old.told) (λ folder. written_names (cut_outcome process event pairs folder)) false) ended old new answer
     → WhenTold old.told (λ folder. IfOk ended (λ _. CutsToPast process event pairs folder))
     → CommandRun (Some (Cut process event pairs)) old new answer
 run_cut process event pairs ended answer old new f cuts = record {
@@ -199,7 +199,7 @@ run_cut process event pairs ended answer old new f cuts = record {
 }
 
 pub run_streamed : (pairs : List Pair) (ended : Result WorkText StopCause) (answer : Status) (old new : Outside)
-    → Finished (expectation (option_map (streams_outcome pairs) old.told) (λ folder. []) false) ended old new answer → CommandRun (Some (Streams pairs)) old new answer
+    → FinishedCommand (expectation (option_map (streams_outcome pairs) old.told) (λ folder. []) false) ended old new answer → CommandRun (Some (Streams pairs)) old new answer
 run_streamed pairs ended answer old new f = record {
   call = f.call;
   usage = record { only = λ is. absurd (f.is_command is); always = λ none h. cc };
@@ -231,7 +231,7 @@ run_debugged pairs answer old new r = record {
   refused = r.refused;
 }
 
-pub run_none : (answer : Status) (old new : Outside) → CallEnds (expected None old.told old.hearing.left) (written_by None) old new answer
+pub run_none : (answer : Status) (old new : Outside) → CallEnds (expected_outcome None old.told old.hearing.left) (written_by None) old new answer
     → (IsAnswerStatus answer → answer ≡ ends.Usage) → (answer ≢ ends.ReadFault) → new.hearing ≡ old.hearing → CommandRun None old new answer
 run_none answer old new call usage reads unheard = record {
   call = call;
@@ -254,10 +254,10 @@ run_none answer old new call usage reads unheard = record {
 
 -- ---- want of memory, before anything was read
 
-pub run_stopped : RecordingsRest → LeftIsShown → (command : Option Command) (o : Outside) (answer : Status) → answer ≡ ends.NoMemory → CallEnds (expected command o.told o.hearing.left) (written_by command) o o answer
+pub run_stopped : RecordingsRest → LeftIsShown → (command : Option Command) (o : Outside) (answer : Status) → answer ≡ ends.NoMemory → CallEnds (expected_outcome command o.told o.hearing.left) (written_by command) o o answer
     → CommandRun command o o answer
 run_stopped rest law command o answer is call = subst (λ (a : Status). CommandRun command o o a) (sym is) (record {
-  call = subst (λ (a : Status). CallEnds (expected command o.told o.hearing.left) (written_by command) o o a) is call;
+  call = subst (λ (a : Status). CallEnds (expected_outcome command o.told o.hearing.left) (written_by command) o o a) is call;
   usage = record { only = λ e. absurd cc; always = λ none h. absurd h };
   diverged = λ e. absurd cc;
   recorded = λ h. absurd h;

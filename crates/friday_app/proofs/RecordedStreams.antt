@@ -11,15 +11,15 @@ use Rattle.lamport_tag.specs.declared.Tag.{Tag}
 use Rattle.lib_calls.specs.Traffic.{is_sent, is_taken}
 use Rattle.lib_calls.specs.declared.entry.Entry.{Entry}
 use Rattle.call_log.specs.Head.{Head}
-use Rattle.group_order.specs.Order.{IsSorted, NodeEvent, list_of, node_event, of_node, precedes}
-use Rattle.group_record.specs.Run.{GroupStart, Step, entries, size}
-use Rattle.group_state.specs.Place.{entry_clock, events, group_count}
+use Rattle.group_order.specs.Order.{IsSorted, NodeEvent, list_of, node_event, of_node, event_precedes}
+use Rattle.group_record.specs.Run.{GroupStart, RunStep, entries_of_steps, processes_in_group}
+use Rattle.group_state.specs.Place.{entry_clock, events_of_replays, group_count}
 use Rattle.proc_replay.specs.Replaying.{Replaying}
 use Rattle.byte_streams.specs.Laws.{IsTakenOf, IsUnsent, StrangeBySend, is_send_at}
 use Rattle.byte_streams.specs.Traffic.{Sent, SendOrReceive, mark_of_receive}
-use Rattle.headline.specs.Headline.{Ascend}
+use Rattle.headline.specs.Headline.{AscendNumbers}
 use Rattle.headline.specs.Shown.{AreShown, FromOutside, FromSend}
-use Rattle.streams_command.specs.Streams.{process_at, received, traffic_by, traffic_of_events, traffic_of_event}
+use Rattle.streams_command.specs.Streams.{process_at, received_traffic, traffic_by, traffic_of_events, traffic_of_event}
 use Rattle.friday_app.specs.Streams.{RecordedStreams, receiving_of, sending_of, tag_of, traffic_before}
 
 and_false : (b : Bool) → (b && false) ≡ false
@@ -40,7 +40,7 @@ all_append P (x ∷ xs) ys first second = (first.0, all_append P xs ys first.1 s
 record Between (Q : NodeEvent Entry → Type 0) (es : List (NodeEvent Entry)) (i j : ℕ) (a : NodeEvent Entry) : Type 0 where
   mid : List (NodeEvent Entry)
   is : take j es ≡ take i es ++ (a ∷ mid)
-  later : AllByRecursion (λ b. (precedes entry_clock a b ≡ true) × Q b) mid
+  later : AllByRecursion (λ b. (event_precedes entry_clock a b ≡ true) × Q b) mid
 
 module _ {X : Type 0} (P Q : X → Type 0) where
   both_taken : (n : ℕ) (xs : List X) → AllByRecursion P xs → AllByRecursion Q xs → AllByRecursion (λ x. P x × Q x) (take n xs)
@@ -56,7 +56,7 @@ between Q (x ∷ es) sorted all zero (suc j) a less at =
     record {
       mid = take j es;
       is = ap (λ (y : NodeEvent Entry). y ∷ take j es) same;
-      later = both_taken (λ b. precedes entry_clock a b ≡ true) Q j es (subst (λ (y : NodeEvent Entry). AllByRecursion (λ b. precedes entry_clock y b ≡ true) es) same sorted.0) all.1;
+      later = both_taken (λ b. event_precedes entry_clock a b ≡ true) Q j es (subst (λ (y : NodeEvent Entry). AllByRecursion (λ b. event_precedes entry_clock y b ≡ true) es) same sorted.0) all.1;
     }
 between Q (x ∷ es) sorted all (suc i) (suc j) a less at =
     let rest = between Q es sorted.1 all.1 i j a (omega (arith, less)) at in
@@ -84,7 +84,7 @@ list_beyond [] node above = refl
 list_beyond (xs ∷ lists) zero above = absurd (omega (arith, above))
 list_beyond (xs ∷ lists) (suc node) above = list_beyond lists node (omega (arith, above))
 
-length_lists : (steps : List Step) (ps : List ℕ) → length (map (entries steps) ps) ≡ length ps
+length_lists : (steps : List RunStep) (ps : List ℕ) → length (map (entries_of_steps steps) ps) ≡ length ps
 length_lists steps [] = refl
 length_lists steps (p ∷ ps) = ap suc (length_lists steps ps)
 
@@ -100,7 +100,7 @@ above_first first (p ∷ ps) all zero within = all.0
 above_first first (p ∷ ps) all (suc node) within = above_first first ps all.1 node (omega (arith, within))
 
 -- of numbers that ascend each is at one place
-one_place : (ps : List ℕ) → Ascend ps → (m n : ℕ) → m < length ps → n < length ps → slice_index_or ps m 0 ≡ slice_index_or ps n 0 → m ≡ n
+one_place : (ps : List ℕ) → AscendNumbers ps → (m n : ℕ) → m < length ps → n < length ps → slice_index_or ps m 0 ≡ slice_index_or ps n 0 → m ≡ n
 one_place [] up m n first second same = absurd (omega (arith, first))
 one_place (p ∷ ps) up zero zero first second same = refl
 one_place (p ∷ ps) up zero (suc n) first second same = absurd (omega (arith, same, above_first p ps up.0 n (omega (arith, second))))
@@ -120,7 +120,7 @@ module _ (count : ℕ) (start : List Replaying) (q clock : ℕ) where
 
   unsent_one : (e : NodeEvent Entry) → IsOther e → IsUnsent q clock (reverse (told e))
   unsent_one e other = by_kind (is_sent count e.entry) (is_taken e.entry) where
-    by_tag : (tag : Option Tag) → IsUnsent q clock (reverse (received (process_at start e.node) e.entry tag))
+    by_tag : (tag : Option Tag) → IsUnsent q clock (reverse (received_traffic (process_at start e.node) e.entry tag))
     by_tag None = tt
     by_tag (Some tag) = (refl, tt)
 
@@ -136,8 +136,8 @@ module _ (count : ℕ) (start : List Replaying) (q clock : ℕ) where
       (all_append (λ t. is_send_at q clock t ≡ false) (reverse (flat_map told mid)) (reverse (told e)) (unsent mid all.1) (unsent_one e all.0))
 
 -- an event after the send in the order, of one of these nodes, is of another process or at another clock
-other_event : (start : List Replaying) (ps : List ℕ) → map (λ (r : Replaying). r.head.process) start ≡ ps → Ascend ps → (q node : ℕ) (sent : Entry) (e : NodeEvent Entry) → process_at start node ≡ q → node < length ps
-    → precedes entry_clock (node_event node sent) e ≡ true → e.node < length ps → ((process_at start e.node == q) && (e.entry.clock == sent.clock)) ≡ false
+other_event : (start : List Replaying) (ps : List ℕ) → map (λ (r : Replaying). r.head.process) start ≡ ps → AscendNumbers ps → (q node : ℕ) (sent : Entry) (e : NodeEvent Entry) → process_at start node ≡ q → node < length ps
+    → event_precedes entry_clock (node_event node sent) e ≡ true → e.node < length ps → ((process_at start e.node == q) && (e.entry.clock == sent.clock)) ≡ false
 other_event start ps processes up q node sent e of within behind inside = by_process (process_at start e.node == q) refl where
   by_process : (b : Bool) → (process_at start e.node == q) ≡ b → (b && (e.entry.clock == sent.clock)) ≡ false
   by_process false is = refl
@@ -151,7 +151,7 @@ other_event start ps processes up q node sent e of within behind inside = by_pro
         let clock : e.entry.clock ≡ sent.clock = eqb-true e.entry.clock sent.clock at in
         let not_sooner : nat_lt sent.clock e.entry.clock ≡ false = grind (arith, nat_tests, clock) in
         let not_lower : nat_lt node e.node ≡ false = grind (arith, nat_tests, one) in
-        let never : precedes entry_clock (node_event node sent) e ≡ false =
+        let never : event_precedes entry_clock (node_event node sent) e ≡ false =
         ap (λ b. b || ((sent.clock == e.entry.clock) && nat_lt node e.node)) not_sooner
         ∙ ap (λ b. (sent.clock == e.entry.clock) && b) not_lower ∙ and_false (sent.clock == e.entry.clock) in
         let wrong = sym behind ∙ never in cc
@@ -167,14 +167,14 @@ split_traffic f front mid e t is =
 -- ---- the recording
 
 module _ (strange : StrangeBySend) where
-  processes_are : (group : GroupStart) (steps : List Step) (cut : ℕ → List ℕ) (ps : List ℕ) (rs : List Replaying) → AreShown group steps cut ps rs → map (λ (r : Replaying). r.head.process) rs ≡ ps
+  processes_are : (group : GroupStart) (steps : List RunStep) (cut : ℕ → List ℕ) (ps : List ℕ) (rs : List Replaying) → AreShown group steps cut ps rs → map (λ (r : Replaying). r.head.process) rs ≡ ps
   processes_are group steps cut [] [] each = refl
   processes_are group steps cut (p ∷ ps) (r ∷ rs) each =
       ap (λ (h : Head). h.process ∷ map (λ (r : Replaying). r.head.process) rs) each.0.head ∙ ap (λ (qs : List ℕ). p ∷ qs) (processes_are group steps cut ps rs each.1)
   processes_are group steps cut [] (r ∷ rs) each = absurd each
   processes_are group steps cut (p ∷ ps) [] each = absurd each
 
-  count_is : (group : GroupStart) (steps : List Step) (cut : ℕ → List ℕ) (ps : List ℕ) (rs : List Replaying) → AreShown group steps cut ps rs → (node p : ℕ) → slice_get ps node ≡ Some p → group_count rs ≡ size group
+  count_is : (group : GroupStart) (steps : List RunStep) (cut : ℕ → List ℕ) (ps : List ℕ) (rs : List Replaying) → AreShown group steps cut ps rs → (node p : ℕ) → slice_get ps node ≡ Some p → group_count rs ≡ processes_in_group group
   count_is group steps cut [] rs each node p at = cc
   count_is group steps cut (q ∷ ps) [] each node p at = absurd each
   count_is group steps cut (q ∷ ps) (r ∷ rs) each node p at = ap (λ (h : Head). h.count) each.0.head
@@ -183,18 +183,18 @@ module _ (strange : StrangeBySend) where
   recorded_streams group steps cut folder ps pairs s j node p e at here taken (FromOutside bytes given tag payload) = tt
   recorded_streams group steps cut folder ps pairs s j node p e at here taken (FromSend q k sent is_entry is_sent_into to tells stands) = λ small other other_at.
       let start = s.start in
-      let order = events start in
+      let order = events_of_replays start in
       let told_by = tells small in
       let place = stands small other other_at in
       let send_event : NodeEvent Entry = node_event other sent in
-      let in_range = none_beyond (length s.sorted) order (λ n above. s.shows.order.own n ∙ list_beyond (map (entries steps) s.sorted) n (omega (arith, above, length_lists steps s.sorted))) in
+      let in_range = none_beyond (length s.sorted) order (λ n above. s.shows.order.own n ∙ list_beyond (map (entries_of_steps steps) s.sorted) n (omega (arith, above, length_lists steps s.sorted))) in
       let b = between (λ x. x.node < length s.sorted) order s.shows.order.sorted in_range place.0 j send_event place.1 place.2 in
       let processes = processes_are group steps cut s.sorted start s.each in
       let count = count_is group steps cut s.sorted start s.each other q other_at in
       let of_other : process_at start other ≡ q = ap (λ (qs : List ℕ). slice_index_or qs other 0) processes ∙ index_at s.sorted other q other_at in
       let within = slice_get_within s.sorted other q other_at in
       let sending = sending_of q sent in
-      let others = all_so (λ x. (precedes entry_clock send_event x ≡ true) × (x.node < length s.sorted)) (IsOther (group_count start) start q sent.clock) b.mid
+      let others = all_so (λ x. (event_precedes entry_clock send_event x ≡ true) × (x.node < length s.sorted)) (IsOther (group_count start) start q sent.clock) b.mid
       (λ x h. other_event start s.sorted processes s.in_order.ascend q other sent x of_other within h.0 h.1) b.later in
       let at_send : traffic_of_event (group_count start) (process_at start other) sent ≡ Sent sending ∷ [] =
       ap (λ t. traffic_by t (is_taken sent) (process_at start other) sent) (ap (λ n. is_sent n sent) count ∙ is_sent_into)

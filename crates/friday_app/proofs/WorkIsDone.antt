@@ -15,8 +15,8 @@ use Rattle.schedule_command.specs.Laws.{SchedulesWork}
 use Rattle.cut_command.specs.Laws.{CutsWork}
 use Rattle.streams_command.specs.Laws.{StreamsWork}
 use Rattle.friday_app.specs.Command.{Command, Cut, Debug, Drill, Migrate, Record, Replay, Schedule, Streams}
-use Rattle.friday_app.specs.Expected.{expected}
-use Rattle.friday_app.specs.Run.{CommandRun, Works}
+use Rattle.friday_app.specs.Expected.{expected_outcome}
+use Rattle.friday_app.specs.Run.{CommandRun, WorksAsCommand}
 use Rattle.friday_app.specs.Valid.{IsValidCall}
 
 settled : (answer wanted : Status) → (IsAnswerStatus answer → answer ≡ wanted) → (answer ≡ ends.ReadFault → ⊥) → (answer ≡ ends.WriteFault → ⊥) → (answer ≡ wanted) ⊎ (answer ≡ ends.NoMemory)
@@ -36,7 +36,7 @@ either (inr b) f g = g b
 module _ (recordings : RecordingsWork) (replays : ReplaysWork) (sessions : SessionsWork) (migrations : MigrationsWork) (schedules : SchedulesWork) (cuts : CutsWork) (streams : StreamsWork) where
   -- what is valid has an outcome that is work
   has_work : (command : Command) (folder : Folder) (left : Option (List ℕ)) → IsValidCall (Some command) folder left
-      → (work : CommandWork) × (expected (Some command) (Some folder) left ≡ Some (Ok work))
+      → (work : CommandWork) × (expected_outcome (Some command) (Some folder) left ≡ Some (Ok work))
   has_work (Record images schedule_name) folder left h = let w = recordings images schedule_name folder h in (w.0, ap Some w.1)
   has_work (Replay images pairs) folder left h = let w = replays images pairs folder h in (w.0, ap Some w.1)
   has_work (Debug pairs) folder left h = sessions pairs folder left h
@@ -47,11 +47,11 @@ module _ (recordings : RecordingsWork) (replays : ReplaysWork) (sessions : Sessi
   has_work (Streams pairs) folder left h = let w = streams pairs folder h in (w.0, ap Some w.1)
 
   pub run_completes : (command : Option Command) (old new : Outside) (answer : Status) (folder : Folder) → CommandRun command old new answer → old.told ≡ Some folder → IsValidCall command folder old.hearing.left → NoFault old new
-      → Works command old.told old.hearing.left answer
+      → WorksAsCommand command old.told old.hearing.left answer
   run_completes None old new answer folder run told valid quiet = absurd valid
   run_completes (Some command) old new answer folder run told valid quiet =
       let w = has_work command folder old.hearing.left valid in
-      let is = ap (λ t. expected (Some command) t old.hearing.left) told ∙ w.1 in
+      let is = ap (λ t. expected_outcome (Some command) t old.hearing.left) told ∙ w.1 in
       record {
         work = w.0;
         is_expected = is;

@@ -13,16 +13,16 @@ use Rattle.streams_command.specs.Streams.{streams_outcome}
 use Rattle.friday_app.specs.Command.{Command, Cut, Debug, Drill, Migrate, Record, Replay, Schedule, Streams}
 
 -- the outcome, as far as the folder and the input tell what it depends on
-abbrev pub expected : Option Command → Option Folder → Option (List ℕ) → Option CommandOutcome
-expected None told left = Some (Err NotACommand)
-expected (Some (Record images schedule_name)) told left = option_map (record_outcome images schedule_name) told
-expected (Some (Replay images pairs)) told left = option_map (replay_outcome images pairs) told
-expected (Some (Debug pairs)) told left = option_and_then (debug_outcome pairs left) told
-expected (Some (Drill rounds)) told left = Some (drill_outcome rounds)
-expected (Some (Migrate log_name new_name)) told left = option_map (migrate_outcome log_name new_name) told
-expected (Some (Schedule pairs)) told left = option_map (schedule_outcome pairs) told
-expected (Some (Cut process event pairs)) told left = option_map (cut_outcome process event pairs) told
-expected (Some (Streams pairs)) told left = option_map (streams_outcome pairs) told
+abbrev pub expected_outcome : Option Command → Option Folder → Option (List ℕ) → Option CommandOutcome
+expected_outcome None told left = Some (Err NotACommand)
+expected_outcome (Some (Record images schedule_name)) told left = option_map (record_outcome images schedule_name) told
+expected_outcome (Some (Replay images pairs)) told left = option_map (replay_outcome images pairs) told
+expected_outcome (Some (Debug pairs)) told left = option_and_then (debug_outcome pairs left) told
+expected_outcome (Some (Drill rounds)) told left = Some (drill_outcome rounds)
+expected_outcome (Some (Migrate log_name new_name)) told left = option_map (migrate_outcome log_name new_name) told
+expected_outcome (Some (Schedule pairs)) told left = option_map (schedule_outcome pairs) told
+expected_outcome (Some (Cut process event pairs)) told left = option_map (cut_outcome process event pairs) told
+expected_outcome (Some (Streams pairs)) told left = option_map (streams_outcome pairs) told
 
 -- the names that a command may write, given the files
 abbrev pub written_by : Option Command → Folder → List (List ℕ)

@@ -3,7 +3,7 @@ use Rattle.std.specs.Prelude.{◌≡◌, ℕ, List, Option, Some, None}
 use Rattle.fri_outside.specs.Outside.{Folder}
 use Rattle.command_run.specs.declared.status.Status.{Status}
 use Rattle.command_run.specs.Run.{Outside}
-use Rattle.debug_command.specs.Conversation.{HadAnswered, IsTooLarge, TakesInput}
+use Rattle.debug_command.specs.Conversation.{HadAnsweredLines, IsTooLarge, TakesInput}
 use Rattle.friday_app.specs.Command.{Command, Cut, Debug, Drill, Migrate, Record, Replay, Schedule, Streams}
 
 -- the input is read by `debug` alone, and by it no further than it must. Each time it is asked for more, each whole line
@@ -20,16 +20,16 @@ KeepsInput (Some (Cut process event pairs)) old new answer = new.hearing ≡ old
 KeepsInput (Some (Streams pairs)) old new answer = new.hearing ≡ old.hearing
 
 -- where a read of the input failed, and none of a file, the session had begun, and all that was taken was answered
-abbrev pub AnswersFirst : Option Command → Outside → Outside → Type 0
-AnswersFirst None old new = ⊥
-AnswersFirst (Some (Record images schedule_name)) old new = ⊥
-AnswersFirst (Some (Replay images pairs)) old new = ⊥
-AnswersFirst (Some (Debug pairs)) old new = HadAnswered pairs old new
-AnswersFirst (Some (Drill rounds)) old new = ⊥
-AnswersFirst (Some (Migrate log_name new_name)) old new = ⊥
-AnswersFirst (Some (Schedule pairs)) old new = ⊥
-AnswersFirst (Some (Cut process event pairs)) old new = ⊥
-AnswersFirst (Some (Streams pairs)) old new = ⊥
+abbrev pub AnswersBeforeFault : Option Command → Outside → Outside → Type 0
+AnswersBeforeFault None old new = ⊥
+AnswersBeforeFault (Some (Record images schedule_name)) old new = ⊥
+AnswersBeforeFault (Some (Replay images pairs)) old new = ⊥
+AnswersBeforeFault (Some (Debug pairs)) old new = HadAnsweredLines pairs old new
+AnswersBeforeFault (Some (Drill rounds)) old new = ⊥
+AnswersBeforeFault (Some (Migrate log_name new_name)) old new = ⊥
+AnswersBeforeFault (Some (Schedule pairs)) old new = ⊥
+AnswersBeforeFault (Some (Cut process event pairs)) old new = ⊥
+AnswersBeforeFault (Some (Streams pairs)) old new = ⊥
 
 -- this file is the input of `debug`, and it is too large
 abbrev pub IsLargeInput : Option Command → Option Folder → Option (List ℕ) → List ℕ → Type 0

@@ -1,6 +1,6 @@
 -- What the top call promises: each field is one promise, and has its name here and nowhere else.
 use Rattle.std.specs.Prelude.{◌≡◌, ◌⊎◌, ℕ, List, Option, Some, None, Ok}
-use Rattle.fri_outside.specs.Outside.{Folder, WhenTold, Rose}
+use Rattle.fri_outside.specs.Outside.{Folder, WhenTold, CountRose}
 use Rattle.command_run.specs.declared.status.Status.{Status}
 use Rattle.command_run.specs.declared.status.Status.TheVariants as ends
 use Rattle.command_run.specs.Call.{IsAnswerStatus, PrintsRefusal}
@@ -8,8 +8,8 @@ use Rattle.command_run.specs.Outcome.{CommandWork, outcome_status}
 use Rattle.command_run.specs.Run.{CallEnds, NoFault, Outside}
 use Rattle.friday_app.specs.Agreement.{KeepsMoment, KeepsPast, KeepsRecording, PrintsConverse, ShowsRecording}
 use Rattle.friday_app.specs.Command.{Command, IsReplayCommand}
-use Rattle.friday_app.specs.Expected.{expected, written_by}
-use Rattle.friday_app.specs.Input.{AnswersFirst, IsLargeInput, KeepsInput}
+use Rattle.friday_app.specs.Expected.{expected_outcome, written_by}
+use Rattle.friday_app.specs.Input.{AnswersBeforeFault, IsLargeInput, KeepsInput}
 use Rattle.friday_app.specs.Valid.{IsValidCall}
 
 -- Usage comes exactly where the words name no command, but for a fault or want of memory in its place
@@ -20,7 +20,7 @@ pub record IsExactUsage (command : Option Command) (answer : Status) : Type 0 wh
 -- a command ran from one state of the outside to another, and gave this status
 pub record CommandRun (command : Option Command) (old new : Outside) (answer : Status) : Type 0 where
   -- status, text, files, faults and their causes
-  pub call : CallEnds (expected command old.told old.hearing.left) (written_by command) old new answer
+  pub call : CallEnds (expected_outcome command old.told old.hearing.left) (written_by command) old new answer
   pub usage : IsExactUsage command answer
   pub diverged : answer ≡ ends.Diverged → IsReplayCommand command
   -- the logs that a recording leaves hold its events: replay accepts each, and makes the recorded states of them. So it is
@@ -42,17 +42,17 @@ pub record CommandRun (command : Option Command) (old new : Outside) (answer : S
   -- what the log's replay does
   pub past : answer ≡ ends.Done → WhenTold old.told (KeepsPast command)
   pub input : KeepsInput command old new answer
-  pub answered : answer ≡ ends.ReadFault → (Rose old.counts.reads new.counts.reads → ⊥) → AnswersFirst command old new
+  pub answered : answer ≡ ends.ReadFault → (CountRose old.counts.reads new.counts.reads → ⊥) → AnswersBeforeFault command old new
   pub refused : answer ≡ ends.Refused
-      → PrintsRefusal old.taken new.taken (λ file. Rose old.counts.misses new.counts.misses ⊎ IsLargeInput command old.told old.hearing.left file)
+      → PrintsRefusal old.taken new.taken (λ file. CountRose old.counts.misses new.counts.misses ⊎ IsLargeInput command old.told old.hearing.left file)
 
 -- the command has work to do, and the status is that of the work, or want of memory
-pub record Works (command : Option Command) (told : Option Folder) (left : Option (List ℕ)) (answer : Status) : Type 0 where
+pub record WorksAsCommand (command : Option Command) (told : Option Folder) (left : Option (List ℕ)) (answer : Status) : Type 0 where
   pub work : CommandWork
-  pub is_expected : expected command told left ≡ Some (Ok work)
+  pub is_expected : expected_outcome command told left ≡ Some (Ok work)
   pub status : (answer ≡ outcome_status (Ok work)) ⊎ (answer ≡ ends.NoMemory)
 
 -- with valid words, files and input, and no fault, the work is done, unless memory runs out
 abbrev pub DoesValidWork : Option Command → Outside → Outside → Status → Type 0
 DoesValidWork command old new answer =
-    WhenTold old.told (λ folder. IsValidCall command folder old.hearing.left → NoFault old new → Works command old.told old.hearing.left answer)
+    WhenTold old.told (λ folder. IsValidCall command folder old.hearing.left → NoFault old new → WorksAsCommand command old.told old.hearing.left answer)

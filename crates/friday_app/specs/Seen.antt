@@ -17,12 +17,12 @@ command_meaning (words.Cut process event pairs) = Cut process event (map pair_of
 command_meaning (words.Streams pairs) = Streams (map pair_of pairs.items)
 
 -- a drill of so many rounds as there may be
-abbrev pub HasRounds : Words → Type 0
-HasRounds (words.Record images schedule_name) = Unit {0}
-HasRounds (words.Replay images pairs) = Unit {0}
-HasRounds (words.Debug pairs) = Unit {0}
-HasRounds (words.Drill rounds) = (1 ≤ rounds) × (rounds ≤ most_rounds)
-HasRounds (words.Migrate log_name new_name) = Unit {0}
-HasRounds (words.Schedule pairs) = Unit {0}
-HasRounds (words.Cut process event pairs) = Unit {0}
-HasRounds (words.Streams pairs) = Unit {0}
+abbrev pub HasDrillRounds : Words → Type 0
+HasDrillRounds (words.Record images schedule_name) = Unit {0}
+HasDrillRounds (words.Replay images pairs) = Unit {0}
+HasDrillRounds (words.Debug pairs) = Unit {0}
+HasDrillRounds (words.Drill rounds) = (1 ≤ rounds) × (rounds ≤ most_rounds)
+HasDrillRounds (words.Migrate log_name new_name) = Unit {0}
+HasDrillRounds (words.Schedule pairs) = Unit {0}
+HasDrillRounds (words.Cut process event pairs) = Unit {0}
+HasDrillRounds (words.Streams pairs) = Unit {0}

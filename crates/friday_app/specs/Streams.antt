@@ -5,18 +5,18 @@ use Rattle.lamport_tag.specs.declared.Tag.{Tag}
 use Rattle.lib_calls.specs.Traffic.{is_taken}
 use Rattle.lib_calls.specs.declared.entry.Entry.{Entry}
 use Rattle.group_order.specs.Order.{node_event}
-use Rattle.group_record.specs.Run.{GroupStart, Step}
-use Rattle.group_state.specs.Place.{events}
+use Rattle.group_record.specs.Run.{GroupStart, RunStep}
+use Rattle.group_state.specs.Place.{events_of_replays}
 use Rattle.proc_replay.specs.Replaying.{Replaying}
 use Rattle.log_pairs.specs.Pairs.{Pair}
-use Rattle.byte_streams.specs.declared.mark.Mark.TheVariants.{Strange}
-use Rattle.byte_streams.specs.Traffic.{Receiving, Sending, SendOrReceive, mark_of_receive, mark_of_send}
+use Rattle.byte_streams.specs.declared.mark.PayloadMark.TheVariants.{Strange}
+use Rattle.byte_streams.specs.Traffic.{ReceivedPayload, SentPayload, SendOrReceive, mark_of_receive, mark_of_send}
 use Rattle.headline.specs.Headline.{IsShown}
-use Rattle.headline.specs.Shown.{FromOutside, FromSend, Received}
+use Rattle.headline.specs.Shown.{FromOutside, FromSend, ReceivedDatagram}
 use Rattle.streams_command.specs.Streams.{traffic_of_events}
 
 -- what process q sent by this event
-abbrev pub sending_of : ℕ → Entry → Sending
+abbrev pub sending_of : ℕ → Entry → SentPayload
 sending_of q e = record { from = q; clock = e.clock; to = e.call.a0; payload = e.outgoing }
 
 -- the tag of that send
@@ -24,31 +24,31 @@ abbrev pub tag_of : ℕ → Entry → Tag
 tag_of q e = record { sender = q; clock = e.clock }
 
 -- what process p took by this event, after this tag
-abbrev pub receiving_of : ℕ → Tag → Entry → Receiving
+abbrev pub receiving_of : ℕ → Tag → Entry → ReceivedPayload
 receiving_of p tag e = record { by = p; tag = tag; payload = e.incoming }
 
 -- the sends and receives of the first k events
 abbrev pub traffic_before : List Replaying → ℕ → List SendOrReceive
-traffic_before start k = traffic_of_events start (take k (events start))
+traffic_before start k = traffic_of_events start (take k (events_of_replays start))
 
 -- The send of process q comes before place j of the order. There process p took what it sent, under its name; and to the
 -- streams this is not strange, unless the send is.
 pub record IsSendTaken (start : List Replaying) (j p : ℕ) (e : Entry) (q node : ℕ) (sent : Entry) : Type 0 where
   pub place : ℕ
   pub before : place < j
-  pub stands : slice_get (events start) place ≡ Some (node_event node sent)
+  pub stands : slice_get (events_of_replays start) place ≡ Some (node_event node sent)
   pub named : e.tag ≡ Some (tag_of q sent)
   pub marks : mark_of_send (sending_of q sent) (traffic_before start place) ≢ Strange
       → mark_of_receive (receiving_of p (tag_of q sent) e) (traffic_before start j) ≢ Strange
 
 -- this holds of a datagram that a process sent whose log is given, where its clock is one that a tag can bear
-abbrev pub ReadsSend : (start : List Replaying) (group : GroupStart) (steps : List Step) (ps : List ℕ) (j p : ℕ) (e : Entry) → Received group steps ps (events start) j p e → Type 0
-ReadsSend start group steps ps j p e (FromOutside bytes given tag payload) = Unit {0}
-ReadsSend start group steps ps j p e (FromSend q k sent at is to tells before) = sent.clock ≤ 2 ^ 62 → (node : ℕ) → slice_get ps node ≡ Some q → IsSendTaken start j p e q node sent
+abbrev pub ReadsRecordedSend : (start : List Replaying) (group : GroupStart) (steps : List RunStep) (ps : List ℕ) (j p : ℕ) (e : Entry) → ReceivedDatagram group steps ps (events_of_replays start) j p e → Type 0
+ReadsRecordedSend start group steps ps j p e (FromOutside bytes given tag payload) = Unit {0}
+ReadsRecordedSend start group steps ps j p e (FromSend q k sent at is to tells before) = sent.clock ≤ 2 ^ 62 → (node : ℕ) → slice_get ps node ≡ Some q → IsSendTaken start j p e q node sent
 
 -- wherever the logs of a recording are shown, each taken datagram that was sent is read so
 abbrev pub RecordedStreams : Type 0
 RecordedStreams =
-    (group : GroupStart) (steps : List Step) (cut : ℕ → List ℕ) (folder : Folder) (ps : List ℕ) (pairs : List Pair) → (s : IsShown group steps cut folder ps pairs)
-    → (j node p : ℕ) (e : Entry) → slice_get s.sorted node ≡ Some p → slice_get (events s.start) j ≡ Some (node_event node e) → IsTrue (is_taken e)
-    → (r : Received group steps s.sorted (events s.start) j p e) → ReadsSend s.start group steps s.sorted j p e r
+    (group : GroupStart) (steps : List RunStep) (cut : ℕ → List ℕ) (folder : Folder) (ps : List ℕ) (pairs : List Pair) → (s : IsShown group steps cut folder ps pairs)
+    → (j node p : ℕ) (e : Entry) → slice_get s.sorted node ≡ Some p → slice_get (events_of_replays s.start) j ≡ Some (node_event node e) → IsTrue (is_taken e)
+    → (r : ReceivedDatagram group steps s.sorted (events_of_replays s.start) j p e) → ReadsRecordedSend s.start group steps s.sorted j p e r

@@ -7,7 +7,7 @@ use Rattle.debug_command.specs.Valid.{IsSession}
 use Rattle.drill_command.specs.Drill.{drill_run}
 use Rattle.migrate_command.specs.Valid.{IsMigration}
 use Rattle.schedule_command.specs.Valid.{CanBeScheduled}
-use Rattle.cut_command.specs.Valid.{HasEvent}
+use Rattle.cut_command.specs.Valid.{HasEventOfProcess}
 use Rattle.friday_app.specs.Command.{Command, Cut, Debug, Drill, Migrate, Record, Replay, Schedule, Streams}
 
 abbrev pub IsValidCall : Option Command → Folder → Option (List ℕ) → Type 0
@@ -18,5 +18,5 @@ IsValidCall (Some (Debug pairs)) folder left = IsSession folder pairs left
 IsValidCall (Some (Drill rounds)) folder left = (drill_run rounds).full ≡ None
 IsValidCall (Some (Migrate log_name new_name)) folder left = IsMigration folder log_name
 IsValidCall (Some (Schedule pairs)) folder left = CanBeScheduled folder pairs
-IsValidCall (Some (Cut process event pairs)) folder left = HasEvent folder pairs process event
+IsValidCall (Some (Cut process event pairs)) folder left = HasEventOfProcess folder pairs process event
 IsValidCall (Some (Streams pairs)) folder left = IsGroup folder pairs

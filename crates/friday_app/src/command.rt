@@ -1,8 +1,8 @@
 // Which command the words name.
 ghost use Rattle.std.specs.Prelude.{◌≡◌, length, map, option_map, string_bytes, IfOk, IfSome};
 ghost use Rattle.std.specs.List.{list_all};
-ghost use Rattle.friday_app.specs.Command.{command_by, command_of, cutting, debugging, drilling, is_file_word, is_images, migrating, names_in, options_in, pairs_of, recording, replay_of_names, scheduling, streaming};
-ghost use Rattle.friday_app.specs.Seen.{HasRounds, command_meaning};
+ghost use Rattle.friday_app.specs.Command.{command_by_verb, command_of, cutting_command, debugging_command, drilling_command, is_file_word, is_images, migrating_command, names_in, options_in, pairs_of, recording_command, replay_of_names, scheduling_command, streaming_command};
+ghost use Rattle.friday_app.specs.Seen.{HasDrillRounds, command_meaning};
 ghost use Rattle.log_pairs.specs.Seen.{pair_of};
 
 use cut_command::{event_number_of, process_of};
@@ -44,7 +44,7 @@ fn is_images(word: &str) -> bool
 /// The command that the words name: a verb, and after it names of files or a number, and once at most `--images`.
 pub fn parse_words(alloc: Global, words: &[String]) -> Result<Option<Command<'_>>, AllocError>
     ensures names { IfOk result (λ command. option_map command_meaning command ≡ command_of (map string_bytes words.now)) }
-    ensures rounds { IfOk result (λ command. IfSome command HasRounds) }
+    ensures rounds { IfOk result (λ command. IfSome command HasDrillRounds) }
 {
     let [verb, words @ ..] = words else {
         return Ok(None);
@@ -52,7 +52,7 @@ pub fn parse_words(alloc: Global, words: &[String]) -> Result<Option<Command<'_>
     let options = count_options(words);
     let names = names_in(alloc, words)?;
     if options <= 1 && are_file_words(&names) {
-        command_by(alloc, verb, options == 1, &names)
+        command_by_verb(alloc, verb, options == 1, &names)
     } else {
         Ok(None)
     }
@@ -86,14 +86,14 @@ fn names_in(alloc: Global, words: &[String]) -> Result<Vec<&str>, AllocError>
 }
 
 // The command of this verb, of these words other than the option.
-fn command_by<'a>(
+fn command_by_verb<'a>(
     alloc: Global,
     verb: &str,
     images: bool,
     names: &[&'a str],
 ) -> Result<Option<Command<'a>>, AllocError>
-    ensures names { IfOk result (λ command. option_map command_meaning command ≡ command_by verb.now images (map (λ name. name.now) names.now)) }
-    ensures rounds { IfOk result (λ command. IfSome command HasRounds) }
+    ensures names { IfOk result (λ command. option_map command_meaning command ≡ command_by_verb verb.now images (map (λ name. name.now) names.now)) }
+    ensures rounds { IfOk result (λ command. IfSome command HasDrillRounds) }
 {
     match verb {
         "record" => Ok(record_command(images, names)),
@@ -109,7 +109,7 @@ fn command_by<'a>(
 }
 
 fn record_command<'a>(images: bool, names: &[&'a str]) -> Option<Command<'a>>
-    ensures { option_map command_meaning result ≡ recording images (map (λ name. name.now) names.now) }
+    ensures { option_map command_meaning result ≡ recording_command images (map (λ name. name.now) names.now) }
 {
     match names {
         [schedule_file] => Some(Command::Record(images, schedule_file)),
@@ -136,7 +136,7 @@ fn debug_command<'a>(
     images: bool,
     names: &[&'a str],
 ) -> Result<Option<Command<'a>>, AllocError>
-    ensures { IfOk result (λ command. option_map command_meaning command ≡ debugging images (map (λ name. name.now) names.now)) }
+    ensures { IfOk result (λ command. option_map command_meaning command ≡ debugging_command images (map (λ name. name.now) names.now)) }
 {
     if images || names.is_empty() {
         return Ok(None);
@@ -146,8 +146,8 @@ fn debug_command<'a>(
 }
 
 fn drill_command<'a>(images: bool, words: &[&'a str]) -> Option<Command<'a>>
-    ensures names { option_map command_meaning result ≡ drilling images (map (λ word. word.now) words.now) }
-    ensures rounds { IfSome result HasRounds }
+    ensures names { option_map command_meaning result ≡ drilling_command images (map (λ word. word.now) words.now) }
+    ensures rounds { IfSome result HasDrillRounds }
 {
     match words {
         [word] if !images => Some(Command::Drill(rounds_of(word)?)),
@@ -156,7 +156,7 @@ fn drill_command<'a>(images: bool, words: &[&'a str]) -> Option<Command<'a>>
 }
 
 fn migrate_command<'a>(images: bool, names: &[&'a str]) -> Option<Command<'a>>
-    ensures { option_map command_meaning result ≡ migrating images (map (λ name. name.now) names.now) }
+    ensures { option_map command_meaning result ≡ migrating_command images (map (λ name. name.now) names.now) }
 {
     match names {
         [log_file, new_file] if !images => Some(Command::Migrate(log_file, new_file)),
@@ -169,7 +169,7 @@ fn schedule_command<'a>(
     images: bool,
     names: &[&'a str],
 ) -> Result<Option<Command<'a>>, AllocError>
-    ensures { IfOk result (λ command. option_map command_meaning command ≡ scheduling images (map (λ name. name.now) names.now)) }
+    ensures { IfOk result (λ command. option_map command_meaning command ≡ scheduling_command images (map (λ name. name.now) names.now)) }
 {
     if images || names.is_empty() {
         return Ok(None);
@@ -183,8 +183,8 @@ fn cut_command<'a>(
     images: bool,
     words: &[&'a str],
 ) -> Result<Option<Command<'a>>, AllocError>
-    ensures names { IfOk result (λ command. option_map command_meaning command ≡ cutting images (map (λ word. word.now) words.now)) }
-    ensures rounds { IfOk result (λ command. IfSome command HasRounds) }
+    ensures names { IfOk result (λ command. option_map command_meaning command ≡ cutting_command images (map (λ word. word.now) words.now)) }
+    ensures rounds { IfOk result (λ command. IfSome command HasDrillRounds) }
 {
     let [process, event, names @ ..] = words else {
         return Ok(None);
@@ -207,7 +207,7 @@ fn streams_command<'a>(
     images: bool,
     names: &[&'a str],
 ) -> Result<Option<Command<'a>>, AllocError>
-    ensures { IfOk result (λ command. option_map command_meaning command ≡ streaming images (map (λ name. name.now) names.now)) }
+    ensures { IfOk result (λ command. option_map command_meaning command ≡ streaming_command images (map (λ name. name.now) names.now)) }
 {
     if images || names.is_empty() {
         return Ok(None);

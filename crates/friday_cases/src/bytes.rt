@@ -5,7 +5,7 @@ use fri_outside::MemFiles;
 use std::alloc::Global;
 
 /// The most bytes that one piece may repeat, which is more than any file of the cases has.
-const MOST: usize = 100_000_000;
+const MOST_REPEATED: usize = 100_000_000;
 
 /// The bytes of all pieces. What stands between quotes is text, and the pieces around it stand between blanks.
 pub fn spelled(alloc: Global, pieces: &str, kept: &MemFiles) -> anyhow::Result<Vec<u8>> {
@@ -46,7 +46,7 @@ fn push_digits(bytes: &mut Vec<u8>, piece: &str) -> anyhow::Result<()> {
         return Ok(());
     };
     let times = times.parse::<usize>()?;
-    ensure!(times <= MOST, "a piece is repeated too often");
+    ensure!(times <= MOST_REPEATED, "a piece is repeated too often");
     push_times(bytes, times, &hex::decode(alloc, digits)?)
 }
 

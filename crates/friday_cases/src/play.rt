@@ -11,7 +11,7 @@ use std::alloc::{AllocError, Global};
 use std::fmt::Write;
 
 /// The most bytes of a file that are shown.
-const SHOWN: usize = 512;
+const MOST_SHOWN: usize = 512;
 
 /// The bytes of a file that stand in one line.
 const ROW: usize = 32;
@@ -211,7 +211,7 @@ impl Session {
             return Ok(format!(in self.alloc; "show {name}: absent\n")?);
         };
         let mut told = format!(in self.alloc; "show {name}: {} bytes\n", bytes.len())?;
-        if bytes.len() > SHOWN {
+        if bytes.len() > MOST_SHOWN {
             let digits = digest_of(self.alloc, bytes)?;
             write!(told, "    SHA-256 {digits}\n")?;
             return Ok(told);

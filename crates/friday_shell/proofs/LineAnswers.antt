@@ -11,7 +11,7 @@ use Rattle.shell_lines.specs.declared.refusal.LineRefusal.{LineRefusal}
 use Rattle.group_state.specs.Place.{node_names}
 use Rattle.friday_shell.specs.Answer.{answer_of_meaning, command_answer}
 use Rattle.friday_shell.specs.Points.{SessionState}
-use Rattle.friday_shell.specs.Seen.{IsLine, Performs}
+use Rattle.friday_shell.specs.Seen.{IsLine, PerformsCommand}
 use Rattle.friday_shell.specs.Ticks.{command_ticks, line_ticks, meaning_ticks}
 use Rattle.friday_shell.proofs.LogsStay.{kept_start}
 
@@ -22,7 +22,7 @@ read_is names bytes (Err e) is = tt
 
 -- a command that was done left the logs as they were
 pub start_stays : {A E : Type 0} (state : SessionState) (line : List ℕ) (command : LineCommand) (r : Result A E) (new : A → SessionState) (text : A → List ℕ)
-    → IfOk r (λ done. Performs (command_answer state line command) (new done) (text done)) → IfOk r (λ done. (new done).place.start ≡ state.place.start)
+    → IfOk r (λ done. PerformsCommand (command_answer state line command) (new done) (text done)) → IfOk r (λ done. (new done).place.start ≡ state.place.start)
 start_stays state line command (Ok done) new text did = ap (λ (s : SessionState). s.place.start) did.state ∙ kept_start state line command
 start_stays state line command (Err e) new text did = tt
 

@@ -1,13 +1,13 @@
 -- No command changes the logs of a session.
 use Rattle.std.proofs.Common.{◌≡◌, ℕ, Bool, true, false, cond, ◌||◌, nat_le, nat_lt, List, length, Option, Some, None, ℤ, refl}
 use Rattle.call_table.specs.declared.kind.Kind.{Kind}
-use Rattle.group_state.specs.Place.{events}
+use Rattle.group_state.specs.Place.{events_of_replays}
 use Rattle.embed_cmds.specs.Faulty.{set_names}
 use Rattle.embed_cmds.specs.Tree.{Statements}
 use Rattle.embed_cmds.specs.Variables.{is_mentioned, mention_all}
 use Rattle.shell_lines.specs.Lines.{At, Back, Break, LineCommand, Continue, Delete, Do, Events, Everywhere, Goto, ListPoints, ListVariables, Mem, Print, Quit, Rcontinue, WhichNodes, SetTo, Step, Threads, Watch}
 use Rattle.shell_points.specs.Points.{Trigger, has_point, place_of_point}
-use Rattle.friday_shell.specs.Answer.{LineAnswer, adds, attaches_at, breaks_at, command_answer, deletes, most_points, most_variables, sets}
+use Rattle.friday_shell.specs.Answer.{LineAnswer, adds_point, attaches_at, breaks_at, command_answer, deletes_point, most_points, most_variables, sets_variable}
 use Rattle.friday_shell.specs.Points.{SessionState}
 
 module _ (state : SessionState) where
@@ -18,17 +18,17 @@ module _ (state : SessionState) where
   either true a c h k = h
   either false a c h k = k
 
-  adding : (line : List ℕ) (trigger : Trigger) → Keeps (adds state line trigger)
+  adding : (line : List ℕ) (trigger : Trigger) → Keeps (adds_point state line trigger)
   adding line trigger = either (nat_lt (length state.points) most_points) _ _ refl refl
 
-  deleting : (n : ℕ) → Keeps (deletes state n)
+  deleting : (n : ℕ) → Keeps (deletes_point state n)
   deleting n = either (has_point state.points n) _ _ refl refl
 
   attaching : (body : Statements) (place : Option ℕ) → Keeps (attaches_at state body place)
   attaching body None = refl
   attaching body (Some place) = either (nat_le (length (mention_all state.variables (set_names body))) most_variables) _ _ refl refl
 
-  setting : (name : List ℕ) (value : Option ℤ) → Keeps (sets state name value)
+  setting : (name : List ℕ) (value : Option ℤ) → Keeps (sets_variable state name value)
   setting name value = either (is_mentioned state.variables name || nat_lt (length state.variables) most_variables) _ _ refl refl
 
   breaking : (line : List ℕ) (kind : Kind) (scope : WhichNodes) → Keeps (breaks_at state line kind scope)
@@ -37,7 +37,7 @@ module _ (state : SessionState) where
   breaking line kind (At (Some n)) = adding line _
 
   pub kept_start : (line : List ℕ) (c : LineCommand) → Keeps (command_answer state line c)
-  kept_start line (Goto k) = either (nat_le k (length (events state.place.start))) _ _ refl refl
+  kept_start line (Goto k) = either (nat_le k (length (events_of_replays state.place.start))) _ _ refl refl
   kept_start line (Step n) = refl
   kept_start line (Back n) = refl
   kept_start line (Print x) = refl

@@ -4,7 +4,7 @@ use Rattle.std.proofs.lemmas.Bool.{cases_Bool, eqb-true, ltb-true, ltb-false, lt
 use Rattle.std.specs.Fmt.{digit_glyph, digits, digits_onto}
 use Rattle.call_table.specs.declared.kind.Kind.{Kind}
 use Rattle.group_state.specs.Moves.{last_event_of}
-use Rattle.group_state.specs.Place.{GroupPlace, events, node_names}
+use Rattle.group_state.specs.Place.{GroupPlace, events_of_replays, node_names}
 use Rattle.group_texts.specs.Texts.{event_ending, position_line}
 use Rattle.embed_cmds.specs.Faulty.{set_names}
 use Rattle.embed_cmds.specs.Tree.{Statements}
@@ -18,7 +18,7 @@ use Rattle.shell_points.specs.Firing.{place_at}
 use Rattle.shell_points.specs.Points.{Trigger, has_point, place_of_point}
 use Rattle.shell_points.specs.Returning.{return_from}
 use Rattle.shell_points.specs.Walking.{Walk, walk_from}
-use Rattle.friday_shell.specs.Answer.{LineAnswer, adds, answer_of_meaning, arrives, attaches_at, breaks_at, command_answer, deletes, most_points, most_variables, says, sets, walks}
+use Rattle.friday_shell.specs.Answer.{LineAnswer, adds_point, answer_of_meaning, arrives_at_position, attaches_at, breaks_at, command_answer, deletes_point, most_points, most_variables, says_text, sets_variable, walks_on}
 use Rattle.friday_shell.specs.Laws.{RefusedStays}
 use Rattle.friday_shell.specs.Points.{SessionState}
 
@@ -156,7 +156,7 @@ module _ (state : SessionState) where
   either true a c h k = h
   either false a c h k = k
 
-  same : (text : List ℕ) → Stays (says state text)
+  same : (text : List ℕ) → Stays (says_text state text)
   same text why e = (refl, refl)
 
   -- an answer with a text that no refusal has
@@ -166,23 +166,23 @@ module _ (state : SessionState) where
   other_byte_first : (a : LineAnswer) → (head a.text ≡ 63 → ⊥) → Stays a
   other_byte_first a other = apart a (λ why. other_text a.text why other)
 
-  arriving : (lines : List ℕ) (k : ℕ) → Stays (arrives state lines k)
-  arriving lines k = apart (arrives state lines k) (no_position lines (place_at state.place.start k))
+  arriving : (lines : List ℕ) (k : ℕ) → Stays (arrives_at_position state lines k)
+  arriving lines k = apart (arrives_at_position state lines k) (no_position lines (place_at state.place.start k))
 
-  walking : (w : Walk) → Stays (walks state w)
-  walking w = apart (walks state w) (no_position w.text (place_at state.place.start w.at))
+  walking : (w : Walk) → Stays (walks_on state w)
+  walking w = apart (walks_on state w) (no_position w.text (place_at state.place.start w.at))
 
-  adding : (line : List ℕ) (trigger : Trigger) → Stays (adds state line trigger)
+  adding : (line : List ℕ) (trigger : Trigger) → Stays (adds_point state line trigger)
   adding line trigger = either (nat_lt (length state.points) most_points) _ _ (other_byte_first _ (λ e. absurd (omega (arith, e)))) (same _)
 
-  deleting : (n : ℕ) → Stays (deletes state n)
+  deleting : (n : ℕ) → Stays (deletes_point state n)
   deleting n = either (has_point state.points n) _ _ (other_byte_first _ (λ e. absurd (omega (arith, e)))) (same _)
 
   attaching : (body : Statements) (place : Option ℕ) → Stays (attaches_at state body place)
   attaching body None = same _
   attaching body (Some place) = either (nat_le (length (mention_all state.variables (set_names body))) most_variables) _ _ (other_byte_first _ (λ e. absurd (omega (arith, e)))) (same _)
 
-  setting : (name : List ℕ) (value : Option ℤ) → Stays (sets state name value)
+  setting : (name : List ℕ) (value : Option ℤ) → Stays (sets_variable state name value)
   setting name value = either (is_mentioned state.variables name || nat_lt (length state.variables) most_variables) _ _ (other_byte_first _ (λ e. absurd (omega (arith, e)))) (same _)
 
   breaking : (line : List ℕ) (kind : Kind) (scope : WhichNodes) → Stays (breaks_at state line kind scope)
@@ -191,7 +191,7 @@ module _ (state : SessionState) where
   breaking line kind (At (Some n)) = adding line _
 
   commanding : (line : List ℕ) (c : LineCommand) → Stays (command_answer state line c)
-  commanding line (Goto k) = either (nat_le k (length (events state.place.start))) _ _ (arriving [] k) (same _)
+  commanding line (Goto k) = either (nat_le k (length (events_of_replays state.place.start))) _ _ (arriving [] k) (same _)
   commanding line (Step n) = arriving [] _
   commanding line (Back n) = arriving [] _
   commanding line (Print x) = same _

@@ -6,7 +6,7 @@ use Rattle.call_table.specs.declared.kind.Kind.{Kind}
 use Rattle.proc_replay.specs.Replaying.{Replaying}
 use Rattle.guest_process.specs.State.{State}
 use Rattle.watch_expr.specs.View.{bytes_of_node}
-use Rattle.group_state.specs.Place.{GroupPlace, events, node_names, states}
+use Rattle.group_state.specs.Place.{GroupPlace, events_of_replays, node_names, states_of_nodes}
 use Rattle.group_state.specs.Seen.{nodes_at}
 use Rattle.group_texts.specs.Texts.{last_lines, node_name, position_line, process_lines}
 use Rattle.embed_cmds.specs.Faulty.{set_names}
@@ -32,20 +32,20 @@ pub record LineAnswer : Type 0 where
   pub quits : Bool
 
 -- text, and the session as it was
-abbrev pub says : SessionState → List ℕ → LineAnswer
-says state text = record { text = text; state = state; quits = false }
+abbrev pub says_text : SessionState → List ℕ → LineAnswer
+says_text state text = record { text = text; state = state; quits = false }
 
 -- a refusal, which leaves the session as it was
-abbrev pub refuses : SessionState → LineRefusal → LineAnswer
-refuses state why = says state (refusal_line why)
+abbrev pub refuses_line : SessionState → LineRefusal → LineAnswer
+refuses_line state why = says_text state (refusal_line why)
 
 -- the session at this position
-abbrev pub moved_to : SessionState → ℕ → SessionState
-moved_to state k = record state { place = place_at state.place.start k }
+abbrev pub session_moved_to : SessionState → ℕ → SessionState
+session_moved_to state k = record state { place = place_at state.place.start k }
 
 -- lines, and then the position to which the session goes
-abbrev pub arrives : SessionState → List ℕ → ℕ → LineAnswer
-arrives state lines k = record { text = lines ++ position_line (place_at state.place.start k); state = moved_to state k; quits = false }
+abbrev pub arrives_at_position : SessionState → List ℕ → ℕ → LineAnswer
+arrives_at_position state lines k = record { text = lines ++ position_line (place_at state.place.start k); state = session_moved_to state k; quits = false }
 
 -- ---- the answers of commands
 
@@ -67,95 +67,95 @@ text_of_state name (Some S) = process_lines name S
 
 abbrev pub threads_of : GroupPlace → Option ℕ → List ℕ
 threads_of place None = []
-threads_of place (Some n) = text_of_state (node_name place.start n) (slice_get (states place.start place.at) n)
+threads_of place (Some n) = text_of_state (node_name place.start n) (slice_get (states_of_nodes place.start place.at) n)
 
 -- how many points may be held at once
 abbrev pub most_points : ℕ
 most_points = 64
 
 -- a point more, with the line that made it, unless there are as many as there may be
-abbrev pub adds : SessionState → List ℕ → Trigger → LineAnswer
-adds state text trigger =
+abbrev pub adds_point : SessionState → List ℕ → Trigger → LineAnswer
+adds_point state text trigger =
     if nat_lt (length state.points) most_points
     then record { text = codes "point " ++ (decimal (state.made + 1) ++ codes "\n"); state = with_point state text trigger; quits = false }
-    else refuses state refusal.TooMany
+    else refuses_line state refusal.TooMany
 
-abbrev pub deletes : SessionState → ℕ → LineAnswer
-deletes state n =
+abbrev pub deletes_point : SessionState → ℕ → LineAnswer
+deletes_point state n =
     if has_point state.points n
     then record { text = codes "deleted " ++ (decimal n ++ codes "\n"); state = record state { points = without_point state.points n }; quits = false }
-    else refuses state refusal.NoPoint
+    else refuses_line state refusal.NoPoint
 
 -- a walk's lines, and then the position to which the session goes
-abbrev pub walks : SessionState → Walk → LineAnswer
-walks state w = record {
+abbrev pub walks_on : SessionState → Walk → LineAnswer
+walks_on state w = record {
   text = w.text ++ position_line (place_at state.place.start w.at);
   state = record state { place = place_at state.place.start w.at; variables = w.variables };
   quits = false;
 }
 
 -- the lines of a walk back, and then the position to which the session goes
-abbrev pub returns : SessionState → Return → LineAnswer
-returns state r = arrives state r.text r.at
+abbrev pub returns_back : SessionState → Return → LineAnswer
+returns_back state r = arrives_at_position state r.text r.at
 
 -- how many variables there may be
 abbrev pub most_variables : ℕ
 most_variables = 256
 
 -- a variable gets a value, unless there were too many then
-abbrev pub sets : SessionState → List ℕ → Option ℤ → LineAnswer
-sets state name value =
+abbrev pub sets_variable : SessionState → List ℕ → Option ℤ → LineAnswer
+sets_variable state name value =
     if is_mentioned state.variables name || nat_lt (length state.variables) most_variables
-    then says (record state { variables = with_value state.variables name value }) []
-    else refuses state refusal.TooMany
+    then says_text (record state { variables = with_value state.variables name value }) []
+    else refuses_line state refusal.TooMany
 
 -- A program is attached to the point at this place. Then all variables that it sets are mentioned, unless there were too many
 -- then.
 abbrev pub attaches_at : SessionState → Statements → Option ℕ → LineAnswer
-attaches_at state body None = refuses state refusal.NoPoint
+attaches_at state body None = refuses_line state refusal.NoPoint
 attaches_at state body (Some place) =
     if nat_le (length (mention_all state.variables (set_names body))) most_variables
-    then says (record state { points = with_program state.points place body; variables = mention_all state.variables (set_names body) }) []
-    else refuses state refusal.TooMany
+    then says_text (record state { points = with_program state.points place body; variables = mention_all state.variables (set_names body) }) []
+    else refuses_line state refusal.TooMany
 
-abbrev pub attaches : SessionState → ℕ → Statements → LineAnswer
-attaches state n body = attaches_at state body (place_of_point state.points n)
+abbrev pub attaches_program : SessionState → ℕ → Statements → LineAnswer
+attaches_program state n body = attaches_at state body (place_of_point state.points n)
 
 abbrev pub variable_text : Variable → List ℕ
 variable_text v = codes "$" ++ (v.0 ++ (codes " " ++ value_text v.1))
 
 -- of a breakpoint for a node that no process is, nothing is said either
 abbrev pub breaks_at : SessionState → List ℕ → Kind → WhichNodes → LineAnswer
-breaks_at state text kind Everywhere = adds state text (OnCall None kind)
-breaks_at state text kind (At None) = says state []
-breaks_at state text kind (At (Some n)) = adds state text (OnCall (Some n) kind)
+breaks_at state text kind Everywhere = adds_point state text (OnCall None kind)
+breaks_at state text kind (At None) = says_text state []
+breaks_at state text kind (At (Some n)) = adds_point state text (OnCall (Some n) kind)
 
 -- what a command answers, whose line without outer blanks is this
 abbrev pub command_answer : SessionState → List ℕ → LineCommand → LineAnswer
-command_answer state line (Goto k) = if nat_le k (length (events state.place.start)) then arrives state [] k else refuses state refusal.NoPosition
-command_answer state line (Step n) = arrives state [] (min (state.place.at + n) (length (events state.place.start)))
-command_answer state line (Back n) = arrives state [] (state.place.at - n)
-command_answer state line (Print x) = says state (value_text (value_in (nodes_at state.place) state.variables x))
-command_answer state line (Mem node addr len) = says state (memory_text state.place node addr len)
-command_answer state line (Threads node) = says state (threads_of state.place node)
-command_answer state line (Events n) = says state (last_lines state.place n)
-command_answer state line (Watch x) = adds state line (OnChange x)
+command_answer state line (Goto k) = if nat_le k (length (events_of_replays state.place.start)) then arrives_at_position state [] k else refuses_line state refusal.NoPosition
+command_answer state line (Step n) = arrives_at_position state [] (min (state.place.at + n) (length (events_of_replays state.place.start)))
+command_answer state line (Back n) = arrives_at_position state [] (state.place.at - n)
+command_answer state line (Print x) = says_text state (value_text (value_in (nodes_at state.place) state.variables x))
+command_answer state line (Mem node addr len) = says_text state (memory_text state.place node addr len)
+command_answer state line (Threads node) = says_text state (threads_of state.place node)
+command_answer state line (Events n) = says_text state (last_lines state.place n)
+command_answer state line (Watch x) = adds_point state line (OnChange x)
 command_answer state line (Break scope kind) = breaks_at state line kind scope
-command_answer state line (Delete n) = deletes state n
-command_answer state line (Do n body) = attaches state n body
-command_answer state line ListPoints = says state (flat_map point_text state.points)
-command_answer state line (SetTo name x) = sets state name (value_in (nodes_at state.place) state.variables x)
-command_answer state line ListVariables = says state (flat_map variable_text state.variables)
-command_answer state line Continue = walks state (walk_from state.place state.points state.variables)
-command_answer state line Rcontinue = returns state (return_from state.place state.points)
+command_answer state line (Delete n) = deletes_point state n
+command_answer state line (Do n body) = attaches_program state n body
+command_answer state line ListPoints = says_text state (flat_map point_text state.points)
+command_answer state line (SetTo name x) = sets_variable state name (value_in (nodes_at state.place) state.variables x)
+command_answer state line ListVariables = says_text state (flat_map variable_text state.variables)
+command_answer state line Continue = walks_on state (walk_from state.place state.points state.variables)
+command_answer state line Rcontinue = returns_back state (return_from state.place state.points)
 command_answer state line Quit = record { text = []; state = state; quits = true }
 
 -- ---- the answer of a line
 
 -- what a line of this meaning answers, which without outer blanks is this
 abbrev pub answer_of_meaning : SessionState → List ℕ → LineMeaning → LineAnswer
-answer_of_meaning state line Silent = says state []
-answer_of_meaning state line (Refuses why) = refuses state why
+answer_of_meaning state line Silent = says_text state []
+answer_of_meaning state line (Refuses why) = refuses_line state why
 answer_of_meaning state line (Does command) = command_answer state line command
 
 -- the answer of a line

@@ -20,7 +20,7 @@ abbrev pub session_state : Stands → SessionState
 session_state s = state_with s.group s.kept
 
 -- a command was done: this was its answer, and the session is where the answer says
-pub record Performs (answered : LineAnswer) (new : SessionState) (text : List ℕ) : Type 0 where
+pub record PerformsCommand (answered : LineAnswer) (new : SessionState) (text : List ℕ) : Type 0 where
   pub text_is : text ≡ answered.text
   pub state : new ≡ answered.state
 

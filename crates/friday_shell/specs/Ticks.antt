@@ -1,17 +1,17 @@
 -- How often the lines of a session evaluate watchpoints.
 use Rattle.std.specs.Prelude.{ℕ, ◌-◌, List}
-use Rattle.group_state.specs.Touch.{ticks}
+use Rattle.group_state.specs.Touch.{watch_ticks}
 use Rattle.shell_lines.specs.Lines.{Continue, LineCommand, Rcontinue}
 use Rattle.shell_lines.specs.Meaning.{Does, LineMeaning, line_meaning}
-use Rattle.shell_points.specs.Watching.{watched}
+use Rattle.shell_points.specs.Watching.{watched_expressions}
 use Rattle.group_state.specs.Place.{node_names}
 use Rattle.friday_shell.specs.Points.{SessionState}
 
 -- A command that ends at position `to`: `continue` does from where the session is to there, `rcontinue` over the positions
 -- from 0 to the one before where the session is, and no other does.
 abbrev pub command_ticks : SessionState → LineCommand → ℕ → ℕ
-command_ticks state Continue to = ticks state.place.start (watched state.points) state.place.at (to - state.place.at)
-command_ticks state Rcontinue to = ticks state.place.start (watched state.points) 0 (state.place.at - 1)
+command_ticks state Continue to = watch_ticks state.place.start (watched_expressions state.points) state.place.at (to - state.place.at)
+command_ticks state Rcontinue to = watch_ticks state.place.start (watched_expressions state.points) 0 (state.place.at - 1)
 command_ticks state _ to = 0
 
 abbrev pub meaning_ticks : SessionState → LineMeaning → ℕ → ℕ

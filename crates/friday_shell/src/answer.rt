@@ -1,9 +1,9 @@
 // What a command answers.
 ghost use Rattle.std.specs.Prelude.{◌≡◌, ◌+◌, IfOk, [], length, min};
 ghost use Rattle.friday_shell.specs.Answer.{command_answer};
-ghost use Rattle.friday_shell.specs.Seen.{Performs, session_state};
+ghost use Rattle.friday_shell.specs.Seen.{PerformsCommand, session_state};
 ghost use Rattle.friday_shell.specs.Ticks.{command_ticks};
-ghost use Rattle.group_state.specs.Place.{events};
+ghost use Rattle.group_state.specs.Place.{events_of_replays};
 ghost use Rattle.group_texts.specs.Texts.{last_lines};
 ghost use Rattle.shell_lines.specs.Lines.{Back, Continue, Events, Goto, Rcontinue, Step};
 ghost use Rattle.shell_lines.specs.Seen.{command as command_meant};
@@ -31,7 +31,7 @@ pub(crate) fn perform<'m, 'a, L: Ledger>(
     steps: &mut Steps<L>,
 ) -> Result<(State<'m, 'a>, Text), AllocError>
     ensures answer { IfOk result (λ done.
-        Performs (command_answer (session_state state.entry) line.now (command_meant command)) (session_state done.0) done.1) }
+        PerformsCommand (command_answer (session_state state.entry) line.now (command_meant command)) (session_state done.0) done.1) }
     ensures start { IfOk result (λ done. done.0.group.start ≡ state.entry.group.start) }
     ensures ticks { IfOk result (λ done. steps.new ≡ steps.old + command_ticks (session_state state.entry) (command_meant command) done.0.group.at) }
 {
@@ -47,7 +47,7 @@ fn run<'m, 'a, L: Ledger>(
     steps: &mut Steps<L>,
 ) -> Result<(State<'m, 'a>, Text), AllocError>
     ensures answer { IfOk result (λ done.
-        Performs (command_answer (session_state state.entry) line.now (command_meant command)) (session_state done.0) done.1) }
+        PerformsCommand (command_answer (session_state state.entry) line.now (command_meant command)) (session_state done.0) done.1) }
     ensures ticks { IfOk result (λ done. steps.new ≡ steps.old + command_ticks (session_state state.entry) (command_meant command) done.0.group.at) }
 {
     match command {
@@ -79,7 +79,7 @@ fn go_to<'m, 'a>(
     state: State<'m, 'a>,
     position: u64,
 ) -> Result<(State<'m, 'a>, Text), AllocError>
-    ensures { IfOk result (λ done. Performs (command_answer (session_state state.entry) [] (Goto position)) (session_state done.0) done.1) }
+    ensures { IfOk result (λ done. PerformsCommand (command_answer (session_state state.entry) [] (Goto position)) (session_state done.0) done.1) }
 {
     let State { group, kept } = state;
     let (group, there) = group.goto(alloc, position)?;
@@ -97,7 +97,7 @@ fn step<'m, 'a>(
     state: State<'m, 'a>,
     count: u64,
 ) -> Result<(State<'m, 'a>, Text), AllocError>
-    ensures { IfOk result (λ done. Performs (command_answer (session_state state.entry) [] (Step count)) (session_state done.0) done.1) }
+    ensures { IfOk result (λ done. PerformsCommand (command_answer (session_state state.entry) [] (Step count)) (session_state done.0) done.1) }
 {
     let State { group, kept } = state;
     let group = advance(group, count)?;
@@ -107,7 +107,7 @@ fn step<'m, 'a>(
 
 // The group so many positions further, and at most at the end.
 fn advance<'m, 'a>(group: Group<'m, 'a>, count: u64) -> Result<Group<'m, 'a>, AllocError>
-    ensures { IfOk result (λ there. there ≡ place_at group.entry.start (min (group.entry.at + count) (length (events group.entry.start)))) }
+    ensures { IfOk result (λ there. there ≡ place_at group.entry.start (min (group.entry.at + count) (length (events_of_replays group.entry.start)))) }
 {
     let mut group = group;
     let mut left = count;
@@ -128,7 +128,7 @@ fn back<'m, 'a>(
     state: State<'m, 'a>,
     count: u64,
 ) -> Result<(State<'m, 'a>, Text), AllocError>
-    ensures { IfOk result (λ done. Performs (command_answer (session_state state.entry) [] (Back count)) (session_state done.0) done.1) }
+    ensures { IfOk result (λ done. PerformsCommand (command_answer (session_state state.entry) [] (Back count)) (session_state done.0) done.1) }
 {
     let position = state.group.position().saturating_sub(count);
     go_to(alloc, state, position)
@@ -140,7 +140,7 @@ fn go_on<'m, 'a, L: Ledger>(
     state: State<'m, 'a>,
     steps: &mut Steps<L>,
 ) -> Result<(State<'m, 'a>, Text), AllocError>
-    ensures answer { IfOk result (λ done. Performs (command_answer (session_state state.entry) [] Continue) (session_state done.0) done.1) }
+    ensures answer { IfOk result (λ done. PerformsCommand (command_answer (session_state state.entry) [] Continue) (session_state done.0) done.1) }
     ensures ticks { IfOk result (λ done. steps.new ≡ steps.old + command_ticks (session_state state.entry) Continue done.0.group.at) }
 {
     let State { group, kept } = state;
@@ -168,7 +168,7 @@ fn go_back<'m, 'a, L: Ledger>(
     state: State<'m, 'a>,
     steps: &mut Steps<L>,
 ) -> Result<(State<'m, 'a>, Text), AllocError>
-    ensures answer { IfOk result (λ done. Performs (command_answer (session_state state.entry) [] Rcontinue) (session_state done.0) done.1) }
+    ensures answer { IfOk result (λ done. PerformsCommand (command_answer (session_state state.entry) [] Rcontinue) (session_state done.0) done.1) }
     ensures ticks { IfOk result (λ done. steps.new ≡ steps.old + command_ticks (session_state state.entry) Rcontinue done.0.group.at) }
 {
     let State { group, kept } = state;
@@ -182,7 +182,7 @@ fn show_events<'m, 'a>(
     state: State<'m, 'a>,
     count: u64,
 ) -> Result<(State<'m, 'a>, Text), AllocError>
-    ensures { IfOk result (λ done. Performs (command_answer (session_state state.entry) [] (Events count)) (session_state done.0) done.1) }
+    ensures { IfOk result (λ done. PerformsCommand (command_answer (session_state state.entry) [] (Events count)) (session_state done.0) done.1) }
 {
     let State { group, kept } = state;
     let (group, text) = last_events(alloc, group, count)?;

@@ -1,8 +1,8 @@
 // The commands that change the points of a session.
 ghost use Rattle.std.specs.Prelude.{◌≡◌, ◌++◌, IfOk, codes, decimal};
-ghost use Rattle.embed_cmds.specs.Tree.{body};
-ghost use Rattle.friday_shell.specs.Answer.{adds, attaches, breaks_at, deletes};
-ghost use Rattle.friday_shell.specs.Seen.{Performs, session_state};
+ghost use Rattle.embed_cmds.specs.Tree.{program_body};
+ghost use Rattle.friday_shell.specs.Answer.{adds_point, attaches_program, breaks_at, deletes_point};
+ghost use Rattle.friday_shell.specs.Seen.{PerformsCommand, session_state};
 ghost use Rattle.shell_lines.specs.Seen.{scope as scope_meant};
 ghost use Rattle.shell_points.specs.Seen.{trigger as trigger_meant};
 
@@ -25,7 +25,7 @@ pub(crate) fn add<'m, 'a>(
     line: &[u8],
     trigger: Trigger,
 ) -> Result<(State<'m, 'a>, Text), AllocError>
-    ensures { IfOk result (λ done. Performs (adds (session_state state.entry) line.now (trigger_meant trigger)) (session_state done.0) done.1) }
+    ensures { IfOk result (λ done. PerformsCommand (adds_point (session_state state.entry) line.now (trigger_meant trigger)) (session_state done.0) done.1) }
 {
     if state.kept.points.count() >= MOST_POINTS {
         return told(refused(alloc, LineRefusal::TooMany), state);
@@ -45,7 +45,7 @@ pub(crate) fn add_breakpoint<'m, 'a>(
     scope: WhichNodes,
     kind: Kind,
 ) -> Result<(State<'m, 'a>, Text), AllocError>
-    ensures { IfOk result (λ done. Performs (breaks_at (session_state state.entry) line.now kind (scope_meant scope)) (session_state done.0) done.1) }
+    ensures { IfOk result (λ done. PerformsCommand (breaks_at (session_state state.entry) line.now kind (scope_meant scope)) (session_state done.0) done.1) }
 {
     match scope {
         WhichNodes::Everywhere => add(alloc, state, line, Trigger::Break(None, kind)),
@@ -60,7 +60,7 @@ pub(crate) fn delete<'m, 'a>(
     state: State<'m, 'a>,
     number: u64,
 ) -> Result<(State<'m, 'a>, Text), AllocError>
-    ensures { IfOk result (λ done. Performs (deletes (session_state state.entry) number) (session_state done.0) done.1) }
+    ensures { IfOk result (λ done. PerformsCommand (deletes_point (session_state state.entry) number) (session_state done.0) done.1) }
 {
     if !state.kept.points.is_held(number) {
         return told(refused(alloc, LineRefusal::NoPoint), state);
@@ -79,7 +79,7 @@ pub(crate) fn attach<'m, 'a>(
     number: u64,
     program: Program,
 ) -> Result<(State<'m, 'a>, Text), AllocError>
-    ensures { IfOk result (λ done. Performs (attaches (session_state state.entry) number (body program)) (session_state done.0) done.1) }
+    ensures { IfOk result (λ done. PerformsCommand (attaches_program (session_state state.entry) number (program_body program)) (session_state done.0) done.1) }
 {
     let Some(place) = state.kept.points.place_of(number) else {
         let text = refused(alloc, LineRefusal::NoPoint)?;

@@ -5,7 +5,7 @@ ghost use Rattle.group_state.specs.Place.{node_names};
 ghost use Rattle.friday_shell.specs.Answer.{answer, command_answer};
 ghost use Rattle.friday_shell.specs.Points.{SessionState};
 ghost use Rattle.friday_shell.specs.Seen.{IsLine, IsLineAnswer, is_quit};
-ghost use Rattle.friday_shell.specs.Session.{opening};
+ghost use Rattle.friday_shell.specs.Session.{opening_session};
 ghost use Rattle.friday_shell.specs.Ticks.{line_ticks};
 ghost use Rattle.shell_lines.specs.Meaning.{is_silent, line_meaning};
 ghost use Rattle.shell_lines.specs.Seen.{command, meaning};
@@ -63,7 +63,7 @@ impl<'m, 'a> Session<'m, 'a> {
     /// A session over a group at position 0, and the line with which it begins.
     pub fn begin(alloc: Global, group: Group<'m, 'a>) -> Result<(Session<'m, 'a>, Text), AllocError>
         requires { group.at ≡ 0 }
-        ensures session { IfOk result (λ begun. begun.0 ≡ opening group.entry.start) }
+        ensures session { IfOk result (λ begun. begun.0 ≡ opening_session group.entry.start) }
         ensures text { IfOk result (λ begun. begun.1 ≡ codes "at 0\n") }
     {
         let names = node_names(alloc, &group)?;

@@ -2,7 +2,7 @@
 ghost use Rattle.std.specs.Prelude.{◌≡◌, ◌++◌, [], IfOk, OnOk};
 ghost use Rattle.std.specs.List.{flat_map};
 ghost use Rattle.friday_shell.specs.Answer.{command_answer, variable_text};
-ghost use Rattle.friday_shell.specs.Seen.{Performs, session_state};
+ghost use Rattle.friday_shell.specs.Seen.{PerformsCommand, session_state};
 ghost use Rattle.shell_lines.specs.Lines.{SetTo};
 ghost use Rattle.watch_expr.specs.Expression.{expression_of};
 
@@ -25,7 +25,7 @@ pub(crate) fn set<'m, 'a>(
     expression: &Expr,
 ) -> Result<(State<'m, 'a>, Text), AllocError>
     ensures { IfOk result (λ done.
-        Performs (command_answer (session_state state.entry) [] (SetTo name.now (expression_of expression.now))) (session_state done.0) done.1) }
+        PerformsCommand (command_answer (session_state state.entry) [] (SetTo name.now (expression_of expression.now))) (session_state done.0) done.1) }
 {
     let variables = &state.kept.variables;
     if !variables.is_mentioned(name.as_slice()) && variables.names() >= MOST_VARIABLES {

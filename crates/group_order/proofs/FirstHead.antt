@@ -4,7 +4,7 @@ use Rattle.std.proofs.lemmas.Bool.{cases_lt}
 use Rattle.std.proofs.lemmas.Option.{same_Some}
 use Rattle.std.proofs.lemmas.List.{get_or_past}
 use Rattle.group_order.specs.declared.merge.Head.{Head}
-use Rattle.group_order.specs.Heads.{AreNone, IsFirstNode, IsNext, clock_of_node}
+use Rattle.group_order.specs.Heads.{AreNoHeads, IsFirstNode, IsNextNode, clock_of_node}
 
 -- one head more in front, which has no clock
 behind_none : (heads : List (Option ℕ)) (node : ℕ) → IsFirstNode heads node → IsFirstNode (None ∷ heads) (suc node)
@@ -53,12 +53,12 @@ in_front c heads above = record {
     least zero at e = let same : c ≡ at = same_Some c at e in omega (arith, same)
     least (suc other) at e = above other at e
 
-none_more : (heads : List (Option ℕ)) → AreNone heads → AreNone (None ∷ heads)
+none_more : (heads : List (Option ℕ)) → AreNoHeads heads → AreNoHeads (None ∷ heads)
 none_more heads none zero = refl
 none_more heads none (suc node) = none node
 
 -- there is a first, or no head has a clock
-pub first_of : (heads : List (Option ℕ)) → ((node : ℕ) × IsFirstNode heads node) ⊎ AreNone heads
+pub first_of : (heads : List (Option ℕ)) → ((node : ℕ) × IsFirstNode heads node) ⊎ AreNoHeads heads
 first_of [] = inr (λ node. refl)
 first_of (None ∷ heads) = elim (first_of heads) [
   | inl (node, first) ↦ inl (suc node, behind_none heads node first)
@@ -85,7 +85,7 @@ IsFirstOf heads n None = (k : ℕ) → k < n → clock_of_node heads k ≡ None
 IsFirstOf heads n (Some head) = Leading heads n head
 
 -- the first of all
-pub whole : (heads : List (Option ℕ)) (n : ℕ) (first : Option Head) → length heads ≤ n → IsFirstOf heads n first → IsNext heads (option_map (λ (h : Head). h.node) first)
+pub whole : (heads : List (Option ℕ)) (n : ℕ) (first : Option Head) → length heads ≤ n → IsFirstOf heads n first → IsNextNode heads (option_map (λ (h : Head). h.node) first)
 whole heads n None all is = λ node. elim (cases_lt node n) [
   | inl less ↦ is node less
   | inr not ↦ get_or_past heads node None (omega (arith, all, not))

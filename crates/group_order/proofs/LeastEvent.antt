@@ -3,7 +3,7 @@ use Rattle.std.proofs.Common.{◌≡◌, ℕ, ◌+◌, zero, suc, ◌<◌, ◌�
 use Rattle.std.specs.List.{AllByRecursion}
 use Rattle.std.proofs.Math.ListN.{set}
 use Rattle.std.proofs.lemmas.Bool.Decides.{nat_tests}
-use Rattle.group_order.specs.Order.{ClocksRise, NodeEvent, events_from, first_clock, insert_event, list_of, node_event, precedes, sort_events}
+use Rattle.group_order.specs.Order.{ClocksRise, NodeEvent, events_from, first_clock, insert_event, list_of, node_event, event_precedes, sort_events}
 
 module _ {X : Type 0} where
   pub all_so : (P Q : X → Type 0) (xs : List X) → ((x : X) → P x → Q x) → AllByRecursion P xs → AllByRecursion Q xs
@@ -17,15 +17,15 @@ module _ {X : Type 0} where
 module _ {A : Type 0} (clock : A → ℕ) where
   -- the event precedes each of these
   abbrev pub Leads : NodeEvent A → List (NodeEvent A) → Type 0
-  Leads a events = AllByRecursion (λ b. precedes clock a b ≡ true) events
+  Leads a events = AllByRecursion (λ b. event_precedes clock a b ≡ true) events
 
-  not_both : (a b : NodeEvent A) → precedes clock a b ≡ true → precedes clock b a ≡ false
+  not_both : (a b : NodeEvent A) → event_precedes clock a b ≡ true → event_precedes clock b a ≡ false
   not_both a b p = grind (arith, nat_tests)
 
-  leads_insert : (a b : NodeEvent A) (events : List (NodeEvent A)) → precedes clock a b ≡ true → Leads a events → Leads a (insert_event clock b events)
+  leads_insert : (a b : NodeEvent A) (events : List (NodeEvent A)) → event_precedes clock a b ≡ true → Leads a events → Leads a (insert_event clock b events)
   leads_insert a b [] p l = (p, tt)
   leads_insert a b (e ∷ events) p l =
-      elim (precedes clock e b) as (λ v. Leads a (cond v (e ∷ insert_event clock b events) (b ∷ e ∷ events))) [
+      elim (event_precedes clock e b) as (λ v. Leads a (cond v (e ∷ insert_event clock b events) (b ∷ e ∷ events))) [
         | true ↦ (l.0, leads_insert a b events p l.1)
         | false ↦ (p, l)
       ]
@@ -55,10 +55,10 @@ module _ {A : Type 0} (clock : A → ℕ) where
       let here : c ≤ clock x = f (clock x) refl in
       (here, all_so (λ y. clock x < clock y) (λ y. c ≤ clock y) xs (λ y l. omega (arith, l, here)) rises.0)
 
-  later : (a : NodeEvent A) (node : ℕ) (y : A) → clock a.entry < clock y → precedes clock a (node_event node y) ≡ true
+  later : (a : NodeEvent A) (node : ℕ) (y : A) → clock a.entry < clock y → event_precedes clock a (node_event node y) ≡ true
   later a node y l = grind (arith, nat_tests)
 
-  tied : (a : NodeEvent A) (node : ℕ) (y : A) → a.node < node → clock a.entry ≤ clock y → precedes clock a (node_event node y) ≡ true
+  tied : (a : NodeEvent A) (node : ℕ) (y : A) → a.node < node → clock a.entry ≤ clock y → event_precedes clock a (node_event node y) ≡ true
   tied a node y h l = grind (arith, nat_tests)
 
   all_events : (P : A → Type 0) (Q : NodeEvent A → Type 0) (node : ℕ) (xs : List A) → ((x : A) → P x → Q (node_event node x)) → AllByRecursion P xs → AllByRecursion Q (map (node_event node) xs)

@@ -6,8 +6,8 @@ use Rattle.std.proofs.lemmas.Bool.{cases_eq}
 use Rattle.std.proofs.lemmas.Bool.Decides.{nat_tests}
 use Rattle.std.proofs.lemmas.List.{get_or-set_other, get_or-set_same}
 use Rattle.std.proofs.lemmas.Option.{same_Some}
-use Rattle.group_order.specs.Heads.{AreNone, IsFirstNode, clock_of_node}
-use Rattle.group_order.specs.Order.{BeginsWith, ClocksRise, IsMerged, IsOrder, NodeEvent, events_from, first_clock, first_clocks, list_of, node_event, of_node, order, precedes}
+use Rattle.group_order.specs.Heads.{AreNoHeads, IsFirstNode, clock_of_node}
+use Rattle.group_order.specs.Order.{OrderBeginsWith, ClocksRise, IsMergedOrder, IsOrder, NodeEvent, events_from, first_clock, first_clocks, list_of, node_event, of_node, order_of_events, event_precedes}
 use Rattle.group_order.proofs.FirstHead.{first_of}
 use Rattle.group_order.proofs.LeastEvent.{Leads, Split, leads_sort, sort_least, split, all_append, all_so}
 
@@ -40,8 +40,8 @@ module _ {A : Type 0} (clock : A → ℕ) where
 
   -- what the node that comes next begins
   record Starts (lists : List (List A)) (node : ℕ) : Type 0 where
-    pub begins : BeginsWith clock lists node
-    pub leads : Leads clock (node_event node begins.entry) (order clock (set lists node begins.rest))
+    pub begins : OrderBeginsWith clock lists node
+    pub leads : Leads clock (node_event node begins.entry) (order_of_events clock (set lists node begins.rest))
     pub fewer : length (events_from 0 lists) ≡ suc (length (events_from 0 (set lists node begins.rest)))
 
   from_split : (lists : List (List A)) (node : ℕ) (x : A) (rest : List A) → AllByRecursion (ClocksRise clock) lists → list_of lists node ≡ x ∷ rest
@@ -70,12 +70,12 @@ module _ {A : Type 0} (clock : A → ℕ) where
       let o = opened (list_of lists node) first.clock (sym (head_at lists node) ∙ first.has) in
       from_opened lists node rises first o.0 o.1 o.2 o.3
 
-  none_from : (node : ℕ) (lists : List (List A)) → AreNone (first_clocks clock lists) → events_from node lists ≡ []
+  none_from : (node : ℕ) (lists : List (List A)) → AreNoHeads (first_clocks clock lists) → events_from node lists ≡ []
   none_from node [] none = refl
   none_from node ([] ∷ lists) none = none_from (suc node) lists (λ j. none (suc j))
   none_from node ((x ∷ xs) ∷ lists) none = let e = none 0 in absurd (cc)
 
-  none_left : (lists : List (List A)) → AreNone (first_clocks clock lists) → order clock lists ≡ []
+  none_left : (lists : List (List A)) → AreNoHeads (first_clocks clock lists) → order_of_events clock lists ≡ []
   none_left lists none = rw (none_from 0 lists none) refl
 
   -- a list without a first event is empty
@@ -107,20 +107,20 @@ module _ {A : Type 0} (clock : A → ℕ) where
   ]
 
   -- one event in front of a shorter order
-  one_more : (lists : List (List A)) (node : ℕ) (b : BeginsWith clock lists node) → Leads clock (node_event node b.entry) (order clock (set lists node b.rest))
-      → IsOrder clock (set lists node b.rest) (order clock (set lists node b.rest)) → IsOrder clock lists (order clock lists)
+  one_more : (lists : List (List A)) (node : ℕ) (b : OrderBeginsWith clock lists node) → Leads clock (node_event node b.entry) (order_of_events clock (set lists node b.rest))
+      → IsOrder clock (set lists node b.rest) (order_of_events clock (set lists node b.rest)) → IsOrder clock lists (order_of_events clock lists)
   one_more lists node b leads left = subst (IsOrder clock lists) (sym b.order) (record {
     sorted = (leads, left.sorted);
-    own = own_more lists node b.entry b.rest (order clock (set lists node b.rest)) b.list left.own;
+    own = own_more lists node b.entry b.rest (order_of_events clock (set lists node b.rest)) b.list left.own;
   })
 
-  no_more : (lists : List (List A)) → AreNone (first_clocks clock lists) → IsOrder clock lists (order clock lists)
+  no_more : (lists : List (List A)) → AreNoHeads (first_clocks clock lists) → IsOrder clock lists (order_of_events clock lists)
   no_more lists none = subst (IsOrder clock lists) (sym (none_left lists none)) (record {
     sorted = tt;
     own = λ node. empty_at (list_of lists node) (sym (head_at lists node) ∙ none node);
   })
 
-  is_order : (n : ℕ) (lists : List (List A)) → AllByRecursion (ClocksRise clock) lists → length (events_from 0 lists) ≤ n → IsOrder clock lists (order clock lists)
+  is_order : (n : ℕ) (lists : List (List A)) → AllByRecursion (ClocksRise clock) lists → length (events_from 0 lists) ≤ n → IsOrder clock lists (order_of_events clock lists)
   is_order zero lists rises few = elim (first_of (first_clocks clock lists)) [
     | inr none ↦ no_more lists none
     | inl (node, first) ↦ absurd (omega (arith, few, (starts lists node rises first).fewer))
@@ -148,7 +148,7 @@ module _ {A : Type 0} (clock : A → ℕ) where
     pub clock_above : clock a.entry ≤ clock e.entry
     pub tie : clock a.entry ≡ clock e.entry → a.node ≤ e.node
 
-  above : (a e : NodeEvent A) → precedes clock a e ≡ true → Above a e
+  above : (a e : NodeEvent A) → event_precedes clock a e ≡ true → Above a e
   above a e p = record { clock_above = grind (arith, nat_tests); tie = λ t. grind (arith, nat_tests) }
 
   -- the first event of such a list is that of the node that comes next
@@ -157,7 +157,7 @@ module _ {A : Type 0} (clock : A → ℕ) where
       let found : (other at : ℕ) → clock_of_node (first_clocks clock lists) other ≡ Some at → (e : NodeEvent A) × Above a e × (e.node ≡ other) × (clock e.entry ≡ at) =
       λ other at e.
       among (Above a) (a ∷ events) other at
-      (record { clock_above = omega arith; tie = λ t. omega arith }, all_so (λ b. precedes clock a b ≡ true) (Above a) events (above a) o.sorted.0)
+      (record { clock_above = omega arith; tie = λ t. omega arith }, all_so (λ b. event_precedes clock a b ≡ true) (Above a) events (above a) o.sorted.0)
       (ap (first_clock clock) (o.own other) ∙ sym (head_at lists other) ∙ e)
       in
       record {
@@ -167,7 +167,7 @@ module _ {A : Type 0} (clock : A → ℕ) where
         tie = λ other e. let f = found other (clock a.entry) e in let t = f.1.tie (sym f.3) in omega (arith, t, f.2);
       }
 
-  only : (events : List (NodeEvent A)) (lists : List (List A)) → AllByRecursion (ClocksRise clock) lists → IsOrder clock lists events → events ≡ order clock lists
+  only : (events : List (NodeEvent A)) (lists : List (List A)) → AllByRecursion (ClocksRise clock) lists → IsOrder clock lists events → events ≡ order_of_events clock lists
   only [] lists rises o = sym (none_left lists (λ node. head_at lists node ∙ ap (first_clock clock) (sym (o.own node))))
   only (a ∷ events) lists rises o =
       let b = (starts lists a.node rises (is_first lists a events o)).begins in
@@ -184,9 +184,9 @@ module _ {A : Type 0} (clock : A → ℕ) where
               sym (other_own a events node differs) ∙ o.own node ∙ sym (get_or-set_other lists a.node node b.rest [] (λ e. differs (sym e)))
         ];
       }) in
-      ap (λ l. a ∷ l) left ∙ ap (λ x. node_event a.node x ∷ order clock (set lists a.node b.rest)) (sym entry) ∙ sym b.order
+      ap (λ l. a ∷ l) left ∙ ap (λ x. node_event a.node x ∷ order_of_events clock (set lists a.node b.rest)) (sym entry) ∙ sym b.order
 
-  pub merged : (lists : List (List A)) → AllByRecursion (ClocksRise clock) lists → IsMerged clock lists
+  pub merged : (lists : List (List A)) → AllByRecursion (ClocksRise clock) lists → IsMergedOrder clock lists
   merged lists rises = record {
     is = is_order (length (events_from 0 lists)) lists rises (omega arith);
     only = λ events o. only events lists rises o;

@@ -8,7 +8,7 @@ use Rattle.std.specs.BTreeMap.{is_at}
 use Rattle.std.specs.FinMap as map
 use Rattle.std.specs.FinMap.{IsAntisymmetric, find, nat_cmp-IsAntisymmetric}
 use Rattle.std.proofs.lemmas.Map.Lookups.{exact_pairs}
-use Rattle.group_order.specs.Sends.{FindsOneMore, Sends, by_sender}
+use Rattle.group_order.specs.Sends.{FindsOneMoreSend, SendReceivers, by_sender}
 
 by_sender_total : IsTotalOrder by_sender
 by_sender_total = then_total (on_total (λ (x : ℕ × ℕ). x.0) nat_cmp_total) (on_total (λ (x : ℕ × ℕ). x.1) nat_cmp_total)
@@ -19,7 +19,7 @@ same_number a b = grind (arith, nat_tests)
 same_sender : (p clock q at : ℕ) → eq_by_cmp by_sender (q, at) (p, clock) ≡ ((p == q) && (clock == at))
 same_sender p clock q at = sym (tied_then (nat_cmp q p) (nat_cmp at clock)) ∙ (λ i. same_number p q i && same_number clock at i)
 
-pub finds_one_more : FindsOneMore
+pub finds_one_more : FindsOneMoreSend
 finds_one_more sends p clock to q at =
     map.get-insert by_sender_total sends (p, clock) to (q, at)
     ∙ ap (λ (b : Bool). if b then Some to else map.get sends (q, at)) (same_sender p clock q at)

@@ -14,9 +14,9 @@ pub record IsFirstNode (heads : List (Option ℕ)) (node : ℕ) : Type 0 where
   pub tie : (other : ℕ) → clock_of_node heads other ≡ Some clock → node ≤ other
 
 -- no node has a clock
-abbrev pub AreNone : List (Option ℕ) → Type 0
-AreNone heads = (node : ℕ) → clock_of_node heads node ≡ None
+abbrev pub AreNoHeads : List (Option ℕ) → Type 0
+AreNoHeads heads = (node : ℕ) → clock_of_node heads node ≡ None
 
-abbrev pub IsNext : List (Option ℕ) → Option ℕ → Type 0
-IsNext heads None = AreNone heads
-IsNext heads (Some node) = IsFirstNode heads node
+abbrev pub IsNextNode : List (Option ℕ) → Option ℕ → Type 0
+IsNextNode heads None = AreNoHeads heads
+IsNextNode heads (Some node) = IsFirstNode heads node

@@ -9,10 +9,10 @@ abbrev pub by_sender : ℕ × ℕ → ℕ × ℕ → Ordering
 by_sender x y = ordering_then (nat_cmp x.0 y.0) (nat_cmp x.1 y.1)
 
 -- the receiver of the send of a process at a clock
-abbrev pub Sends : Type 0
-Sends = map.FinMap by_sender ℕ
+abbrev pub SendReceivers : Type 0
+SendReceivers = map.FinMap by_sender ℕ
 
 -- with one send more, its receiver is found at its process and clock, and at each other what was found before
-abbrev pub FindsOneMore : Type 0
-FindsOneMore = (sends : Sends) (p clock to q at : ℕ)
+abbrev pub FindsOneMoreSend : Type 0
+FindsOneMoreSend = (sends : SendReceivers) (p clock to q at : ℕ)
     → map.get (map.insert sends (p, clock) to) (q, at) ≡ (if (p == q) && (clock == at) then Some to else map.get sends (q, at))

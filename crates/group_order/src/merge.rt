@@ -1,6 +1,6 @@
 // Which process of a group comes next.
 ghost use Rattle.std.specs.Prelude.{◌≡◌, ◌<◌, None, IfOk, IfSome, length, replicate, slice_set};
-ghost use Rattle.group_order.specs.Heads.{IsNext};
+ghost use Rattle.group_order.specs.Heads.{IsNextNode};
 
 use std::alloc::{AllocError, Global};
 use std::marker::Model;
@@ -49,7 +49,7 @@ impl Merge {
     /// The node with the least clock, and among equal clocks the least node. None comes exactly where no
     /// node has a clock.
     pub fn next_process(&self) -> Option<u32>
-        ensures next { IsNext self.now result }
+        ensures next { IsNextNode self.now result }
         ensures within { IfSome result (λ node. node < length self.now) }
     {
         let mut first: Option<Head> = None;

@@ -16,9 +16,9 @@ pub struct SendIndex {
 impl Model for SendIndex {
     ghost use Rattle.std.specs.Coded.{coded_ℕ, coded×};
     ghost use Rattle.std.specs.FinMap as map;
-    ghost use Rattle.group_order.specs.Sends.{Sends};
+    ghost use Rattle.group_order.specs.Sends.{SendReceivers};
 
-    ghost Value = { Sends };
+    ghost Value = { SendReceivers };
 
     ghost coded = { map.code (coded× coded_ℕ coded_ℕ) coded_ℕ };
 

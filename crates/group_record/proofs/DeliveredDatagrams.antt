@@ -12,15 +12,15 @@ use Rattle.lib_calls.specs.Effects.{is_good, minus_one, minus_two}
 use Rattle.lib_calls.specs.Traffic.{is_taken, takes_as}
 use Rattle.lib_calls.specs.declared.entry.Call.{Call}
 use Rattle.lib_calls.specs.declared.entry.Entry.{Entry}
-use Rattle.guest_process.specs.Answers.{need, replies}
+use Rattle.guest_process.specs.Answers.{need, replies_with}
 use Rattle.guest_process.specs.Answers as needs
-use Rattle.guest_process.specs.Live.{Answered, Env, Event, answered_now, as_given, cut_datagram, from_world, live, taken_of}
+use Rattle.guest_process.specs.Live.{AnsweredCall, Env, Event, answered_now, as_given, cut_datagram, from_world, live, taken_of}
 use Rattle.guest_process.specs.State.{State}
 use Rattle.lossy_net.specs.Network.{nth_of}
 use Rattle.group_world.specs.History.{Deliver, History, mailbox, sends, taken_count}
-use Rattle.group_world.specs.Laws.{Giver, HasOrigin, InTurn, NamesSend}
-use Rattle.group_record.specs.Run.{GroupStart, Step, Had, world_around, history, size}
-use Rattle.group_record.specs.Laws.{Delivery, IsSend, TakesDatagram}
+use Rattle.group_world.specs.Laws.{GiverOfDatagram, HasOrigin, InTurn, NamesSend}
+use Rattle.group_record.specs.Run.{GroupStart, RunStep, Had, world_around, history_of_steps, processes_in_group}
+use Rattle.group_record.specs.Laws.{Delivery, IsSendInHistory, TakesDatagram}
 use Rattle.group_record.specs.Standing.{IsRun}
 use Rattle.group_record.proofs.RunSteps.{is_run}
 use Rattle.group_record.proofs.LogsAgree.{ComesIn, KeepsAfter, Laws, came_in, comes_in, is_of_kind, keeps}
@@ -33,32 +33,32 @@ pub record Took (S : State) (c : Call) (box : List (List ℕ)) (a : Answer) : Ty
   pub first : box ≡ bytes ∷ later
   pub answer : a ≡ cut_datagram c.a1 (read_datagram S.count bytes)
 
-answer_is : (a b : Answered) → Some a ≡ Some b → b.answer ≡ a.answer
-answer_is a b is = ap (λ (x : Answered). x.answer) (sym (same_Some a b is))
+answer_is : (a b : AnsweredCall) → Some a ≡ Some b → b.answer ≡ a.answer
+answer_is a b is = ap (λ (x : AnsweredCall). x.answer) (sym (same_Some a b is))
 
-reply_is : (a b : Answered) (reply : ℕ) → Some a ≡ Some b → reply ≡ b.answer.reply → reply ≡ a.answer.reply
+reply_is : (a b : AnsweredCall) (reply : ℕ) → Some a ≡ Some b → reply ≡ b.answer.reply → reply ≡ a.answer.reply
 reply_is a b reply is told = told ∙ ap (λ (x : Answer). x.reply) (answer_is a b is)
 
 -- a test that the reply is another than this
 other : (reply n : ℕ) → not (reply == n) ≡ true → reply ≡ n → ⊥
 other reply n is same = eqb-false reply n (not-true (reply == n) is) same
 
-taken_first : (S : State) (c : Call) (box : List (List ℕ)) (given : Answered) → option_map (as_given Recv S c) (taken_of S.count c.a1 box) ≡ Some given → Took S c box given.answer
+taken_first : (S : State) (c : Call) (box : List (List ℕ)) (given : AnsweredCall) → option_map (as_given Recv S c) (taken_of S.count c.a1 box) ≡ Some given → Took S c box given.answer
 taken_first S c [] given is = cc
 taken_first S c (bytes ∷ later) given is = record { bytes = bytes; later = later; first = refl; answer = answer_is _ given is }
 
-taken_or_empty : (S : State) (c : Call) (box : List (List ℕ)) (given : Answered) (reply : ℕ) → Some (as_given TryRecv S c (unwrap_or (taken_of S.count c.a1 box) (replies minus_two))) ≡ Some given → reply ≡ given.answer.reply
+taken_or_empty : (S : State) (c : Call) (box : List (List ℕ)) (given : AnsweredCall) (reply : ℕ) → Some (as_given TryRecv S c (unwrap_or (taken_of S.count c.a1 box) (replies_with minus_two))) ≡ Some given → reply ≡ given.answer.reply
     → not (reply == minus_two) ≡ true → Took S c box given.answer
 taken_or_empty S c [] given reply is told not_empty = absurd (other reply minus_two not_empty (reply_is _ given reply is told))
 taken_or_empty S c (bytes ∷ later) given reply is told not_empty = record { bytes = bytes; later = later; first = refl; answer = answer_is _ given is }
 
 -- bad arguments are answered -1
-if_good : {P : Type 0} (good : Bool) (S : State) (world : Option Answered) (given : Answered) (reply : ℕ) → answered_now (cond good needs.World (needs.Fixed minus_one S)) world ≡ Some given
+if_good : {P : Type 0} (good : Bool) (S : State) (world : Option AnsweredCall) (given : AnsweredCall) (reply : ℕ) → answered_now (cond good needs.World (needs.Fixed minus_one S)) world ≡ Some given
     → reply ≡ given.answer.reply → not (reply == minus_one) ≡ true → (world ≡ Some given → P) → P
 if_good true S world given reply is told not_bad then = then is
 if_good false S world given reply is told not_bad then = absurd (other reply minus_one not_bad (reply_is _ given reply is told))
 
-pub took : (k : Kind) (S : State) (t : ℕ) (c : Call) (env : Env) (given : Answered) (e : Entry) → answered_now (need k S t c) (from_world k S c env) ≡ Some given → e.reply ≡ given.answer.reply
+pub took : (k : Kind) (S : State) (t : ℕ) (c : Call) (env : Env) (given : AnsweredCall) (e : Entry) → answered_now (need k S t c) (from_world k S c env) ≡ Some given → e.reply ≡ given.answer.reply
     → takes_as (Some k) e ≡ true → Took S c env.mailbox given.answer
 took Recv S t c env given e is told takes =
     if_good (is_good c S.store.memory) S (from_world Recv S c env) given e.reply is told takes (taken_first S c env.mailbox given)
@@ -82,34 +82,34 @@ pub record WorldLaws : Type 0 where
   pub named : NamesSend
 
 -- the datagram that comes first is that which was given next after those that were taken
-turn_of : InTurn → (count : ℕ) (h : History) (p : ℕ) (bytes : List ℕ) (later : List (List ℕ)) → mailbox count h p ≡ bytes ∷ later → Giver count h p (taken_count h p) bytes
+turn_of : InTurn → (count : ℕ) (h : History) (p : ℕ) (bytes : List ℕ) (later : List (List ℕ)) → mailbox count h p ≡ bytes ∷ later → GiverOfDatagram count h p (taken_count h p) bytes
 turn_of turn count h p bytes later first =
     turn.giver count h p (taken_count h p) bytes (sym (turn.front count h p) ∙ ap (λ (box : List (List ℕ)). slice_get box 0) first)
 
-event_takes : WorldLaws → (group : GroupStart) (early : List Step) (p : ℕ) (e : Event) → size group ≤ 16 → IsRun group early → (k : KeepsAfter group early p) (thread : ℕ)
-    → live k.last thread (world_around (size group) early p) ≡ Some e → IsTrue (is_taken e.entry) → TakesDatagram (size group) early p e
+event_takes : WorldLaws → (group : GroupStart) (early : List RunStep) (p : ℕ) (e : Event) → processes_in_group group ≤ 16 → IsRun group early → (k : KeepsAfter group early p) (thread : ℕ)
+    → live k.last thread (world_around (processes_in_group group) early p) ≡ Some e → IsTrue (is_taken e.entry) → TakesDatagram (processes_in_group group) early p e
 event_takes laws group early p e few run k thread comes takes =
-    let env = world_around (size group) early p in
+    let env = world_around (processes_in_group group) early p in
     let in_it : ComesIn k.last env thread e = comes_in k.last env thread e comes in
     let w = in_it.waiting in
     let reply : e.entry.reply ≡ in_it.given.answer.reply = ap (λ (e : Event). e.entry.reply) in_it.is in
     let t = took w.kind k.last thread w.call env in_it.given e.entry in_it.answer reply (takes_kind e.entry w.kind (is_of_kind k.last env thread e k.fits in_it) takes) in
-    let answer : in_it.given.answer ≡ cut_datagram e.entry.call.a1 (read_datagram (size group) t.bytes) =
-    t.answer ∙ ap (λ (n : ℕ). cut_datagram w.call.a1 (read_datagram n t.bytes)) k.group_size ∙ ap (λ (n : ℕ). cut_datagram n (read_datagram (size group) t.bytes)) (sym (ap (λ (e : Event). e.entry.call.a1) in_it.is)) in
-    let tag : e.entry.tag ≡ (read_datagram (size group) t.bytes).0 = ap (λ (e : Event). e.entry.tag) in_it.is ∙ ap (λ (a : Answer). a.tag) answer in
-    let payload : e.entry.incoming ≡ take e.entry.call.a1 (read_datagram (size group) t.bytes).1 = ap (λ (e : Event). e.entry.incoming) in_it.is ∙ ap (λ (a : Answer). a.incoming) answer in
-    let giver = turn_of laws.turn (size group) (history early) p t.bytes t.later t.first in
-    let sent : (q n : ℕ) → giver.act ≡ Deliver q n → IsSend (nth_of (sends (size group) giver.earlier q) n) q p e.entry = is_send laws.named (size group) (history early) p (taken_count (history early) p) t.bytes e.entry (omega (arith, few)) (events_fit group early run) giver tag payload in
+    let answer : in_it.given.answer ≡ cut_datagram e.entry.call.a1 (read_datagram (processes_in_group group) t.bytes) =
+    t.answer ∙ ap (λ (n : ℕ). cut_datagram w.call.a1 (read_datagram n t.bytes)) k.group_size ∙ ap (λ (n : ℕ). cut_datagram n (read_datagram (processes_in_group group) t.bytes)) (sym (ap (λ (e : Event). e.entry.call.a1) in_it.is)) in
+    let tag : e.entry.tag ≡ (read_datagram (processes_in_group group) t.bytes).0 = ap (λ (e : Event). e.entry.tag) in_it.is ∙ ap (λ (a : Answer). a.tag) answer in
+    let payload : e.entry.incoming ≡ take e.entry.call.a1 (read_datagram (processes_in_group group) t.bytes).1 = ap (λ (e : Event). e.entry.incoming) in_it.is ∙ ap (λ (a : Answer). a.incoming) answer in
+    let giver = turn_of laws.turn (processes_in_group group) (history_of_steps early) p t.bytes t.later t.first in
+    let sent : (q n : ℕ) → giver.act ≡ Deliver q n → IsSendInHistory (nth_of (sends (processes_in_group group) giver.earlier q) n) q p e.entry = is_send laws.named (processes_in_group group) (history_of_steps early) p (taken_count (history_of_steps early) p) t.bytes e.entry (omega (arith, few)) (events_fit group early run) giver tag payload in
     record {
       bytes = t.bytes;
       later = t.later;
       first = t.first;
       tag = tag;
       payload = payload;
-      origin = laws.origin (size group) (history early) p t.bytes (contains_first _ t.later t.bytes t.first);
+      origin = laws.origin (processes_in_group group) (history_of_steps early) p t.bytes (contains_first _ t.later t.bytes t.first);
       giver = giver;
       sent = sent;
-      told = λ q n is. is_told (size group) (history early) p (taken_count (history early) p) t.bytes e.entry giver q n (sent q n is);
+      told = λ q n is. is_told (processes_in_group group) (history_of_steps early) p (taken_count (history_of_steps early) p) t.bytes e.entry giver q n (sent q n is);
     }
 
 pub delivers : WorldLaws → Laws → Delivery

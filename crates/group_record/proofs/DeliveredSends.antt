@@ -10,12 +10,12 @@ use Rattle.lib_calls.specs.declared.entry.Entry.{Entry}
 use Rattle.guest_process.specs.Live.{Env, Event, live}
 use Rattle.guest_process.specs.State.{State}
 use Rattle.lossy_net.specs.Network.{nth_of}
-use Rattle.group_world.specs.History.{Act, History, addressed, datagram, put_last_if, sends}
+use Rattle.group_world.specs.History.{Act, History, addressed_datagram, datagram, put_last_if, sends}
 use Rattle.group_world.specs.History as world
-use Rattle.group_world.specs.Laws.{Giver, NamesSend, gives}
-use Rattle.group_record.specs.Run.{GroupStart, Step, Had, Did, world_around, history, size, process_after}
-use Rattle.group_record.specs.Laws.{IsSend}
-use Rattle.group_record.specs.Standing.{IsDone, IsRun}
+use Rattle.group_world.specs.Laws.{GiverOfDatagram, NamesSend, gives}
+use Rattle.group_record.specs.Run.{GroupStart, RunStep, Had, Did, world_around, history_of_steps, processes_in_group, process_after}
+use Rattle.group_record.specs.Laws.{IsSendInHistory}
+use Rattle.group_record.specs.Standing.{IsDoneAct, IsRun}
 use Rattle.group_record.proofs.LogsAgree.{ComesIn, comes_in}
 
 -- ---- the events of a run
@@ -35,14 +35,14 @@ has_clock env thread e (Some S) comes =
     let in_it : ComesIn S env thread e = comes_in S env thread e comes in
     omega (arith, ap (λ (e : Event). e.entry.clock) in_it.is)
 
-no_event : (group : GroupStart) (early : List Step) (act : Act) → IsDone group early act → EventFits (size group) act
+no_event : (group : GroupStart) (early : List RunStep) (act : Act) → IsDoneAct group early act → EventFits (processes_in_group group) act
 no_event group early (world.Event p e) done = absurd done
 no_event group early _ done = tt
 
-pub events_fit : (group : GroupStart) (steps : List Step) → IsRun group steps → EventsFit (size group) (history steps)
+pub events_fit : (group : GroupStart) (steps : List RunStep) → IsRun group steps → EventsFit (processes_in_group group) (history_of_steps steps)
 events_fit group [] run = tt
 events_fit group (Had p e ∷ early) run =
-    let clock : 1 ≤ e.entry.clock = has_clock (world_around (size group) early p) run.0.thread e (process_after group early p) run.0.comes in
+    let clock : 1 ≤ e.entry.clock = has_clock (world_around (processes_in_group group) early p) run.0.thread e (process_after group early p) run.0.comes in
     ((run.0.within, clock), events_fit group early run.1)
 events_fit group (Did act ∷ early) run = (no_event group early act run.0, events_fit group early run.1)
 
@@ -87,7 +87,7 @@ record IsOf (q p : ℕ) (o : Option Entry) (bytes : List ℕ) : Type 0 where
   to : sent.call.a0 ≡ p
   bytes_are : bytes ≡ datagram q sent
 
-is_of : (q p : ℕ) (o : Option Entry) (bytes : List ℕ) → addressed q p o ≡ bytes ∷ [] → IsOf q p o bytes
+is_of : (q p : ℕ) (o : Option Entry) (bytes : List ℕ) → addressed_datagram q p o ≡ bytes ∷ [] → IsOf q p o bytes
 is_of q p None bytes is = cc
 is_of q p (Some e) bytes is = by_receiver (e.call.a0 == p) refl is where
   by_receiver : (test : Bool) → (e.call.a0 == p) ≡ test → cond test (datagram q e ∷ []) [] ≡ bytes ∷ [] → IsOf q p (Some e) bytes
@@ -95,10 +95,10 @@ is_of q p (Some e) bytes is = by_receiver (e.call.a0 == p) refl is where
   by_receiver false to is = cc
 
 -- the entry that takes the datagram names the send
-pub is_send : NamesSend → (count : ℕ) (h : History) (p number : ℕ) (bytes : List ℕ) (e : Entry) → count ≤ 2 ^ 32 → EventsFit count h → (giver : Giver count h p number bytes)
-    → e.tag ≡ (read_datagram count bytes).0 → e.incoming ≡ take e.call.a1 (read_datagram count bytes).1 → (q n : ℕ) → giver.act ≡ world.Deliver q n → IsSend (nth_of (sends count giver.earlier q) n) q p e
+pub is_send : NamesSend → (count : ℕ) (h : History) (p number : ℕ) (bytes : List ℕ) (e : Entry) → count ≤ 2 ^ 32 → EventsFit count h → (giver : GiverOfDatagram count h p number bytes)
+    → e.tag ≡ (read_datagram count bytes).0 → e.incoming ≡ take e.call.a1 (read_datagram count bytes).1 → (q n : ℕ) → giver.act ≡ world.Deliver q n → IsSendInHistory (nth_of (sends count giver.earlier q) n) q p e
 is_send named count h p number bytes e few fits giver tag payload q n is =
-    let gives_it : addressed q p (nth_of (sends count giver.earlier q) n) ≡ bytes ∷ [] =
+    let gives_it : addressed_datagram q p (nth_of (sends count giver.earlier q) n) ≡ bytes ∷ [] =
     subst (λ (act : Act). gives count giver.earlier act p ≡ bytes ∷ []) is giver.gives_it in
     let from = is_of q p (nth_of (sends count giver.earlier q) n) bytes gives_it in
     let earlier : EventsFit count giver.earlier = earlier_fit count giver.later giver.earlier h giver.act giver.split fits in
@@ -145,7 +145,7 @@ entries_grow (a ∷ later) earlier h act is q x here =
     subst (λ (h : History). Contains (world.process_entries h q) x) (sym is)
     (one_act a (later ++ act ∷ earlier) q x (entries_grow later earlier (later ++ act ∷ earlier) act refl q x here))
 
-pub is_told : (count : ℕ) (h : History) (p number : ℕ) (bytes : List ℕ) (e : Entry) (giver : Giver count h p number bytes) (q n : ℕ) (s : IsSend (nth_of (sends count giver.earlier q) n) q p e) → Contains (world.process_entries h q) s.sent
+pub is_told : (count : ℕ) (h : History) (p number : ℕ) (bytes : List ℕ) (e : Entry) (giver : GiverOfDatagram count h p number bytes) (q n : ℕ) (s : IsSendInHistory (nth_of (sends count giver.earlier q) n) q p e) → Contains (world.process_entries h q) s.sent
 is_told count h p number bytes e giver q n s =
     entries_grow giver.later giver.earlier h giver.act giver.split q s.sent
     (sends_told count giver.earlier q s.sent (contains_nth n (sends count giver.earlier q) s.sent s.is))

@@ -10,32 +10,32 @@ use Rattle.call_table.specs.declared.kind.Kind.{Kind}
 use Rattle.call_table.specs.declared.kind.Kind.TheVariants.{Random, Recv, TryRecv}
 use Rattle.lamport_tag.specs.Tag.{read_datagram}
 use Rattle.lib_calls.specs.Answer.{Answer}
-use Rattle.lib_calls.specs.Effects.{has_good, is_good, is_range, minus_one, minus_two}
+use Rattle.lib_calls.specs.Effects.{has_good_ranges, is_good, is_range, minus_one, minus_two}
 use Rattle.lib_calls.specs.Traffic.{drawn, draws_as, is_taken, takes_as}
 use Rattle.lib_calls.specs.declared.entry.Call.{Call}
 use Rattle.lib_calls.specs.declared.entry.Entry.{Entry}
-use Rattle.guest_process.specs.Answers.{need, replies}
+use Rattle.guest_process.specs.Answers.{need, replies_with}
 use Rattle.guest_process.specs.Answers as needs
-use Rattle.guest_process.specs.Live.{Answered, Env, Event, answered_now, as_given, cut_datagram, from_world, random_answer, taken_of}
+use Rattle.guest_process.specs.Live.{AnsweredCall, Env, Event, answered_now, as_given, cut_datagram, from_world, random_answer, taken_of}
 use Rattle.guest_process.specs.State.{State}
 use Rattle.group_world.specs.History.{pool}
-use Rattle.group_record.specs.Run.{GroupStart, Step, Had, world_around, size, process_after}
-use Rattle.group_record.specs.Laws.{DrawsIf, TakesDrawn, TakesWaiting, takes_datagrams}
-use Rattle.group_record.specs.Standing.{IsHad, IsRun}
+use Rattle.group_record.specs.Run.{GroupStart, RunStep, Had, world_around, processes_in_group, process_after}
+use Rattle.group_record.specs.Laws.{DrawsFromPoolIf, TakesDrawn, TakesWaiting, takes_datagrams}
+use Rattle.group_record.specs.Standing.{IsHadEvent, IsRun}
 use Rattle.group_record.proofs.RunSteps.{is_run}
 use Rattle.group_record.proofs.LogsAgree.{ComesIn, KeepsAfter, Laws, came_in, comes_in, is_of_kind, keeps, stands_last}
 
 -- ---- good arguments name at most 60,000 bytes
 
-good_of_kind : (c : Call) (S : State) (k : Kind) → kind_numbered c.kind ≡ Some k → is_good c S.store.memory ≡ true → has_good k c S.store.memory ≡ true
+good_of_kind : (c : Call) (S : State) (k : Kind) → kind_numbered c.kind ≡ Some k → is_good c S.store.memory ≡ true → has_good_ranges k c S.store.memory ≡ true
 unfolding is_good
-good_of_kind c S k of_kind good = sym (ap (λ (o : Option Kind). option_map_or (λ kind. has_good kind c S.store.memory) o true) of_kind) ∙ good
+good_of_kind c S k of_kind good = sym (ap (λ (o : Option Kind). option_map_or (λ kind. has_good_ranges kind c S.store.memory) o true) of_kind) ∙ good
 
 range_few : (S : State) (addr len : ℕ) → is_range S.store.memory addr len ≡ true → len ≤ 60000
 unfolding is_range
 range_few S addr len good = leb-true _ _ (and_parts _ _ good).0
 
-received_few : (k : Kind) (c : Call) (S : State) → takes_datagrams (Some k) ≡ true → has_good k c S.store.memory ≡ true → c.a1 ≤ 60000
+received_few : (k : Kind) (c : Call) (S : State) → takes_datagrams (Some k) ≡ true → has_good_ranges k c S.store.memory ≡ true → c.a1 ≤ 60000
 received_few Recv c S is good = range_few S c.a0 c.a1 (and_parts _ _ good).0
 received_few TryRecv c S is good = range_few S c.a0 c.a1 (and_parts _ _ good).0
 received_few _ c S is good = cc
@@ -46,7 +46,7 @@ counts reply n few many = ap not (ne_eqb reply n (λ is. omega (arith, is, few, 
 
 -- ---- a datagram that waits
 
-by_world : (good : Bool) (S : State) (world : Option Answered) (given : Answered) → good ≡ true → answered_now (cond good needs.World (needs.Fixed minus_one S)) world ≡ Some given → world ≡ Some given
+by_world : (good : Bool) (S : State) (world : Option AnsweredCall) (given : AnsweredCall) → good ≡ true → answered_now (cond good needs.World (needs.Fixed minus_one S)) world ≡ Some given → world ≡ Some given
 by_world true S world given good is = is
 by_world false S world given good is = cc
 
@@ -54,18 +54,18 @@ cut_reply : (S : State) (c : Call) (bytes : List ℕ) (a : Answer) → cut_datag
 cut_reply S c bytes a is few =
     omega (arith, ap (λ (a : Answer). a.reply) is, length-take c.a1 (read_datagram S.count bytes).1, few)
 
-answer_is : (a b : Answered) → Some a ≡ Some b → a.answer ≡ b.answer
-answer_is a b is = ap (λ (x : Answered). x.answer) (same_Some a b is)
+answer_is : (a b : AnsweredCall) → Some a ≡ Some b → a.answer ≡ b.answer
+answer_is a b is = ap (λ (x : AnsweredCall). x.answer) (same_Some a b is)
 
-first_reply : (S : State) (c : Call) (box others : List (List ℕ)) (bytes : List ℕ) (given : Answered) → box ≡ bytes ∷ others → c.a1 ≤ 60000 → option_map (as_given Recv S c) (taken_of S.count c.a1 box) ≡ Some given → given.answer.reply ≤ 60000
+first_reply : (S : State) (c : Call) (box others : List (List ℕ)) (bytes : List ℕ) (given : AnsweredCall) → box ≡ bytes ∷ others → c.a1 ≤ 60000 → option_map (as_given Recv S c) (taken_of S.count c.a1 box) ≡ Some given → given.answer.reply ≤ 60000
 first_reply S c [] others bytes given waits few is = cc
 first_reply S c (first ∷ rest) others bytes given waits few is = cut_reply S c first given.answer (answer_is _ given is) few
 
-found_reply : (S : State) (c : Call) (box others : List (List ℕ)) (bytes : List ℕ) (given : Answered) → box ≡ bytes ∷ others → c.a1 ≤ 60000 → Some (as_given TryRecv S c (unwrap_or (taken_of S.count c.a1 box) (replies minus_two))) ≡ Some given → given.answer.reply ≤ 60000
+found_reply : (S : State) (c : Call) (box others : List (List ℕ)) (bytes : List ℕ) (given : AnsweredCall) → box ≡ bytes ∷ others → c.a1 ≤ 60000 → Some (as_given TryRecv S c (unwrap_or (taken_of S.count c.a1 box) (replies_with minus_two))) ≡ Some given → given.answer.reply ≤ 60000
 found_reply S c [] others bytes given waits few is = cc
 found_reply S c (first ∷ rest) others bytes given waits few is = cut_reply S c first given.answer (answer_is _ given is) few
 
-takes_kind : (k : Kind) (S : State) (t : ℕ) (c : Call) (env : Env) (given : Answered) (e : Entry) (bytes : List ℕ) (others : List (List ℕ))
+takes_kind : (k : Kind) (S : State) (t : ℕ) (c : Call) (env : Env) (given : AnsweredCall) (e : Entry) (bytes : List ℕ) (others : List (List ℕ))
     → answered_now (need k S t c) (from_world k S c env) ≡ Some given → e.reply ≡ given.answer.reply → takes_datagrams (Some k) ≡ true → is_good c S.store.memory ≡ true → c.a1 ≤ 60000
     → env.mailbox ≡ bytes ∷ others → takes_as (Some k) e ≡ true
 takes_kind Recv S t c env given e bytes others is told receive good few waits =
@@ -84,17 +84,17 @@ is_taken_by e k of_kind takes = ap (λ (o : Option Kind). takes_as o e) of_kind 
 
 -- ---- an event of a run, with the state in which it came and the call that it answers
 
-pub record Came (group : GroupStart) (early : List Step) (p : ℕ) (e : Event) (S : State) : Type 0 where
+pub record Came (group : GroupStart) (early : List RunStep) (p : ℕ) (e : Event) (S : State) : Type 0 where
   pub thread : ℕ
-  pub in_it : ComesIn S (world_around (size group) early p) thread e
+  pub in_it : ComesIn S (world_around (processes_in_group group) early p) thread e
   pub of_kind : kind_numbered e.entry.call.kind ≡ Some in_it.waiting.kind
   pub call : e.entry.call ≡ in_it.waiting.call
   pub reply : e.entry.reply ≡ in_it.given.answer.reply
   pub incoming : e.entry.incoming ≡ in_it.given.answer.incoming
 
-pub came_by : (group : GroupStart) (early : List Step) (p : ℕ) (e : Event) (k : KeepsAfter group early p) → IsHad group early p e → Came group early p e k.last
+pub came_by : (group : GroupStart) (early : List RunStep) (p : ℕ) (e : Event) (k : KeepsAfter group early p) → IsHadEvent group early p e → Came group early p e k.last
 came_by group early p e k had =
-    let env = world_around (size group) early p in
+    let env = world_around (processes_in_group group) early p in
     let in_it : ComesIn k.last env had.thread e = comes_in k.last env had.thread e (came_in group early p e k had) in
     record {
       thread = had.thread;
@@ -105,7 +105,7 @@ came_by group early p e k had =
       incoming = ap (λ (e : Event). e.entry.incoming) in_it.is;
     }
 
-came : (laws : Laws) (group : GroupStart) (early : List Step) (p : ℕ) (e : Event) (S : State) → IsRun group (Had p e ∷ early) → KeepsAfter group early p → process_after group early p ≡ Some S → Came group early p e S
+came : (laws : Laws) (group : GroupStart) (early : List RunStep) (p : ℕ) (e : Event) (S : State) → IsRun group (Had p e ∷ early) → KeepsAfter group early p → process_after group early p ≡ Some S → Came group early p e S
 came laws group early p e S run k stands =
     subst (λ (S : State). Came group early p e S) (same_Some k.last S (sym (stands_last group early p k) ∙ stands)) (came_by group early p e k run.0)
 
@@ -119,7 +119,7 @@ takes_waiting laws group items begun fits later early p e is S stands receive go
     let kind_it : kind_numbered w.call.kind ≡ Some w.kind = sym (ap (λ (call : Call). kind_numbered call.kind) c.call) ∙ c.of_kind in
     let few = received_few w.kind w.call S receives_it (good_of_kind w.call S w.kind kind_it good_it) in
     is_taken_by e.entry w.kind c.of_kind
-    (takes_kind w.kind S c.thread w.call (world_around (size group) early p) c.in_it.given e.entry bytes others c.in_it.answer c.reply receives_it good_it few waits)
+    (takes_kind w.kind S c.thread w.call (world_around (processes_in_group group) early p) c.in_it.given e.entry bytes others c.in_it.answer c.reply receives_it good_it few waits)
 
 -- ---- random bytes
 
@@ -129,7 +129,7 @@ record Drew (c : Call) (pool : List ℕ) (a : Answer) : Type 0 where
   reply : a.reply ≡ c.a1
   incoming : a.incoming ≡ take c.a1 pool
 
-drew : (S : State) (c : Call) (env : Env) (given : Answered) → from_world Random S c env ≡ Some given → Drew c env.pool given.answer
+drew : (S : State) (c : Call) (env : Env) (given : AnsweredCall) → from_world Random S c env ≡ Some given → Drew c env.pool given.answer
 drew S c env given is = by_test (leb c.a1 (length env.pool)) refl is
   where
     by_test : (enough : Bool) → leb c.a1 (length env.pool) ≡ enough → option_map (as_given Random S c) (cond enough (Some (random_answer c.a1 (take c.a1 env.pool))) None) ≡ Some given → Drew c env.pool given.answer
@@ -138,7 +138,7 @@ drew S c env given is = by_test (leb c.a1 (length env.pool)) refl is
         record { enough = leb-true c.a1 (length env.pool) e; reply = sym (ap (λ (a : Answer). a.reply) answer); incoming = sym (ap (λ (a : Answer). a.incoming) answer) }
     by_test false e is = cc
 
-bad_reply : (good : Bool) (S : State) (world : Option Answered) (given : Answered) → good ≡ false → answered_now (cond good needs.World (needs.Fixed minus_one S)) world ≡ Some given → given.answer.reply ≡ minus_one
+bad_reply : (good : Bool) (S : State) (world : Option AnsweredCall) (given : AnsweredCall) → good ≡ false → answered_now (cond good needs.World (needs.Fixed minus_one S)) world ≡ Some given → given.answer.reply ≡ minus_one
 bad_reply true S world given bad is = cc
 bad_reply false S world given bad is = sym (ap (λ (a : Answer). a.reply) (answer_is _ given is))
 
@@ -158,15 +158,15 @@ asks_few : (c : Call) (S : State) → kind_numbered c.kind ≡ Some Random → i
 asks_few c S of_kind good = range_few S c.a0 c.a1 (good_of_kind c S Random of_kind good)
 
 -- the answer to a call of random at which the process stood
-pub record Answers (S : State) (early : List Step) (count p : ℕ) (e : Event) : Type 0 where
-  pub given : Answered
+pub record Answers (S : State) (early : List RunStep) (count p : ℕ) (e : Event) : Type 0 where
+  pub given : AnsweredCall
   pub answer : answered_now (need Random S 0 e.entry.call) (from_world Random S e.entry.call (world_around count early p)) ≡ Some given
   pub reply : e.entry.reply ≡ given.answer.reply
   pub incoming : e.entry.incoming ≡ given.answer.incoming
 
-pub answers_random : (group : GroupStart) (early : List Step) (p : ℕ) (e : Event) (S : State) → Came group early p e S → kind_numbered e.entry.call.kind ≡ Some Random → Answers S early (size group) p e
+pub answers_random : (group : GroupStart) (early : List RunStep) (p : ℕ) (e : Event) (S : State) → Came group early p e S → kind_numbered e.entry.call.kind ≡ Some Random → Answers S early (processes_in_group group) p e
 answers_random group early p e S c of_kind =
-    let env = world_around (size group) early p in
+    let env = world_around (processes_in_group group) early p in
     let kind : c.in_it.waiting.kind ≡ Random = same_Some c.in_it.waiting.kind Random (sym c.of_kind ∙ of_kind) in
     let at_kind : answered_now (need Random S c.thread c.in_it.waiting.call) (from_world Random S c.in_it.waiting.call env) ≡ Some c.in_it.given =
     subst (λ (k : Kind). answered_now (need k S c.thread c.in_it.waiting.call) (from_world k S c.in_it.waiting.call env) ≡ Some c.in_it.given) kind c.in_it.answer in
@@ -177,7 +177,7 @@ answers_random group early p e S c of_kind =
       incoming = c.incoming;
     }
 
-pub draws_if : (S : State) (early : List Step) (count p : ℕ) (e : Event) (good : Bool) → is_good e.entry.call S.store.memory ≡ good → kind_numbered e.entry.call.kind ≡ Some Random → Answers S early count p e → DrawsIf good early p e
+pub draws_if : (S : State) (early : List RunStep) (count p : ℕ) (e : Event) (good : Bool) → is_good e.entry.call S.store.memory ≡ good → kind_numbered e.entry.call.kind ≡ Some Random → Answers S early count p e → DrawsFromPoolIf good early p e
 draws_if S early count p e true good of_kind a =
     let env = world_around count early p in
     let d : Drew e.entry.call env.pool a.given.answer = drew S e.entry.call env a.given (by_world (is_good e.entry.call S.store.memory) S (from_world Random S e.entry.call env) a.given good a.answer) in
@@ -194,4 +194,4 @@ pub draws : Laws → TakesDrawn
 draws laws group items begun fits later early p e is S stands of_kind =
     let run : IsRun group (Had p e ∷ early) = is_run group items fits (Had p e ∷ early) (later, is) in
     let c : Came group early p e S = came laws group early p e S run (keeps laws group begun early run.1 p run.0.within) stands in
-    draws_if S early (size group) p e (is_good e.entry.call S.store.memory) refl of_kind (answers_random group early p e S c of_kind)
+    draws_if S early (processes_in_group group) p e (is_good e.entry.call S.store.memory) refl of_kind (answers_random group early p e S c of_kind)

@@ -12,7 +12,7 @@ use Rattle.group_record.specs.Answer.{first_states_from, with_first_state}
 use Rattle.group_record.specs.declared.error.RecordError.{RecordError}
 use Rattle.group_record.specs.declared.error.RecordError.TheVariants as errors
 use Rattle.group_record.specs.Begun.{AreStarted, BeginsAll}
-use Rattle.group_record.specs.Members.{IsFreshMember, Starts}
+use Rattle.group_record.specs.Members.{IsFreshMember, StartsMember}
 
 -- these states and then what comes after them
 abbrev pub ahead : List State → Result (List State) ℕ → Result (List State) ℕ
@@ -97,13 +97,13 @@ all_started names modules p members h past all = (
 -- ---- as the code reaches it
 
 pub next_started : (names : List (List ℕ)) (modules : List Module) (p count : ℕ) (members : List Member) (m : Member) (here : Module) (name : List ℕ) → count ≡ length names → HaveStarted names modules p members → p < length modules
-    → here ≡ slice_index_or modules p here → name ≡ slice_index_or names p [] → Starts (start here p count) name p count (Ok m) → HaveStarted names modules (p + 1) (members ++ m ∷ [])
+    → here ≡ slice_index_or modules p here → name ≡ slice_index_or names p [] → StartsMember (start here p count) name p count (Ok m) → HaveStarted names modules (p + 1) (members ++ m ∷ [])
 next_started names modules p count members m here name all h inside at named starts =
-    let s : Starts (start here p (length names)) name p (length names) (Ok m) = subst (λ n. Starts (start here p n) name p n (Ok m)) all starts in
+    let s : StartsMember (start here p (length names)) name p (length names) (Ok m) = subst (λ n. StartsMember (start here p n) name p n (Ok m)) all starts in
     one_started names modules p members m here name s.0 h inside at named s.1 s.2
 
 pub member_fails : {T : Type 0} (items : T → List Member) (names : List (List ℕ)) (modules : List Module) (p count : ℕ) (members : List Member) (here : Module) (name : List ℕ) (error : RecordError) → count ≡ length names → HaveStarted names modules p members → p < length modules
-    → here ≡ slice_index_or modules p here → Starts (start here p count) name p count (Err error) → BeginsAll items names (first_states_from count 0 modules) (Err error)
+    → here ≡ slice_index_or modules p here → StartsMember (start here p count) name p count (Err error) → BeginsAll items names (first_states_from count 0 modules) (Err error)
 member_fails items names modules p count members here name (errors.BadSegment q) all h inside at starts =
     subst (λ n. first_states_from n 0 modules ≡ Err q) (sym all) (one_bad names modules p members here h inside at (subst (λ n. start here p n ≡ None) all starts.1) ∙ ap Err (sym starts.0))
 member_fails items names modules p count members here name (errors.LogFull q) all h inside at starts = starts

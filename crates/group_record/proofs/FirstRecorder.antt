@@ -20,10 +20,10 @@ use Rattle.group_record.specs.declared.error.RecordError.TheVariants as errors
 use Rattle.group_record.specs.declared.member.Member.{Member}
 use Rattle.group_record.specs.declared.recorder.Recorder.{Recorder}
 use Rattle.group_record.specs.Answer.{group_of, names_of}
-use Rattle.group_record.specs.Begun.{AreStarted, BeginsAll, GroupBegins, HaveHeads, IsNewRecorder, MakeAll, StopsAtHead, heads}
+use Rattle.group_record.specs.Begun.{AreStarted, BeginsAll, GroupBegins, HaveHeads, IsNewRecorder, MakeAll, StopsAtHead, heads_of_logs}
 use Rattle.group_record.specs.Files.{InHeads}
-use Rattle.group_record.specs.Recorded.{FilesOf, IsMember, KeepsUp, kept_for}
-use Rattle.group_record.specs.Run.{head_of_log, name_of_process, nothing_yet}
+use Rattle.group_record.specs.Recorded.{FilesOf, IsMember, KeepsUpWithRun, prints_kept_for}
+use Rattle.group_record.specs.Run.{head_of_log, name_of_process, no_progress_yet}
 use Rattle.group_record.specs.RunLaws.{before_steps}
 use Rattle.group_record.proofs.LogHeads.{heads_are_logs}
 use Rattle.group_record.proofs.KeptPrints.{none_printed}
@@ -124,7 +124,7 @@ begun_member schedule first members p m fits started at =
     }
 
 pub recorder_begun : (asked : Bool) (schedule : Schedule) (first : List State) (members : List Member) (recorder : Recorder) → IsSchedule schedule → AreStarted (names_of schedule) first members → IsNewRecorder asked members recorder
-    → KeepsUp (group_of schedule first) nothing_yet recorder
+    → KeepsUpWithRun (group_of schedule first) no_progress_yet recorder
 recorder_begun asked schedule first members recorder fits started new = record {
   room = refl;
   apart = names_apart schedule.processes fits.formed.names;
@@ -132,10 +132,10 @@ recorder_begun asked schedule first members recorder fits started new = record {
   members = λ p m at. begun_member schedule first members p m fits started (sym (ap (λ ms. slice_get ms p) new.members) ∙ at);
   can_be = tt;
   world = new.world ∙ ap new_world started.count;
-  prints = λ p bytes at. none_printed (kept_for asked (length members)) p bytes (sym (ap (λ kept. slice_get kept p) new.prints) ∙ at);
+  prints = λ p bytes at. none_printed (prints_kept_for asked (length members)) p bytes (sym (ap (λ kept. slice_get kept p) new.prints) ∙ at);
   acted = new.acted;
   idle = new.idle;
 }
 
-pub files_begun : (schedule : Schedule) (first : List State) (before now : Option Folder) → MakeAll (group_of schedule first) (heads (group_of schedule first)) (Ok tt) before now → FilesOf (group_of schedule first) nothing_yet before now
+pub files_begun : (schedule : Schedule) (first : List State) (before now : Option Folder) → MakeAll (group_of schedule first) (heads_of_logs (group_of schedule first)) (Ok tt) before now → FilesOf (group_of schedule first) no_progress_yet before now
 files_begun schedule first before now is = is ∙ ap (λ fs. with_files fs before) (heads_are_logs (group_of schedule first))

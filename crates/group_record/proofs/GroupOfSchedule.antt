@@ -11,7 +11,7 @@ use Rattle.wasm_types.specs.Modules.{Module}
 use Rattle.wasm_types.specs.Valid.{IsValid}
 use Rattle.guest_process.specs.Start.{start}
 use Rattle.guest_process.specs.State.{State}
-use Rattle.group_record.specs.Run.{size}
+use Rattle.group_record.specs.Run.{processes_in_group}
 use Rattle.group_record.specs.Answer.{first_states_from, group_of, with_first_state}
 use Rattle.group_record.specs.Laws.{Beginning, IsBegun}
 
@@ -55,7 +55,7 @@ valid_at ms place m found all = subst IsValid (get_or_from_slice_get ms place m 
 
 pub begins : Beginning
 begins schedule modules first formed one_each valid is =
-    let sized : size (group_of schedule first) ≡ length schedule.processes = length-map schedule.processes (λ (line : ProcessLine). line.name) in
+    let sized : processes_in_group (group_of schedule first) ≡ length schedule.processes = length-map schedule.processes (λ (line : ProcessLine). line.name) in
     let all : Begun (length schedule.processes) 0 modules first = each_begun (length schedule.processes) 0 modules first is in
     let begun : IsBegun (group_of schedule first) = record {
       some = omega (arith, sized, formed.some);

@@ -9,7 +9,7 @@ use Rattle.lib_calls.specs.Traffic.{printed, prints}
 use Rattle.guest_process.specs.Live.{Event}
 use Rattle.group_world.specs.History.{put_last_if}
 use Rattle.group_record.specs.Recorded.{with_print}
-use Rattle.group_record.specs.Run.{Step, Had, entries}
+use Rattle.group_record.specs.Run.{RunStep, Had, entries_of_steps}
 use Rattle.group_record.proofs.SharedLemmas.{set_each}
 
 -- what is printed with one event more
@@ -18,27 +18,27 @@ prints_more [] e = append-nil (printed e)
 prints_more (x ∷ es) e = ap (λ t. printed x ++ t) (prints_more es e) ∙ sym (append_assoc (printed x) (prints es) (printed e))
 
 -- where what a process printed is kept, it is what its events printed
-abbrev pub AreKept : List (List ℕ) → List Step → Type 0
-AreKept kept steps = (p : ℕ) (bytes : List ℕ) → slice_get kept p ≡ Some bytes → bytes ≡ prints (entries steps p)
+abbrev pub AreKept : List (List ℕ) → List RunStep → Type 0
+AreKept kept steps = (p : ℕ) (bytes : List ℕ) → slice_get kept p ≡ Some bytes → bytes ≡ prints (entries_of_steps steps p)
 
-own_print : (kept : List (List ℕ)) (steps : List Step) (p : ℕ) (e : Event) (entry : Entry) → AreKept kept steps → entry ≡ e.entry → p < length kept
-    → slice_index_or kept p [] ++ printed entry ≡ prints (entries (Had p e ∷ steps) p)
+own_print : (kept : List (List ℕ)) (steps : List RunStep) (p : ℕ) (e : Event) (entry : Entry) → AreKept kept steps → entry ≡ e.entry → p < length kept
+    → slice_index_or kept p [] ++ printed entry ≡ prints (entries_of_steps (Had p e ∷ steps) p)
 own_print kept steps p e entry h same within =
     let here : eqb p p ≡ true = eq-eqb p p refl in
     ap (λ t. t ++ printed entry) (h p (slice_index_or kept p []) (slice_get-get_or kept p [] within))
-    ∙ ap (λ e. prints (entries steps p) ++ printed e) same
-    ∙ sym (prints_more (entries steps p) e.entry)
-    ∙ sym (ap (λ b. prints (put_last_if b (entries steps p) e.entry)) here)
+    ∙ ap (λ e. prints (entries_of_steps steps p) ++ printed e) same
+    ∙ sym (prints_more (entries_of_steps steps p) e.entry)
+    ∙ sym (ap (λ b. prints (put_last_if b (entries_of_steps steps p) e.entry)) here)
 
-other_print : (steps : List Step) (p q : ℕ) (e : Event) (bytes : List ℕ) → p ≢ q → bytes ≡ prints (entries steps q) → bytes ≡ prints (entries (Had p e ∷ steps) q)
+other_print : (steps : List RunStep) (p q : ℕ) (e : Event) (bytes : List ℕ) → p ≢ q → bytes ≡ prints (entries_of_steps steps q) → bytes ≡ prints (entries_of_steps (Had p e ∷ steps) q)
 other_print steps p q e bytes apart is =
     let other : eqb p q ≡ false = grind (arith, nat_tests) in
-    is ∙ sym (ap (λ b. prints (put_last_if b (entries steps q) e.entry)) other)
+    is ∙ sym (ap (λ b. prints (put_last_if b (entries_of_steps steps q) e.entry)) other)
 
-pub event_printed : (kept : List (List ℕ)) (steps : List Step) (p : ℕ) (e : Event) (entry : Entry) → AreKept kept steps → entry ≡ e.entry
+pub event_printed : (kept : List (List ℕ)) (steps : List RunStep) (p : ℕ) (e : Event) (entry : Entry) → AreKept kept steps → entry ≡ e.entry
     → AreKept (with_print kept p (printed entry)) (Had p e ∷ steps)
 event_printed kept steps p e entry h same =
-    set_each kept p (slice_index_or kept p [] ++ printed entry) (λ q bytes. bytes ≡ prints (entries (Had p e ∷ steps) q))
+    set_each kept p (slice_index_or kept p [] ++ printed entry) (λ q bytes. bytes ≡ prints (entries_of_steps (Had p e ∷ steps) q))
     (own_print kept steps p e entry h same)
     (λ q bytes apart at. other_print steps p q e bytes apart (h q bytes at))
 

@@ -16,19 +16,19 @@ use Rattle.lib_calls.specs.declared.entry.Entry.{Entry}
 use Rattle.lib_calls.specs.Entry.{IsShaped}
 use Rattle.guest_process.specs.declared.need.Need.{Need as PlainNeed}
 use Rattle.guest_process.specs.declared.waiting.Waiting.{Waiting}
-use Rattle.guest_process.specs.Answers.{Need, Fixed, Blocked, World, need, replies}
+use Rattle.guest_process.specs.Answers.{Need, Fixed, Blocked, World, need, replies_with}
 use Rattle.guest_process.specs.Fits.{EnvFits, StateFits, WaitingFits, live_has}
-use Rattle.guest_process.specs.Live.{Answered, Env, Event, answered_now, as_given, chosen_signal, drawn_of, event, event_of_waiting, from_world, live, taken_of, world_answer}
-use Rattle.guest_process.specs.OneEvent.{IsKept, OneEvent, Rises}
-use Rattle.guest_process.specs.Seen.{able, plain}
+use Rattle.guest_process.specs.Live.{AnsweredCall, Env, Event, answered_now, as_given, chosen_signal, drawn_of, event, event_of_waiting, from_world, live, taken_of, world_answer}
+use Rattle.guest_process.specs.OneEvent.{IsKeptByEvents, OneEvent, Rises}
+use Rattle.guest_process.specs.Seen.{able, plain_need}
 use Rattle.guest_process.specs.State.{State, is_running, thread_at}
-use Rattle.group_record.specs.Around.{answer_by, signal_with, world_gives}
+use Rattle.group_record.specs.Around.{answer_by, signal_with_answer, world_gives}
 use Rattle.group_record.specs.Recorded.{IsLiveEntry}
 use Rattle.group_record.proofs.ReadySignals.{chosen_is, handlers_after}
 
 -- ---- the answer
 
-abbrev answer_in : Answered → Answer
+abbrev answer_in : AnsweredCall → Answer
 answer_in a = a.answer
 
 answers_same : (k : Kind) (S : State) (c : Call) (o : Option Answer) → option_map answer_in (option_map (as_given k S c) o) ≡ o
@@ -41,7 +41,7 @@ of_kind k c count env is = ap (λ (o : Option Kind). option_and_then (λ kind. w
 
 -- what is answered is what the process and the world give
 answer_same : (k : Kind) (S : State) (c : Call) (env : Env) (n : Need) → kind_numbered c.kind ≡ Some k
-    → option_map answer_in (answered_now n (from_world k S c env)) ≡ answer_by (plain n) c S.count env
+    → option_map answer_in (answered_now n (from_world k S c env)) ≡ answer_by (plain_need n) c S.count env
 answer_same k S c env (Fixed reply after) is = refl
 answer_same k S c env Blocked is = refl
 answer_same k S c env World is = answers_same k S c (world_answer k c S.count env) ∙ sym (of_kind k c S.count env is)
@@ -49,8 +49,8 @@ answer_same k S c env World is = answers_same k S c (world_answer k c S.count en
 -- ---- what is taken is there
 
 -- bad arguments are answered -1
-bad_or : (S : State) (c : Call) (count : ℕ) (env : Env) (a : Answer) (P : Type 0) (good : Bool) → answer_by (plain (cond good World (Fixed minus_one S))) c count env ≡ Some a
-    → (world_gives c count env ≡ Some a → P) → (a ≡ replies minus_one → P) → P
+bad_or : (S : State) (c : Call) (count : ℕ) (env : Env) (a : Answer) (P : Type 0) (good : Bool) → answer_by (plain_need (cond good World (Fixed minus_one S))) c count env ≡ Some a
+    → (world_gives c count env ≡ Some a → P) → (a ≡ replies_with minus_one → P) → P
 bad_or S c count env a P true h from bad = from h
 bad_or S c count env a P false h from bad = bad (sym (same_Some _ _ h))
 
@@ -58,7 +58,7 @@ one_there : (count cap : ℕ) (mailbox : List (List ℕ)) (a : Answer) → taken
 one_there count cap [] a h = cc
 one_there count cap (datagram ∷ mailbox) a h = omega arith
 
-one_or_none : (count cap : ℕ) (mailbox : List (List ℕ)) (a : Answer) (P : Type 0) → unwrap_or (taken_of count cap mailbox) (replies minus_two) ≡ a → (1 ≤ length mailbox → P) → (a ≡ replies minus_two → P) → P
+one_or_none : (count cap : ℕ) (mailbox : List (List ℕ)) (a : Answer) (P : Type 0) → unwrap_or (taken_of count cap mailbox) (replies_with minus_two) ≡ a → (1 ≤ length mailbox → P) → (a ≡ replies_with minus_two → P) → P
 one_or_none count cap [] a P h there none = none (sym h)
 one_or_none count cap (datagram ∷ mailbox) a P h there none = there (omega arith)
 
@@ -73,7 +73,7 @@ both_not_last false b h = cc
 not_this : (n m : ℕ) → n ≡ m → not (eqb n m) ≡ true → ⊥
 not_this n m same h = grind (arith, nat_tests)
 
-takes_there : (k : Kind) (S : State) (t : ℕ) (c : Call) (env : Env) (a : Answer) (e : Entry) → kind_numbered c.kind ≡ Some k → answer_by (plain (need k S t c)) c S.count env ≡ Some a
+takes_there : (k : Kind) (S : State) (t : ℕ) (c : Call) (env : Env) (a : Answer) (e : Entry) → kind_numbered c.kind ≡ Some k → answer_by (plain_need (need k S t c)) c S.count env ≡ Some a
     → e.reply ≡ a.reply → takes_as (Some k) e ≡ true → 1 ≤ length env.mailbox
 takes_there Recv S t c env a e is given reply takes =
     bad_or S c S.count env a (1 ≤ length env.mailbox) (is_good c S.store.memory) given
@@ -100,7 +100,7 @@ none_or : (test : Bool) (n m : ℕ) → n ≤ m → cond test 0 n ≤ m
 none_or true n m h = omega arith
 none_or false n m h = h
 
-draws_there : (k : Kind) (S : State) (t : ℕ) (c : Call) (env : Env) (a : Answer) (e : Entry) → kind_numbered c.kind ≡ Some k → answer_by (plain (need k S t c)) c S.count env ≡ Some a
+draws_there : (k : Kind) (S : State) (t : ℕ) (c : Call) (env : Env) (a : Answer) (e : Entry) → kind_numbered c.kind ≡ Some k → answer_by (plain_need (need k S t c)) c S.count env ≡ Some a
     → e.incoming ≡ a.incoming → draws_as (Some k) e ≤ length env.pool
 draws_there Random S t c env a e is given incoming =
     none_or (eqb e.reply minus_one) (length e.incoming) (length env.pool)
@@ -120,7 +120,7 @@ one_more f (Some x) y h = (x, refl, same_Some _ _ h)
 pub record IsAsked (S : State) (t : ℕ) (c : Call) (asked : PlainNeed) : Type 0 where
   pub fits : StateFits S
   pub call : Some c ≡ option_map (λ w. w.call) (able S t)
-  pub need : Some asked ≡ option_map (λ w. plain (need w.kind S t w.call)) (able S t)
+  pub need : Some asked ≡ option_map (λ w. plain_need (need w.kind S t w.call)) (able S t)
 
 -- the thread that stands there
 record StandsThere (S : State) (t : ℕ) (c : Call) (asked : PlainNeed) : Type 0 where
@@ -128,7 +128,7 @@ record StandsThere (S : State) (t : ℕ) (c : Call) (asked : PlainNeed) : Type 0
   able : able S t ≡ Some waiting
   call : waiting.call ≡ c
   kind : kind_numbered c.kind ≡ Some waiting.kind
-  need : asked ≡ plain (need waiting.kind S t c)
+  need : asked ≡ plain_need (need waiting.kind S t c)
 
 able_is : (S : State) (t : ℕ) (w : Waiting) → able S t ≡ Some w → thread_at S t ≡ Some w
 able_is S t w h = by_test (is_running S) h
@@ -140,7 +140,7 @@ able_is S t w h = by_test (is_running S) h
 stands_there : (S : State) (t : ℕ) (c : Call) (asked : PlainNeed) → IsAsked S t c asked → StandsThere S t c asked
 stands_there S t c asked h =
     let at = one_more (λ w. w.call) (able S t) c h.call in
-    let needed = one_more (λ w. plain (need w.kind S t w.call)) (able S t) asked h.need in
+    let needed = one_more (λ w. plain_need (need w.kind S t w.call)) (able S t) asked h.need in
     let w = at.0 in
     let fits : WaitingFits w = live_has WaitingFits S.crew.threads t h.fits.threads w (able_is S t w at.1) in
     let same : needed.0 ≡ w = same_Some _ _ (sym needed.1 ∙ at.1) in
@@ -149,7 +149,7 @@ stands_there S t c asked h =
       able = at.1;
       call = sym at.2;
       kind = ap (λ (c : Call). kind_numbered c.kind) at.2 ∙ fits.kind;
-      need = needed.2 ∙ ap (λ (w : Waiting). plain (need w.kind S t w.call)) same ∙ ap (λ (c : Call). plain (need w.kind S t c)) (sym at.2);
+      need = needed.2 ∙ ap (λ (w : Waiting). plain_need (need w.kind S t w.call)) same ∙ ap (λ (c : Call). plain_need (need w.kind S t c)) (sym at.2);
     }
 
 -- what is done with a value that is there only where a test holds
@@ -181,7 +181,7 @@ found_at S t env c asked found at is =
     subst (λ (call : Call). option_map answer_in (answered_now (need at.waiting.kind S t call) (from_world at.waiting.kind S call env)) ≡ found) (sym at.call)
     (answer_same at.waiting.kind S c env (need at.waiting.kind S t c) at.kind ∙ ap (λ n. answer_by n c S.count env) (sym at.need) ∙ is)
 
-none_in : (o : Option Answered) → option_map answer_in o ≡ None → o ≡ None
+none_in : (o : Option AnsweredCall) → option_map answer_in o ≡ None → o ≡ None
 none_in None h = refl
 none_in (Some a) h = cc
 
@@ -193,12 +193,12 @@ no_event S t env c asked h is =
 
 -- and one where an answer is given
 pub one_here : (S : State) (t : ℕ) (env : Env) (c : Call) (asked : PlainNeed) (a : Answer) → IsTried S t env c asked → answer_by asked c S.count env ≡ Some a
-    → (e : Event) × (live S t env ≡ Some e) × (e.entry ≡ entry_with (next_clock_of S.clock a.tag) (signal_with S t a c env.pending) t c a (outgoing_of c S.store.memory))
+    → (e : Event) × (live S t env ≡ Some e) × (e.entry ≡ entry_with (next_clock_of S.clock a.tag) (signal_with_answer S t a c env.pending) t c a (outgoing_of c S.store.memory))
 one_here S t env c asked a h is =
     let at = stands_there S t c asked h.stands in
     let w = at.waiting in
     let x = one_more answer_in (answered_now (need w.kind S t w.call) (from_world w.kind S w.call env)) a (sym (found_at S t env c asked (Some a) at is)) in
-    let signal = signal_with S t a c env.pending in
+    let signal = signal_with_answer S t a c env.pending in
     let delivers : chosen_signal w.kind x.0.after.handlers env.pending ≡ signal =
     chosen_is S t a w c env.pending x.0.after.handlers (able_is S t w at.able) at.kind (handlers_after w.kind S t w.call env x.0 a x.1) in (
       event S t env w x.0,
@@ -208,13 +208,13 @@ one_here S t env c asked a h is =
           ∙ ap (λ a. entry_with (next_clock_of S.clock a.tag) signal t c a (outgoing_of c S.store.memory)) (sym x.2),
     )
 
-taken_there : (k : Kind) (S : State) (t : ℕ) (c : Call) (env : Env) (a : Answer) (e : Entry) → kind_numbered c.kind ≡ Some k → answer_by (plain (need k S t c)) c S.count env ≡ Some a
+taken_there : (k : Kind) (S : State) (t : ℕ) (c : Call) (env : Env) (a : Answer) (e : Entry) → kind_numbered c.kind ≡ Some k → answer_by (plain_need (need k S t c)) c S.count env ≡ Some a
     → e.call ≡ c → e.reply ≡ a.reply → is_taken e ≡ true → 1 ≤ length env.mailbox
 unfolding is_taken
 taken_there k S t c env a e is given call reply taken =
     takes_there k S t c env a e is given reply (sym (ap (λ o. takes_as o e) (ap (λ (c : Call). kind_numbered c.kind) call ∙ is)) ∙ taken)
 
-drawn_there : (k : Kind) (S : State) (t : ℕ) (c : Call) (env : Env) (a : Answer) (e : Entry) → kind_numbered c.kind ≡ Some k → answer_by (plain (need k S t c)) c S.count env ≡ Some a
+drawn_there : (k : Kind) (S : State) (t : ℕ) (c : Call) (env : Env) (a : Answer) (e : Entry) → kind_numbered c.kind ≡ Some k → answer_by (plain_need (need k S t c)) c S.count env ≡ Some a
     → e.call ≡ c → e.incoming ≡ a.incoming → drawn e ≤ length env.pool
 unfolding drawn
 drawn_there k S t c env a e is given call incoming =
@@ -228,13 +228,13 @@ pub record IsFit (S : State) (env : Env) : Type 0 where
 
 -- the entry that was made is that of the event
 pub entry_tells : OneEvent → Rises → (S : State) (t : ℕ) (env : Env) (c : Call) (asked : PlainNeed) (a : Answer) (entry : Entry) → IsFit S env → IsTried S t env c asked
-    → answer_by asked c S.count env ≡ Some a → entry ≡ entry_with (next_clock_of S.clock a.tag) (signal_with S t a c env.pending) t c a (outgoing_of c S.store.memory) → IsLiveEntry S t env entry
+    → answer_by asked c S.count env ≡ Some a → entry ≡ entry_with (next_clock_of S.clock a.tag) (signal_with_answer S t a c env.pending) t c a (outgoing_of c S.store.memory) → IsLiveEntry S t env entry
 entry_tells one_event rises S t env c asked a entry fit h is made =
     let e = one_here S t env c asked a h is in
     let at = stands_there S t c asked h.stands in
     let told = one_event S t env fit.state fit.few fit.around e.0 e.1 in
     let risen = rises S e.0.entry fit.state told.legal in
-    let given : answer_by (plain (need at.waiting.kind S t c)) c S.count env ≡ Some a = ap (λ n. answer_by n c S.count env) (sym at.need) ∙ is in
+    let given : answer_by (plain_need (need at.waiting.kind S t c)) c S.count env ≡ Some a = ap (λ n. answer_by n c S.count env) (sym at.need) ∙ is in
     let same : entry ≡ e.0.entry = made ∙ sym e.2 in
     let call : entry.call ≡ c = ap (λ (e : Entry). e.call) made in
     record {
@@ -250,7 +250,7 @@ entry_tells one_event rises S t env c asked a entry fit h is made =
     }
 
 -- the clock of a tag that is taken is no more than a process's
-pub tag_fits : OneEvent → Rises → IsKept → (S : State) (t : ℕ) (env : Env) (c : Call) (asked : PlainNeed) (a : Answer) → IsFit S env → IsTried S t env c asked → answer_by asked c S.count env ≡ Some a → clock_of a.tag < 2 ^ 63
+pub tag_fits : OneEvent → Rises → IsKeptByEvents → (S : State) (t : ℕ) (env : Env) (c : Call) (asked : PlainNeed) (a : Answer) → IsFit S env → IsTried S t env c asked → answer_by asked c S.count env ≡ Some a → clock_of a.tag < 2 ^ 63
 tag_fits one_event rises kept S t env c asked a fit h is =
     let e = one_here S t env c asked a h is in
     let told = one_event S t env fit.state fit.few fit.around e.0 e.1 in

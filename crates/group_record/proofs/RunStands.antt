@@ -12,9 +12,9 @@ use Rattle.guest_process.specs.State.{State}
 use Rattle.group_world.specs.History.{Act, mailbox, pool}
 use Rattle.group_world.specs.History as world
 use Rattle.group_world.specs.Laws.{CanBe, CanFollow}
-use Rattle.group_record.specs.Run.{GroupStart, Step, Had, Did, world_around, history, size}
-use Rattle.group_record.specs.Laws.{DrawsIf, IsBegun}
-use Rattle.group_record.specs.Standing.{IsDone, IsRun, Standing, StandsReplayed}
+use Rattle.group_record.specs.Run.{GroupStart, RunStep, Had, Did, world_around, history_of_steps, processes_in_group}
+use Rattle.group_record.specs.Laws.{DrawsFromPoolIf, IsBegun}
+use Rattle.group_record.specs.Standing.{IsDoneAct, IsRun, Standing, StandsReplayed}
 use Rattle.group_record.proofs.RunSteps.{is_run}
 use Rattle.group_record.proofs.LogsAgree.{KeepsAfter, Laws, keeps, stands_last}
 use Rattle.group_record.proofs.DeliveredDatagrams.{took, takes_kind}
@@ -22,17 +22,17 @@ use Rattle.group_record.proofs.EventTakes.{Came, answers_random, came_by, draws_
 
 -- ---- what an event takes is there
 
-takes_there : (group : GroupStart) (early : List Step) (p : ℕ) (e : Event) (S : State) → Came group early p e S → IsTrue (is_taken e.entry) → 1 ≤ length (mailbox (size group) (history early) p)
+takes_there : (group : GroupStart) (early : List RunStep) (p : ℕ) (e : Event) (S : State) → Came group early p e S → IsTrue (is_taken e.entry) → 1 ≤ length (mailbox (processes_in_group group) (history_of_steps early) p)
 takes_there group early p e S c takes =
     let w = c.in_it.waiting in
-    let t = took w.kind S c.thread w.call (world_around (size group) early p) c.in_it.given e.entry c.in_it.answer c.reply (takes_kind e.entry w.kind c.of_kind takes) in
+    let t = took w.kind S c.thread w.call (world_around (processes_in_group group) early p) c.in_it.given e.entry c.in_it.answer c.reply (takes_kind e.entry w.kind c.of_kind takes) in
     omega (arith, ap (λ (box : List (List ℕ)). length box) t.first)
 
 drawn_by : (e : Entry) (k : Kind) → kind_numbered e.call.kind ≡ Some k → drawn e ≡ draws_as (Some k) e
 unfolding drawn
 drawn_by e k of_kind = ap (λ (o : Option Kind). draws_as o e) of_kind
 
-drawn_within : (early : List Step) (p : ℕ) (e : Event) (good : Bool) → DrawsIf good early p e → drawn e.entry ≤ length (pool (history early) p)
+drawn_within : (early : List RunStep) (p : ℕ) (e : Event) (good : Bool) → DrawsFromPoolIf good early p e → drawn e.entry ≤ length (pool (history_of_steps early) p)
 drawn_within early p e true draws = omega (arith, draws.count, draws.enough)
 drawn_within early p e false none = omega (arith, none)
 
@@ -40,20 +40,20 @@ draws_as_within : (k : Kind) (e : Entry) (many : ℕ) → (k ≡ Random → draw
 draws_as_within Random e many within = within refl
 draws_as_within _ e many within = omega arith
 
-draws_there : (group : GroupStart) (early : List Step) (p : ℕ) (e : Event) (S : State) → Came group early p e S → drawn e.entry ≤ length (pool (history early) p)
+draws_there : (group : GroupStart) (early : List RunStep) (p : ℕ) (e : Event) (S : State) → Came group early p e S → drawn e.entry ≤ length (pool (history_of_steps early) p)
 draws_there group early p e S c =
     let kind = c.in_it.waiting.kind in
     let by : drawn e.entry ≡ draws_as (Some kind) e.entry = drawn_by e.entry kind c.of_kind in
-    let few : draws_as (Some kind) e.entry ≤ length (pool (history early) p) = draws_as_within kind e.entry (length (pool (history early) p)) (λ is.
+    let few : draws_as (Some kind) e.entry ≤ length (pool (history_of_steps early) p) = draws_as_within kind e.entry (length (pool (history_of_steps early) p)) (λ is.
     let random : kind_numbered e.entry.call.kind ≡ Some Random = c.of_kind ∙ ap Some is in
     let within = drawn_within early p e (is_good e.entry.call S.store.memory)
-    (draws_if S early (size group) p e (is_good e.entry.call S.store.memory) refl random (answers_random group early p e S c random)) in
+    (draws_if S early (processes_in_group group) p e (is_good e.entry.call S.store.memory) refl random (answers_random group early p e S c random)) in
     omega (arith, within, by)) in
     omega (arith, by, few)
 
 -- ---- the acts
 
-act_follows : (group : GroupStart) (early : List Step) (act : Act) → IsDone group early act → CanFollow (size group) (history early) act
+act_follows : (group : GroupStart) (early : List RunStep) (act : Act) → IsDoneAct group early act → CanFollow (processes_in_group group) (history_of_steps early) act
 act_follows group early (world.Event p e) done = absurd done
 act_follows group early (world.Deliver p n) done = done.0
 act_follows group early (world.Inject p bytes) done = done
@@ -62,7 +62,7 @@ act_follows group early (world.Random p bytes) done = done
 act_follows group early (world.Signal p signal) done = done
 act_follows group early (world.Kill p) done = done.0
 
-acts_follow : Laws → (group : GroupStart) → IsBegun group → (steps : List Step) → IsRun group steps → CanBe (size group) (history steps)
+acts_follow : Laws → (group : GroupStart) → IsBegun group → (steps : List RunStep) → IsRun group steps → CanBe (processes_in_group group) (history_of_steps steps)
 acts_follow laws group begun [] run = tt
 acts_follow laws group begun (Had p e ∷ early) run =
     let k : KeepsAfter group early p = keeps laws group begun early run.1 p run.0.within in
@@ -72,7 +72,7 @@ acts_follow laws group begun (Did act ∷ early) run = (act_follows group early 
 
 -- ---- all of it
 
-process_stands : (group : GroupStart) (steps : List Step) (p : ℕ) → KeepsAfter group steps p → StandsReplayed group steps p
+process_stands : (group : GroupStart) (steps : List RunStep) (p : ℕ) → KeepsAfter group steps p → StandsReplayed group steps p
 process_stands group steps p k = record {
   first = k.first;
   begun = k.begun;

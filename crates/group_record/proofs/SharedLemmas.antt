@@ -2,7 +2,7 @@
 use Rattle.std.proofs.Common.{◌≡◌, ◌≢◌, ℕ, zero, suc, ◌<◌, List, [], ◌∷◌, length, refl, subst, slice_get, slice_index_or, Some, ap, sym, ◌∙◌, arith}
 use Rattle.std.specs.Prelude.{⊤, OnErr, Result, Ok, Err, slice_set}
 use Rattle.std.proofs.lemmas.Option.{same_Some, slice_get-get_or}
-use Rattle.fri_outside.specs.Outside.{Counts, after_write, raised}
+use Rattle.fri_outside.specs.Outside.{Counts, after_write, raised_count}
 use Rattle.fri_outside.specs.declared.files.WriteError.{WriteError}
 use Rattle.fri_outside.specs.declared.files.WriteError.TheVariants as writing
 use Rattle.group_record.specs.Answer.{after_writes, error_of}
@@ -11,14 +11,14 @@ use Rattle.group_record.specs.declared.error.RecordError.TheVariants as errors
 
 -- a write that failed is counted once, where no call before it counted anything
 pub failed_write : (old now new : Counts) (error : WriteError) → now ≡ old → new ≡ after_write {T = ⊤} now (Err error) → new ≡ after_writes {T = ⊤} old (Err (error_of error))
-failed_write old now new writing.Failed same counted = counted ∙ ap (λ (c : Counts). record c { writes = raised c.writes }) same
+failed_write old now new writing.Failed same counted = counted ∙ ap (λ (c : Counts). record c { writes = raised_count c.writes }) same
 failed_write old now new writing.NoMemory same counted = counted ∙ same
 
 -- and so is one that was counted further in
 pub failed_writes : (old now new : Counts) (error : RecordError) → now ≡ old → new ≡ after_writes {T = ⊤} now (Err error) → new ≡ after_writes {T = ⊤} old (Err error)
 failed_writes old now new (errors.BadSegment p) same counted = counted ∙ same
 failed_writes old now new (errors.LogFull item) same counted = counted ∙ same
-failed_writes old now new errors.WriteFault same counted = counted ∙ ap (λ (c : Counts). record c { writes = raised c.writes }) same
+failed_writes old now new errors.WriteFault same counted = counted ∙ ap (λ (c : Counts). record c { writes = raised_count c.writes }) same
 failed_writes old now new errors.NoMemory same counted = counted ∙ same
 
 -- the element at a place

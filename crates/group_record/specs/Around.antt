@@ -9,7 +9,7 @@ use Rattle.lossy_net.specs.declared.net.Front.{Front}
 use Rattle.lossy_net.specs.Network.{mailbox_of}
 use Rattle.guest_process.specs.declared.need.Need.{Need}
 use Rattle.guest_process.specs.declared.need.Need.TheVariants as needs
-use Rattle.guest_process.specs.Answers.{replies}
+use Rattle.guest_process.specs.Answers.{replies_with}
 use Rattle.guest_process.specs.Live.{Env, chosen_signal, world_answer}
 use Rattle.guest_process.specs.Seen.{answered_at}
 use Rattle.guest_process.specs.State.{State, thread_at}
@@ -26,8 +26,8 @@ env_of w p = record {
 }
 
 -- a first datagram as it was found
-abbrev pub seen : Front → Option Tag × List ℕ
-seen front = (front.tag, front.payload.now)
+abbrev pub seen_datagram : Front → Option Tag × List ℕ
+seen_datagram front = (front.tag, front.payload.now)
 
 -- the answer of the world to a call, which tells its kind by number
 abbrev pub world_gives : Call → ℕ → Env → Option Answer
@@ -35,7 +35,7 @@ world_gives c count env = option_and_then (λ kind. world_answer kind c count en
 
 -- the answer to a call, where it is given now
 abbrev pub answer_by : Need → Call → ℕ → Env → Option Answer
-answer_by (needs.Fixed reply) c count env = Some (replies reply)
+answer_by (needs.Fixed reply) c count env = Some (replies_with reply)
 answer_by needs.Blocked c count env = None
 answer_by needs.World c count env = world_gives c count env
 
@@ -44,5 +44,5 @@ abbrev pub handlers_at : State → ℕ → Answer → List (Option ℕ)
 handlers_at S t a = (answered_at S t a (thread_at S t)).handlers
 
 -- the signal that is delivered with this answer to a call of thread t
-abbrev pub signal_with : State → ℕ → Answer → Call → (ℕ → Bool) → ℕ
-signal_with S t a c pending = option_map_or (λ kind. chosen_signal kind (handlers_at S t a) pending) (kind_numbered c.kind) 0
+abbrev pub signal_with_answer : State → ℕ → Answer → Call → (ℕ → Bool) → ℕ
+signal_with_answer S t a c pending = option_map_or (λ kind. chosen_signal kind (handlers_at S t a) pending) (kind_numbered c.kind) 0

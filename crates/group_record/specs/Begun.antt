@@ -11,11 +11,11 @@ use Rattle.group_record.specs.declared.error.RecordError.{RecordError}
 use Rattle.group_record.specs.declared.error.RecordError.TheVariants as errors
 use Rattle.group_record.specs.declared.member.Member.{Member}
 use Rattle.group_record.specs.declared.recorder.Recorder.{Recorder}
-use Rattle.group_record.specs.Run.{GroupStart, head_of_log, name_of_process, nothing_yet, size}
+use Rattle.group_record.specs.Run.{GroupStart, head_of_log, name_of_process, no_progress_yet, processes_in_group}
 use Rattle.group_record.specs.Logs.{files_of, log_name}
-use Rattle.group_record.specs.Files.{IsStopped}
+use Rattle.group_record.specs.Files.{IsStoppedRecording}
 use Rattle.group_record.specs.Members.{IsFreshMember}
-use Rattle.group_record.specs.Recorded.{FilesOf, KeepsUp, kept_for}
+use Rattle.group_record.specs.Recorded.{FilesOf, KeepsUpWithRun, prints_kept_for}
 use Rattle.group_record.specs.Answer.{group_of}
 
 -- ---- the processes
@@ -39,7 +39,7 @@ BeginsAll items names begun (Err errors.NoMemory) = Unit {0}
 pub record IsNewRecorder (asked : Bool) (own : List Member) (recorder : Recorder) : Type 0 where
   pub members : recorder.members.items ≡ own
   pub world : recorder.world ≡ new_world (length own)
-  pub prints : recorder.prints ≡ replicate (kept_for asked (length own)) []
+  pub prints : recorder.prints ≡ replicate (prints_kept_for asked (length own)) []
   pub acted : recorder.acted ≡ 0
   pub idle : recorder.idle ≡ 0
 
@@ -47,7 +47,7 @@ pub record IsNewRecorder (asked : Bool) (own : List Member) (recorder : Recorder
 
 -- the members have the names and the heads of the group's logs
 pub record HaveHeads (group : GroupStart) (members : List Member) : Type 0 where
-  pub count : length members ≡ size group
+  pub count : length members ≡ processes_in_group group
   pub apart : AllPairs (λ name other. name ≢ other) group.names
   pub logs : (p : ℕ) (m : Member) → slice_get members p ≡ Some m → string_bytes m.log ≡ log_name (name_of_process group p)
   pub heads : (p : ℕ) (m : Member) → slice_get members p ≡ Some m → m.head.items ≡ head_bytes (head_of_log group p)
@@ -57,14 +57,14 @@ abbrev pub MakeAll : GroupStart → (ℕ → List ℕ) → Result ⊤ RecordErro
 MakeAll group bytes (Ok _) before after = after ≡ with_files (files_of group bytes) before
 MakeAll group bytes (Err (errors.BadSegment p)) before after = ⊥
 MakeAll group bytes (Err (errors.LogFull item)) before after = ⊥
-MakeAll group bytes (Err errors.WriteFault) before after = IsStopped group [] [] before after
-MakeAll group bytes (Err errors.NoMemory) before after = IsStopped group [] [] before after
+MakeAll group bytes (Err errors.WriteFault) before after = IsStoppedRecording group [] [] before after
+MakeAll group bytes (Err errors.NoMemory) before after = IsStoppedRecording group [] [] before after
 
 abbrev pub no_bytes : ℕ → List ℕ
 no_bytes p = []
 
-abbrev pub heads : GroupStart → ℕ → List ℕ
-heads group p = head_bytes (head_of_log group p)
+abbrev pub heads_of_logs : GroupStart → ℕ → List ℕ
+heads_of_logs group p = head_bytes (head_of_log group p)
 
 -- files with no bytes were to be made
 abbrev pub CreatesLogs : List Member → Result ⊤ RecordError → Option Folder → Option Folder → Type 0
@@ -74,23 +74,23 @@ CreatesLogs members result before after = (group : GroupStart) → HaveHeads gro
 abbrev pub WritesHeads : List Member → Result ⊤ RecordError → Option Folder → Option Folder → Type 0
 WritesHeads members result old new =
     (group : GroupStart) (before : Option Folder) → HaveHeads group members → old ≡ with_files (files_of group no_bytes) before
-    → MakeAll group (heads group) result before new
+    → MakeAll group (heads_of_logs group) result before new
 
 -- both were to be done
 abbrev pub BeginsLogs : List Member → Result ⊤ RecordError → Option Folder → Option Folder → Type 0
-BeginsLogs members result before after = (group : GroupStart) → HaveHeads group members → MakeAll group (heads group) result before after
+BeginsLogs members result before after = (group : GroupStart) → HaveHeads group members → MakeAll group (heads_of_logs group) result before after
 
 -- ---- the whole beginning
 
 -- the beginning of a group whose first states are these was stopped
 abbrev pub StopsAtHead : Schedule → Result (List State) ℕ → Option Folder → Option Folder → Type 0
 StopsAtHead schedule (Err p) before after = after ≡ before
-StopsAtHead schedule (Ok first) before after = IsStopped (group_of schedule first) [] [] before after
+StopsAtHead schedule (Ok first) before after = IsStoppedRecording (group_of schedule first) [] [] before after
 
 -- the group has begun, or why it has not
 abbrev pub GroupBegins : Schedule → Result (List State) ℕ → Result Recorder RecordError → Option Folder → Option Folder → Type 0
 GroupBegins schedule begun (Ok recorder) before after = (first : List State) × (begun ≡ Ok first)
-    × KeepsUp (group_of schedule first) nothing_yet recorder × FilesOf (group_of schedule first) nothing_yet before after
+    × KeepsUpWithRun (group_of schedule first) no_progress_yet recorder × FilesOf (group_of schedule first) no_progress_yet before after
 GroupBegins schedule begun (Err (errors.BadSegment p)) before after = (begun ≡ Err p) × (after ≡ before)
 GroupBegins schedule begun (Err (errors.LogFull item)) before after = ⊥
 GroupBegins schedule begun (Err errors.WriteFault) before after = StopsAtHead schedule begun before after

@@ -1,6 +1,6 @@
 -- What a process with its log does by itself.
 use Rattle.std.specs.Prelude.{◌≡◌, ◌⊎◌, ⊤, ℕ, ◌+◌, ◌<◌, ◌≤◌, ◌^◌, List, length, take, Option, Some, None, option_map, Result, Ok, Err, string_bytes}
-use Rattle.fri_outside.specs.Outside.{Folder, with_piece}
+use Rattle.fri_outside.specs.Outside.{Folder, with_piece_in_folder}
 use Rattle.lib_calls.specs.declared.entry.Entry.{Entry}
 use Rattle.call_log.specs.Entry.{encoding}
 use Rattle.call_log.specs.Head.{head_bytes}
@@ -26,15 +26,15 @@ pub record IsFreshMember (state : State) (name : List ℕ) (p count : ℕ) (m : 
   pub last : m.last ≡ 0
 
 -- a member began, or a segment of its module ends past the module's table or memory
-abbrev pub Starts : Option State → List ℕ → ℕ → ℕ → Result Member RecordError → Type 0
-Starts first name p count (Ok m) = (state : State) × (first ≡ Some state) × IsFreshMember state name p count m
-Starts first name p count (Err (errors.BadSegment q)) = (q ≡ p) × (first ≡ None)
-Starts first name p count (Err (errors.LogFull item)) = ⊥
-Starts first name p count (Err errors.WriteFault) = ⊥
-Starts first name p count (Err errors.NoMemory) = Unit {0}
+abbrev pub StartsMember : Option State → List ℕ → ℕ → ℕ → Result Member RecordError → Type 0
+StartsMember first name p count (Ok m) = (state : State) × (first ≡ Some state) × IsFreshMember state name p count m
+StartsMember first name p count (Err (errors.BadSegment q)) = (q ≡ p) × (first ≡ None)
+StartsMember first name p count (Err (errors.LogFull item)) = ⊥
+StartsMember first name p count (Err errors.WriteFault) = ⊥
+StartsMember first name p count (Err errors.NoMemory) = Unit {0}
 
 -- its process is in a state where the entry is legal, and its log is within the limit
-pub record CanKeep (m : Member) (e : Entry) : Type 0 where
+pub record CanKeepEntry (m : Member) (e : Entry) : Type 0 where
   pub state : State
   pub process : m.process ≡ Some state
   pub legal : reason state e ≡ None
@@ -42,26 +42,26 @@ pub record CanKeep (m : Member) (e : Entry) : Type 0 where
   pub room : m.size ≤ most_log
 
 -- an entry as it is spelled after those of the member
-abbrev pub spelled : Member → Entry → List ℕ
-spelled m e = encoding Two m.last e
+abbrev pub spelled_entry : Member → Entry → List ℕ
+spelled_entry m e = encoding Two m.last e
 
 -- the member after the event of an entry
 abbrev pub member_after : Member → Entry → Member
-member_after m e = record m { size = m.size + length (spelled m e); last = e.clock; process = option_map (λ S. next S e) m.process }
+member_after m e = record m { size = m.size + length (spelled_entry m e); last = e.clock; process = option_map (λ S. next S e) m.process }
 
 -- after a file there may be a first part of these bytes
 abbrev pub IsAppendedInPart : List ℕ → List ℕ → Option Folder → Option Folder → Type 0
-IsAppendedInPart name bytes before after = (after ≡ before) ⊎ ((n : ℕ) × (after ≡ with_piece name (take n bytes) before))
+IsAppendedInPart name bytes before after = (after ≡ before) ⊎ ((n : ℕ) × (after ≡ with_piece_in_folder name (take n bytes) before))
 
 -- the log has room for these bytes
 abbrev pub LogHasRoom : Member → List ℕ → Type 0
 LogHasRoom m bytes = m.size + length bytes ≤ most_log
 
 -- these bytes were written after the log, in the item with this number, or why they were not
-abbrev pub Writes : Member → ℕ → List ℕ → Result ⊤ RecordError → FolderChange → Type 0
-Writes m number bytes (Ok _) folder = LogHasRoom m bytes × (folder.after ≡ with_piece (string_bytes m.log) bytes folder.before)
-Writes m number bytes (Err (errors.BadSegment p)) folder = ⊥
-Writes m number bytes (Err (errors.LogFull item)) folder = (item ≡ number) × (most_log < m.size + length bytes) × (folder.after ≡ folder.before)
-Writes m number bytes (Err errors.WriteFault) folder = LogHasRoom m bytes × IsAppendedInPart (string_bytes m.log) bytes folder.before folder.after
-Writes m number bytes (Err errors.NoMemory) folder =
-    (folder.after ≡ folder.before) ⊎ (LogHasRoom m bytes × (folder.after ≡ with_piece (string_bytes m.log) bytes folder.before))
+abbrev pub WritesToLog : Member → ℕ → List ℕ → Result ⊤ RecordError → FolderChange → Type 0
+WritesToLog m number bytes (Ok _) folder = LogHasRoom m bytes × (folder.after ≡ with_piece_in_folder (string_bytes m.log) bytes folder.before)
+WritesToLog m number bytes (Err (errors.BadSegment p)) folder = ⊥
+WritesToLog m number bytes (Err (errors.LogFull item)) folder = (item ≡ number) × (most_log < m.size + length bytes) × (folder.after ≡ folder.before)
+WritesToLog m number bytes (Err errors.WriteFault) folder = LogHasRoom m bytes × IsAppendedInPart (string_bytes m.log) bytes folder.before folder.after
+WritesToLog m number bytes (Err errors.NoMemory) folder =
+    (folder.after ≡ folder.before) ⊎ (LogHasRoom m bytes × (folder.after ≡ with_piece_in_folder (string_bytes m.log) bytes folder.before))

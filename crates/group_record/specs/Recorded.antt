@@ -10,7 +10,7 @@ use Rattle.call_log.specs.Entry.{clock_after}
 use Rattle.call_log.specs.Limits.{most_log}
 use Rattle.schedule_text.specs.declared.process.ProcessLine.{ProcessLine}
 use Rattle.guest_process.specs.Live.{Env, Event, live}
-use Rattle.guest_process.specs.OneEvent.{Agrees as IsTold}
+use Rattle.guest_process.specs.OneEvent.{AgreesWithEvent as IsTold}
 use Rattle.guest_process.specs.State.{State}
 use Rattle.group_world.specs.Laws.{CanBe}
 use Rattle.group_world.specs.World.{World, after_event, surroundings_of, with_act, world_after}
@@ -25,9 +25,9 @@ use Rattle.group_record.specs.declared.member.Member.{Member}
 use Rattle.group_record.specs.declared.recorder.Recorder.{Recorder}
 use Rattle.group_record.specs.declared.summary.Summary.{Summary}
 use Rattle.group_record.specs.declared.summary.SummaryLine.{SummaryLine}
-use Rattle.group_record.specs.Run.{GroupStart, Progress, Step, entries, history, is_running_process, log_of, name_of_process, process_after, size}
-use Rattle.group_record.specs.Logs.{log_name, logs}
-use Rattle.group_record.specs.Files.{FolderChange, IsStopped, change}
+use Rattle.group_record.specs.Run.{GroupStart, RunProgress, RunStep, entries_of_steps, history_of_steps, is_running_process, log_of, name_of_process, process_after, processes_in_group}
+use Rattle.group_record.specs.Logs.{log_name, logs_of_steps}
+use Rattle.group_record.specs.Files.{FolderChange, IsStoppedRecording, change}
 use Rattle.group_record.specs.Images.{images_of}
 use Rattle.process_files.specs.Parts.{AreMadeInPart}
 use Rattle.group_record.specs.Members.{member_after}
@@ -36,17 +36,17 @@ use Rattle.group_record.specs.Answer.{IsSummary}
 -- ---- the counts
 
 -- how many tries and items a recorder has counted
-abbrev pub total_count : Recorder → ℕ
-total_count r = r.acted + r.idle
+abbrev pub total_counted_tries : Recorder → ℕ
+total_counted_tries r = r.acted + r.idle
 
 -- how many it counts of an item: each try of a run, and one of any other
-abbrev pub counted_of : Item → ℕ
-counted_of (item.Run p thread times) = times
-counted_of _ = 1
+abbrev pub counted_tries_of : Item → ℕ
+counted_tries_of (item.Run p thread times) = times
+counted_tries_of _ = 1
 
 -- its counts have room for so many more
 abbrev pub HasCountsFor : ℕ → Recorder → Type 0
-HasCountsFor n r = total_count r + n < 2 ^ 64
+HasCountsFor n r = total_counted_tries r + n < 2 ^ 64
 
 -- ---- one event
 
@@ -72,7 +72,7 @@ abbrev pub with_print : List (List ℕ) → ℕ → List ℕ → List (List ℕ)
 with_print kept p piece = slice_set kept p (slice_index_or kept p [] ++ piece)
 
 -- process p made the event of an entry
-pub record IsLogged (old : Recorder) (p : ℕ) (m : Member) (e : Entry) (new : Recorder) : Type 0 where
+pub record IsLoggedEvent (old : Recorder) (p : ℕ) (m : Member) (e : Entry) (new : Recorder) : Type 0 where
   pub members : new.members.items ≡ slice_set old.members.items p (member_after m e)
   pub world : new.world ≡ after_event old.world p e
   pub prints : new.prints ≡ with_print old.prints p (printed e)
@@ -82,18 +82,18 @@ pub record IsLogged (old : Recorder) (p : ℕ) (m : Member) (e : Entry) (new : R
 -- ---- one item
 
 -- process p runs and was not killed
-abbrev pub is_spared : List Member → World → ℕ → Bool
-is_spared members w p = is_running_process (option_and_then (λ m. m.process) (slice_get members p)) && not (surroundings_of w p).killed
+abbrev pub is_not_killed : List Member → World → ℕ → Bool
+is_not_killed members w p = is_running_process (option_and_then (λ m. m.process) (slice_get members p)) && not (surroundings_of w p).killed
 
 -- whether an item that is not `run` acts
-abbrev pub acts : List Member → World → Item → Bool
-acts members w (item.Run p thread times) = false
-acts members w (item.Deliver p n) = is_some (nth_of (sent_by w.net p) n)
-acts members w (item.Inject p bytes) = true
-acts members w (item.Clock p value) = true
-acts members w (item.Random p bytes) = true
-acts members w (item.Signal p s) = true
-acts members w (item.Kill p) = is_spared members w p
+abbrev pub item_acts : List Member → World → Item → Bool
+item_acts members w (item.Run p thread times) = false
+item_acts members w (item.Deliver p n) = is_some (nth_of (sent_by w.net p) n)
+item_acts members w (item.Inject p bytes) = true
+item_acts members w (item.Clock p value) = true
+item_acts members w (item.Random p bytes) = true
+item_acts members w (item.Signal p s) = true
+item_acts members w (item.Kill p) = is_not_killed members w p
 
 -- the world after it
 abbrev pub after_act : List Member → World → Item → World
@@ -103,69 +103,69 @@ after_act members w (item.Inject p bytes) = with_act w (Inject p bytes)
 after_act members w (item.Clock p value) = with_act w (Clock p (cast_unsigned w64 value))
 after_act members w (item.Random p bytes) = with_act w (Random p bytes)
 after_act members w (item.Signal p s) = with_act w (Signal p s)
-after_act members w (item.Kill p) = if is_spared members w p then with_act w (Kill p) else w
+after_act members w (item.Kill p) = if is_not_killed members w p then with_act w (Kill p) else w
 
 -- a recorder after an item that acted, or was idle, with this world
-abbrev pub acted_on : Bool → World → Recorder → Recorder
-acted_on true w r = record r { world = w; acted = r.acted + 1 }
-acted_on false w r = record r { world = w; idle = r.idle + 1 }
+abbrev pub recorder_acted_on : Bool → World → Recorder → Recorder
+recorder_acted_on true w r = record r { world = w; acted = r.acted + 1 }
+recorder_acted_on false w r = record r { world = w; idle = r.idle + 1 }
 
 -- ---- how far a recorder has come
 
 -- a member is process p of the group after these steps
-pub record IsMember (group : GroupStart) (steps : List Step) (p : ℕ) (m : Member) : Type 0 where
+pub record IsMember (group : GroupStart) (steps : List RunStep) (p : ℕ) (m : Member) : Type 0 where
   pub state : State
   pub process : m.process ≡ Some state
   pub after : process_after group steps p ≡ Some state
-  pub events : state.events ≡ length (entries steps p)
-  pub count : state.count ≡ size group
+  pub events : state.events ≡ length (entries_of_steps steps p)
+  pub count : state.count ≡ processes_in_group group
   pub log : string_bytes m.log ≡ log_name (name_of_process group p)
   pub size : m.size ≡ length (log_of group steps p)
   pub room : m.size ≤ most_log
-  pub last : m.last ≡ clock_after 0 (entries steps p)
-  pub logged : All IsShaped (entries steps p)
+  pub last : m.last ≡ clock_after 0 (entries_of_steps steps p)
+  pub logged : All IsShaped (entries_of_steps steps p)
 
 -- a recorder has come as far as this. Where it keeps what a process prints, it has all of that
-pub record KeepsUp (group : GroupStart) (done : Progress) (recorder : Recorder) : Type 0 where
+pub record KeepsUpWithRun (group : GroupStart) (done : RunProgress) (recorder : Recorder) : Type 0 where
   pub room : done.full ≡ None
   pub apart : AllPairs (λ name other. name ≢ other) group.names
-  pub count : length recorder.members.items ≡ size group
+  pub count : length recorder.members.items ≡ processes_in_group group
   pub members : (p : ℕ) (m : Member) → slice_get recorder.members.items p ≡ Some m → IsMember group done.steps p m
-  pub can_be : CanBe (size group) (history done.steps)
-  pub world : recorder.world ≡ world_after (size group) (history done.steps)
-  pub prints : (p : ℕ) (bytes : List ℕ) → slice_get recorder.prints p ≡ Some bytes → bytes ≡ prints (entries done.steps p)
+  pub can_be : CanBe (processes_in_group group) (history_of_steps done.steps)
+  pub world : recorder.world ≡ world_after (processes_in_group group) (history_of_steps done.steps)
+  pub prints : (p : ℕ) (bytes : List ℕ) → slice_get recorder.prints p ≡ Some bytes → bytes ≡ prints (entries_of_steps done.steps p)
   pub acted : recorder.acted ≡ length done.steps
   pub idle : recorder.idle ≡ done.idle
 
 -- the files are those of these steps
-abbrev pub FilesOf : GroupStart → Progress → Option Folder → Option Folder → Type 0
-FilesOf group done before after = after ≡ with_files (logs group done.steps) before
+abbrev pub FilesOf : GroupStart → RunProgress → Option Folder → Option Folder → Type 0
+FilesOf group done before after = after ≡ with_files (logs_of_steps group done.steps) before
 
 -- a recorder has come as far as some run, and so have the files
-pub record UnderWay (recorder : Recorder) (told : Option Folder) : Type 0 where
+pub record RecordingUnderWay (recorder : Recorder) (told : Option Folder) : Type 0 where
   pub group : GroupStart
-  pub done : Progress
+  pub done : RunProgress
   pub before : Option Folder
-  pub keeps : KeepsUp group done recorder
+  pub keeps : KeepsUpWithRun group done recorder
   pub files : FilesOf group done before told
 
 -- a recorder that was to come as far as this has done so, or why not
-abbrev pub Comes : GroupStart → Progress → Result ⊤ RecordError → Recorder → FolderChange → Type 0
-Comes group next (Ok _) recorder folder = KeepsUp group next recorder × FilesOf group next folder.before folder.after
-Comes group next (Err (errors.BadSegment p)) recorder folder = ⊥
-Comes group next (Err (errors.LogFull item)) recorder folder = (next.full ≡ Some item) × FilesOf group next folder.before folder.after
-Comes group next (Err errors.WriteFault) recorder folder = IsStopped group next.steps [] folder.before folder.after
-Comes group next (Err errors.NoMemory) recorder folder = IsStopped group next.steps [] folder.before folder.after
+abbrev pub RecorderComes : GroupStart → RunProgress → Result ⊤ RecordError → Recorder → FolderChange → Type 0
+RecorderComes group next (Ok _) recorder folder = KeepsUpWithRun group next recorder × FilesOf group next folder.before folder.after
+RecorderComes group next (Err (errors.BadSegment p)) recorder folder = ⊥
+RecorderComes group next (Err (errors.LogFull item)) recorder folder = (next.full ≡ Some item) × FilesOf group next folder.before folder.after
+RecorderComes group next (Err errors.WriteFault) recorder folder = IsStoppedRecording group next.steps [] folder.before folder.after
+RecorderComes group next (Err errors.NoMemory) recorder folder = IsStoppedRecording group next.steps [] folder.before folder.after
 
 -- wherever the recorder stood, it is to come as far as what comes next there
-abbrev pub Does : (GroupStart → Progress → Progress) → Recorder → Result ⊤ RecordError → Recorder → FolderChange → Type 0
-Does next old result new folder =
-    (group : GroupStart) (done : Progress) (first : Option Folder) → KeepsUp group done old → FilesOf group done first folder.before
-    → Comes group (next group done) result new (change first folder.after)
+abbrev pub RecorderDoes : (GroupStart → RunProgress → RunProgress) → Recorder → Result ⊤ RecordError → Recorder → FolderChange → Type 0
+RecorderDoes next old result new folder =
+    (group : GroupStart) (done : RunProgress) (first : Option Folder) → KeepsUpWithRun group done old → FilesOf group done first folder.before
+    → RecorderComes group (next group done) result new (change first folder.after)
 
 -- for how many of so many processes it keeps what they print: for all where images are asked for, else for none
-abbrev pub kept_for : Bool → ℕ → ℕ
-kept_for asked count = if asked then count else 0
+abbrev pub prints_kept_for : Bool → ℕ → ℕ
+prints_kept_for asked count = if asked then count else 0
 
 -- ---- the images
 
@@ -180,7 +180,7 @@ MakesFiles files (Err errors.NoMemory) before after = AreMadeInPart files before
 -- the images of the group up to where the recorder is were to be made, if they were asked for
 abbrev pub MakesImages : Bool → List ProcessLine → Recorder → Result ⊤ RecordError → FolderChange → Type 0
 MakesImages asked lines recorder result folder =
-    (group : GroupStart) (done : Progress) → KeepsUp group done recorder → group.names ≡ map (λ line. line.name) lines
+    (group : GroupStart) (done : RunProgress) → KeepsUpWithRun group done recorder → group.names ≡ map (λ line. line.name) lines
     → MakesFiles (images_of asked group done) result folder.before folder.after
 
 -- ---- what is said of it
@@ -190,6 +190,6 @@ abbrev pub summary_line_of : List ℕ → Bool → State → SummaryLine
 summary_line_of name killed S = record { name = name; events = S.events; end = S.end; killed = killed }
 
 -- it is what is to be said of the run up to where the recorder is
-abbrev pub Sums : List ProcessLine → Recorder → Summary → Type 0
-Sums lines recorder summary =
-    (group : GroupStart) (done : Progress) → KeepsUp group done recorder → group.names ≡ map (λ line. line.name) lines → IsSummary group done summary
+abbrev pub SumsUpRun : List ProcessLine → Recorder → Summary → Type 0
+SumsUpRun lines recorder summary =
+    (group : GroupStart) (done : RunProgress) → KeepsUpWithRun group done recorder → group.names ≡ map (λ line. line.name) lines → IsSummary group done summary

@@ -5,7 +5,7 @@ use Rattle.std.specs.Option.{option_to_list}
 use Rattle.guest_process.specs.Live.{Event}
 use Rattle.guest_process.specs.State.{State}
 use Rattle.group_world.specs.History.{put_last_if}
-use Rattle.group_record.specs.Run.{GroupStart, Had, Step, process_after, process_states}
+use Rattle.group_record.specs.Run.{GroupStart, Had, RunStep, process_after, process_states}
 
 last_put : (first : Option State) (test : Bool) (states : List State) (S : State) → last_or first (put_last_if test states S) ≡ cond test (Some S) (last_or first states)
 last_put first true [] S = refl
@@ -26,5 +26,5 @@ pub before_steps : (group : GroupStart) (p : ℕ) → process_after group [] p �
 before_steps group p = first_alone (slice_get group.first p)
 
 -- after an event it is the event's, where the event is of that process
-pub after_had : (group : GroupStart) (steps : List Step) (q p : ℕ) (e : Event) → process_after group (Had q e ∷ steps) p ≡ cond (eqb q p) (Some e.state) (process_after group steps p)
+pub after_had : (group : GroupStart) (steps : List RunStep) (q p : ℕ) (e : Event) → process_after group (Had q e ∷ steps) p ≡ cond (eqb q p) (Some e.state) (process_after group steps p)
 after_had group steps q p e = last_from (slice_get group.first p) (eqb q p) (process_states steps p) e.state

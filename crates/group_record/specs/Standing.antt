@@ -11,57 +11,57 @@ use Rattle.guest_process.specs.State.{State}
 use Rattle.group_world.specs.History.{Act}
 use Rattle.group_world.specs.History as world
 use Rattle.group_world.specs.Laws.{CanBe}
-use Rattle.group_record.specs.Run.{GroupStart, Step, Had, Did, IsMoment, can_be_killed, entries, event_of_try, has_sent, history, log_has_room, process_after, run, size}
+use Rattle.group_record.specs.Run.{GroupStart, RunStep, Had, Did, IsMoment, can_be_killed, entries_of_steps, event_of_try, has_sent, history_of_steps, log_has_room, process_after, run, processes_in_group}
 use Rattle.group_record.specs.Laws.{IsBegun}
 
 -- ---- the steps
 
 -- the event of a try of some thread, for which the log has room
-pub record IsHad (group : GroupStart) (early : List Step) (p : ℕ) (e : Event) : Type 0 where
-  pub within : p < size group
+pub record IsHadEvent (group : GroupStart) (early : List RunStep) (p : ℕ) (e : Event) : Type 0 where
+  pub within : p < processes_in_group group
   pub thread : ℕ
   pub comes : event_of_try group early p thread ≡ Some e
   pub room : IsTrue (log_has_room group early p e)
 
 -- what another item does. A datagram that is delivered was sent by then, a process that is killed ran and was not
 -- killed before, and a time has 64 bits
-abbrev pub IsDone : GroupStart → List Step → Act → Type 0
-IsDone group early (world.Event p e) = ⊥
-IsDone group early (world.Deliver p n) = (p < size group) × IsTrue (has_sent (size group) early p n)
-IsDone group early (world.Inject p bytes) = p < size group
-IsDone group early (world.Clock p value) = (p < size group) × (value < 2 ^ 64)
-IsDone group early (world.Random p bytes) = p < size group
-IsDone group early (world.Signal p signal) = (p < size group) × (1 ≤ signal) × (signal ≤ most_signal)
-IsDone group early (world.Kill p) = (p < size group) × IsTrue (can_be_killed group early p)
+abbrev pub IsDoneAct : GroupStart → List RunStep → Act → Type 0
+IsDoneAct group early (world.Event p e) = ⊥
+IsDoneAct group early (world.Deliver p n) = (p < processes_in_group group) × IsTrue (has_sent (processes_in_group group) early p n)
+IsDoneAct group early (world.Inject p bytes) = p < processes_in_group group
+IsDoneAct group early (world.Clock p value) = (p < processes_in_group group) × (value < 2 ^ 64)
+IsDoneAct group early (world.Random p bytes) = p < processes_in_group group
+IsDoneAct group early (world.Signal p signal) = (p < processes_in_group group) × (1 ≤ signal) × (signal ≤ most_signal)
+IsDoneAct group early (world.Kill p) = (p < processes_in_group group) × IsTrue (can_be_killed group early p)
 
 -- each step is one that could follow those before it
-abbrev pub IsRun : GroupStart → List Step → Type 0
+abbrev pub IsRun : GroupStart → List RunStep → Type 0
 IsRun group [] = Unit {0}
-IsRun group (Had p e ∷ early) = IsHad group early p e × IsRun group early
-IsRun group (Did act ∷ early) = IsDone group early act × IsRun group early
+IsRun group (Had p e ∷ early) = IsHadEvent group early p e × IsRun group early
+IsRun group (Did act ∷ early) = IsDoneAct group early act × IsRun group early
 
 -- ---- the processes
 
 -- how a process stands: in the state that the replay of its entries makes, which is in its ranges
-pub record StandsReplayed (group : GroupStart) (early : List Step) (p : ℕ) : Type 0 where
+pub record StandsReplayed (group : GroupStart) (early : List RunStep) (p : ℕ) : Type 0 where
   pub first : State
   pub begun : slice_get group.first p ≡ Some first
   pub last : State
   pub stands : process_after group early p ≡ Some last
-  pub replay : replayed first (entries early p) ≡ last
-  pub events : last.events ≡ length (entries early p)
-  pub count : last.count ≡ size group
+  pub replay : replayed first (entries_of_steps early p) ≡ last
+  pub events : last.events ≡ length (entries_of_steps early p)
+  pub count : last.count ≡ processes_in_group group
   pub fits : StateFits last
 
 -- ---- both
 
 -- so a run stands at a moment. The acts are such that the world around the processes is what is counted out of them
-pub record RunIs (group : GroupStart) (early : List Step) : Type 0 where
+pub record RunStandsAs (group : GroupStart) (early : List RunStep) : Type 0 where
   pub steps : IsRun group early
-  pub acts : CanBe (size group) (history early)
-  pub processes : (p : ℕ) → p < size group → StandsReplayed group early p
+  pub acts : CanBe (processes_in_group group) (history_of_steps early)
+  pub processes : (p : ℕ) → p < processes_in_group group → StandsReplayed group early p
 
 -- and so it stands at each
 abbrev pub Standing : Type 0
-Standing = (group : GroupStart) (items : List Item) → IsBegun group → All (IsInRange (size group)) items
-    → (early : List Step) → IsMoment early (run group items).steps → RunIs group early
+Standing = (group : GroupStart) (items : List Item) → IsBegun group → All (IsInRange (processes_in_group group)) items
+    → (early : List RunStep) → IsMoment early (run group items).steps → RunStandsAs group early

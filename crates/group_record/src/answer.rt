@@ -1,9 +1,9 @@
 // How the world around a process answers its calls.
 ghost use Rattle.std.specs.Prelude.{◌≡◌, ◌<◌, IfOk, option_map, Some, None};
-ghost use Rattle.guest_process.specs.Answers.{replies};
-ghost use Rattle.guest_process.specs.Live.{cut_datagram, drawn_of, waking_at};
+ghost use Rattle.guest_process.specs.Answers.{replies_with};
+ghost use Rattle.guest_process.specs.Live.{cut_datagram, drawn_of, wall_time_at_waking};
 ghost use Rattle.group_world.specs.World.{process_count};
-ghost use Rattle.group_record.specs.Around.{answer_by, env_of, seen, world_gives};
+ghost use Rattle.group_record.specs.Around.{answer_by, env_of, seen_datagram, world_gives};
 
 use fri_bytes::Bytes;
 use group_world::{Front, World};
@@ -32,7 +32,7 @@ impl Model for Answer {
 impl Answer {
     // A reply alone.
     fn plain(alloc: Global, reply: u64) -> Answer
-        ensures { result ≡ replies reply }
+        ensures { result ≡ replies_with reply }
     {
         Answer {
             reply,
@@ -86,7 +86,7 @@ fn from_world(
 
 // The wall time, where a thread wakes that sleeps until then.
 fn waking(alloc: Global, until: u64, time: u64) -> Option<Answer>
-    ensures { result ≡ waking_at until time }
+    ensures { result ≡ wall_time_at_waking until time }
 {
     if !is_due(until, time) {
         return None;
@@ -111,7 +111,7 @@ fn drawn(alloc: Global, count: u64, pool: &[u8]) -> Result<Option<Answer>, Alloc
 
 // The first datagram that waits, cut to so many bytes.
 fn taken(alloc: Global, cap: u64, front: Option<Front<'_>>) -> Result<Option<Answer>, AllocError>
-    ensures { IfOk result (λ found. found ≡ option_map (cut_datagram cap) (option_map seen front.entry)) }
+    ensures { IfOk result (λ found. found ≡ option_map (cut_datagram cap) (option_map seen_datagram front.entry)) }
 {
     let Some(front) = front else {
         return Ok(None);

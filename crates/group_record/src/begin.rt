@@ -5,7 +5,7 @@ ghost use Rattle.wasm_types.specs.Modules.{module_of};
 ghost use Rattle.group_world.specs.World.{new_world};
 ghost use Rattle.group_record.specs.Answer.{after_writes, first_states, first_states_from};
 ghost use Rattle.group_record.specs.Begun.{BeginsAll, GroupBegins, IsNewRecorder};
-ghost use Rattle.group_record.specs.Recorded.{kept_for};
+ghost use Rattle.group_record.specs.Recorded.{prints_kept_for};
 
 use crate::error::RecordError;
 use crate::logs::begin_logs;
@@ -28,7 +28,7 @@ pub(crate) fn begin<'m, F: Files>(
 ) -> Result<Recorder<'m>, RecordError>
     requires { length modules.now ≡ length schedule.now.processes }
     ensures begins { GroupBegins schedule.now (first_states schedule.now (map module_of modules.now)) result (F.told files.old) (F.told files.new) }
-    ensures prints { IfOk result (λ r. length r.prints ≡ kept_for images (length schedule.now.processes)) }
+    ensures prints { IfOk result (λ r. length r.prints ≡ prints_kept_for images (length schedule.now.processes)) }
     ensures counted { F.counts files.new ≡ after_writes (F.counts files.old) result }
 {
     let members = begin_members(alloc, schedule.processes(), modules)?;

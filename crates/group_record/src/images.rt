@@ -2,7 +2,7 @@
 ghost use Rattle.std.specs.Prelude.{◌≡◌, IsTrue, All, is_some, length};
 ghost use Rattle.schedule_text.specs.Schedule.{IsProcess};
 ghost use Rattle.group_record.specs.Answer.{after_writes};
-ghost use Rattle.group_record.specs.Recorded.{MakesImages, kept_for};
+ghost use Rattle.group_record.specs.Recorded.{MakesImages, prints_kept_for};
 ghost use Rattle.group_record.specs.Files.{change};
 
 use crate::error::RecordError;
@@ -24,7 +24,7 @@ pub(crate) fn write_images<F: Files>(
 ) -> Result<(), RecordError>
     requires members { length recorder.now.members.items ≡ length processes.now }
     requires present { All (λ m. IsTrue (is_some m.process)) recorder.now.members.items }
-    requires kept { length recorder.now.prints ≡ kept_for asked (length processes.now) }
+    requires kept { length recorder.now.prints ≡ prints_kept_for asked (length processes.now) }
     requires named { All IsProcess processes.now }
     ensures images { MakesImages asked processes.now recorder.now result (change (F.told files.old) (F.told files.new)) }
     ensures counted { F.counts files.new ≡ after_writes (F.counts files.old) result }

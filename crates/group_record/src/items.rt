@@ -4,7 +4,7 @@ ghost use Rattle.schedule_text.specs.Schedule.{IsInRange};
 ghost use Rattle.group_world.specs.History.{Kill};
 ghost use Rattle.group_world.specs.World.{process_count, surroundings_of, with_act};
 ghost use Rattle.group_record.specs.Run.{is_running_process};
-ghost use Rattle.group_record.specs.Recorded.{acts, after_act, is_spared};
+ghost use Rattle.group_record.specs.Recorded.{item_acts, after_act, is_not_killed};
 
 use crate::member::Member;
 use group_world::World;
@@ -20,7 +20,7 @@ pub(crate) fn act(
 ) -> Result<bool, AllocError>
     requires around { process_count world.old ≡ length members.now }
     requires in_range { IsInRange (length members.now) item.now }
-    ensures acts { IfOk result (λ acted. acted ≡ acts members.now world.old item.now) }
+    ensures acts { IfOk result (λ acted. acted ≡ item_acts members.now world.old item.now) }
     ensures world { OnOk result (world.new ≡ after_act members.now world.old item.now) }
 {
     match item {
@@ -50,8 +50,8 @@ pub(crate) fn act(
 fn kill(p: u32, members: &[Member<'_>], world: &mut World) -> bool
     requires around { p < process_count world.old }
     requires process { p < length members.now }
-    ensures acts { result ≡ is_spared members.now world.old p }
-    ensures world { world.new ≡ (if is_spared members.now world.old p then with_act world.old (Kill p) else world.old) }
+    ensures acts { result ≡ is_not_killed members.now world.old p }
+    ensures world { world.new ≡ (if is_not_killed members.now world.old p then with_act world.old (Kill p) else world.old) }
 {
     if runs(&members[p as usize]) && !world.is_killed(p) {
         world.kill(p);

@@ -10,7 +10,7 @@ ghost use Rattle.guest_process.specs.Next.{next};
 ghost use Rattle.guest_process.specs.Start.{start as start_of};
 ghost use Rattle.wasm_types.specs.Modules.{module_of};
 ghost use Rattle.group_record.specs.Answer.{after_writes};
-ghost use Rattle.group_record.specs.Members.{CanKeep, Starts, Writes, member_after, spelled};
+ghost use Rattle.group_record.specs.Members.{CanKeepEntry, StartsMember, WritesToLog, member_after, spelled_entry};
 ghost use Rattle.group_record.specs.Files.{change};
 
 use crate::error::RecordError;
@@ -47,7 +47,7 @@ impl<'m> Member<'m> {
         requires process { p < count }
         requires count { count ≤ 16 }
         requires line { IsProcess line.now }
-        ensures { Starts (start_of (module_of «module».now) p count) line.now.name p count result }
+        ensures { StartsMember (start_of (module_of «module».now) p count) line.now.name p count result }
     {
         guest_process::laws::counting();
         let log = process_file(alloc, line.name.as_slice(), ".log")?;
@@ -75,8 +75,8 @@ impl<'m> Member<'m> {
         files: &mut F,
     ) -> Result<(), RecordError>
         requires shape { IsShaped (entry_of entry.now) }
-        requires event { CanKeep self.old (entry_of entry.now) }
-        ensures writes { Writes self.old number (spelled self.old (entry_of entry.now)) result (change (F.told files.old) (F.told files.new)) }
+        requires event { CanKeepEntry self.old (entry_of entry.now) }
+        ensures writes { WritesToLog self.old number (spelled_entry self.old (entry_of entry.now)) result (change (F.told files.old) (F.told files.new)) }
         ensures ok { OnOk result (self.new ≡ member_after self.old (entry_of entry.now)) }
         ensures counted { F.counts files.new ≡ after_writes (F.counts files.old) result }
     {
@@ -96,7 +96,7 @@ impl<'m> Member<'m> {
         files: &mut F,
     ) -> Result<(), RecordError>
         requires { self.old.size ≤ most_log }
-        ensures writes { Writes self.old number bytes.now result (change (F.told files.old) (F.told files.new)) }
+        ensures writes { WritesToLog self.old number bytes.now result (change (F.told files.old) (F.told files.new)) }
         ensures ok { OnOk result (self.new ≡ record self.old { size = self.old.size + length bytes.now }) }
         ensures counted { F.counts files.new ≡ after_writes (F.counts files.old) result }
     {
@@ -110,7 +110,7 @@ impl<'m> Member<'m> {
 
     // Makes the event of a legal entry.
     fn advance(&mut self, entry: &EntryView<'_>) -> Result<(), AllocError>
-        requires { CanKeep self.old (entry_of entry.now) }
+        requires { CanKeepEntry self.old (entry_of entry.now) }
         ensures { OnOk result (self.new ≡ record self.old { process = option_map (λ S. next S (entry_of entry.now)) self.old.process }) }
     {
         let Some(process) = self.process.take() else {

@@ -3,7 +3,7 @@ ghost use Rattle.std.specs.Prelude.{◌≡◌, [], ◌<◌, IfOk, OnOk, length, 
 ghost use Rattle.std.specs.List.{slice_index_or};
 ghost use Rattle.lib_calls.specs.Entry.{entry_of};
 ghost use Rattle.lib_calls.specs.Traffic.{printed as printed_of};
-ghost use Rattle.group_record.specs.Recorded.{kept_for, with_print};
+ghost use Rattle.group_record.specs.Recorded.{prints_kept_for, with_print};
 
 use fri_bytes::Bytes;
 use lib_calls::{EntryView, printed};
@@ -28,7 +28,7 @@ impl Model for Prints {
 impl Prints {
     /// Nothing is printed. It is kept of each of `count` processes where it is asked for, else of none.
     pub(crate) fn new(alloc: Global, asked: bool, count: u32) -> Result<Prints, AllocError>
-        ensures { IfOk result (λ prints. prints ≡ replicate (kept_for asked count) []) }
+        ensures { IfOk result (λ prints. prints ≡ replicate (prints_kept_for asked count) []) }
     {
         let kept = if asked { count } else { 0 };
         let mut processes = Vec::new(alloc);

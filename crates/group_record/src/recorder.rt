@@ -6,9 +6,9 @@ ghost use Rattle.lossy_net.specs.Network.{mailbox_of};
 ghost use Rattle.schedule_text.specs.Schedule.{IsInRange};
 ghost use Rattle.group_world.specs.World.{process_count, surroundings_of};
 ghost use Rattle.group_record.specs.declared.member.Member.{Member as MemberOf};
-ghost use Rattle.group_record.specs.Run.{after_item, after_items, attempt, attempts};
-ghost use Rattle.group_record.specs.Recorded.{Does, HasCountsFor, IsLogged, UnderWay, acted_on, acts, after_act, total_count, counted_of};
-ghost use Rattle.group_record.specs.Members.{CanKeep, Writes, spelled};
+ghost use Rattle.group_record.specs.Run.{after_item, after_items, attempt, run_attempts};
+ghost use Rattle.group_record.specs.Recorded.{RecorderDoes, HasCountsFor, IsLoggedEvent, RecordingUnderWay, recorder_acted_on, item_acts, after_act, total_counted_tries, counted_tries_of};
+ghost use Rattle.group_record.specs.Members.{CanKeepEntry, WritesToLog, spelled_entry};
 ghost use Rattle.group_record.specs.Answer.{after_writes};
 ghost use Rattle.group_record.specs.Files.{change};
 
@@ -43,10 +43,10 @@ impl<'m> Recorder<'m> {
         items: &[Item],
         files: &mut F,
     ) -> Result<(), RecordError>
-        requires under_way { UnderWay self.old (F.told files.old) }
+        requires under_way { RecordingUnderWay self.old (F.told files.old) }
         requires in_range { All (IsInRange (length self.old.members.items)) items.now }
-        requires few { HasCountsFor (sum_by counted_of items.now) self.old }
-        ensures comes { Does (λ group. after_items group 1 items.now) self.old result self.new (change (F.told files.old) (F.told files.new)) }
+        requires few { HasCountsFor (sum_by counted_tries_of items.now) self.old }
+        ensures comes { RecorderDoes (λ group. after_items group 1 items.now) self.old result self.new (change (F.told files.old) (F.told files.new)) }
         ensures prints { OnOk result (length self.new.prints ≡ length self.old.prints) }
         ensures counted { F.counts files.new ≡ after_writes (F.counts files.old) result }
     {
@@ -65,11 +65,11 @@ impl<'m> Recorder<'m> {
         item: &Item,
         files: &mut F,
     ) -> Result<(), RecordError>
-        requires under_way { UnderWay self.old (F.told files.old) }
+        requires under_way { RecordingUnderWay self.old (F.told files.old) }
         requires in_range { IsInRange (length self.old.members.items) item.now }
-        requires few { HasCountsFor (counted_of item.now) self.old }
-        ensures comes { Does (λ group. after_item group number item.now) self.old result self.new (change (F.told files.old) (F.told files.new)) }
-        ensures total { OnOk result (total_count self.new ≡ total_count self.old + counted_of item.now) }
+        requires few { HasCountsFor (counted_tries_of item.now) self.old }
+        ensures comes { RecorderDoes (λ group. after_item group number item.now) self.old result self.new (change (F.told files.old) (F.told files.new)) }
+        ensures total { OnOk result (total_counted_tries self.new ≡ total_counted_tries self.old + counted_tries_of item.now) }
         ensures prints { OnOk result (length self.new.prints ≡ length self.old.prints) }
         ensures counted { F.counts files.new ≡ after_writes (F.counts files.old) result }
     {
@@ -93,11 +93,11 @@ impl<'m> Recorder<'m> {
         times: u32,
         files: &mut F,
     ) -> Result<(), RecordError>
-        requires under_way { UnderWay self.old (F.told files.old) }
+        requires under_way { RecordingUnderWay self.old (F.told files.old) }
         requires process { p < length self.old.members.items }
         requires few { HasCountsFor times self.old }
-        ensures comes { Does (λ group. attempts group number p thread times) self.old result self.new (change (F.told files.old) (F.told files.new)) }
-        ensures total { OnOk result (total_count self.new ≡ total_count self.old + times) }
+        ensures comes { RecorderDoes (λ group. run_attempts group number p thread times) self.old result self.new (change (F.told files.old) (F.told files.new)) }
+        ensures total { OnOk result (total_counted_tries self.new ≡ total_counted_tries self.old + times) }
         ensures prints { OnOk result (length self.new.prints ≡ length self.old.prints) }
         ensures counted { F.counts files.new ≡ after_writes (F.counts files.old) result }
     {
@@ -115,11 +115,11 @@ impl<'m> Recorder<'m> {
         thread: u16,
         files: &mut F,
     ) -> Result<(), RecordError>
-        requires under_way { UnderWay self.old (F.told files.old) }
+        requires under_way { RecordingUnderWay self.old (F.told files.old) }
         requires process { p < length self.old.members.items }
         requires few { HasCountsFor 1 self.old }
-        ensures comes { Does (λ group. attempt group number p thread) self.old result self.new (change (F.told files.old) (F.told files.new)) }
-        ensures total { OnOk result (total_count self.new ≡ total_count self.old + 1) }
+        ensures comes { RecorderDoes (λ group. attempt group number p thread) self.old result self.new (change (F.told files.old) (F.told files.new)) }
+        ensures total { OnOk result (total_counted_tries self.new ≡ total_counted_tries self.old + 1) }
         ensures prints { OnOk result (length self.new.prints ≡ length self.old.prints) }
         ensures counted { F.counts files.new ≡ after_writes (F.counts files.old) result }
     {
@@ -148,13 +148,13 @@ impl<'m> Recorder<'m> {
         requires process { p < length self.old.members.items }
         requires around { p < process_count self.old.world }
         requires shape { IsShaped entry.now }
-        requires event { (m : MemberOf) → slice_get self.old.members.items p ≡ Some m → CanKeep m entry.now }
+        requires event { (m : MemberOf) → slice_get self.old.members.items p ≡ Some m → CanKeepEntry m entry.now }
         requires datagram { IsTrue (is_taken_of entry.now) → 1 ≤ length (mailbox_of self.old.world.net p) }
         requires drawn { drawn_of entry.now ≤ length (surroundings_of self.old.world p).pool }
         requires few { HasCountsFor 1 self.old }
         ensures writes { (m : MemberOf) → slice_get self.old.members.items p ≡ Some m →
-            Writes m number (spelled m entry.now) result (change (F.told files.old) (F.told files.new)) }
-        ensures ok { OnOk result ((m : MemberOf) → slice_get self.old.members.items p ≡ Some m → IsLogged self.old p m entry.now self.new) }
+            WritesToLog m number (spelled_entry m entry.now) result (change (F.told files.old) (F.told files.new)) }
+        ensures ok { OnOk result ((m : MemberOf) → slice_get self.old.members.items p ≡ Some m → IsLoggedEvent self.old p m entry.now self.new) }
         ensures prints { OnOk result (length self.new.prints ≡ length self.old.prints) }
         ensures counted { F.counts files.new ≡ after_writes (F.counts files.old) result }
     {
@@ -171,7 +171,7 @@ impl<'m> Recorder<'m> {
         requires around { process_count self.old.world ≡ length self.old.members.items }
         requires in_range { IsInRange (length self.old.members.items) item.now }
         requires few { HasCountsFor 1 self.old }
-        ensures { OnOk result (self.new ≡ acted_on (acts self.old.members.items self.old.world item.now)
+        ensures { OnOk result (self.new ≡ recorder_acted_on (item_acts self.old.members.items self.old.world item.now)
             (after_act self.old.members.items self.old.world item.now) self.old) }
     {
         if act(item, &self.members, &mut self.world)? {

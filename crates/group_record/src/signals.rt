@@ -2,9 +2,9 @@
 ghost use Rattle.std.specs.Prelude.{◌≡◌, ◌<◌, ◌≤◌};
 ghost use Rattle.lib_calls.specs.Answer.{Answer};
 ghost use Rattle.signal_points.specs.Signals.{most_signal};
-ghost use Rattle.guest_process.specs.Live.{is_ready as is_ready_of, lowest};
+ghost use Rattle.guest_process.specs.Live.{is_ready_signal as is_ready_of, lowest_signal};
 ghost use Rattle.group_world.specs.World.{has_pending, process_count};
-ghost use Rattle.group_record.specs.Around.{handlers_at, signal_with};
+ghost use Rattle.group_record.specs.Around.{handlers_at, signal_with_answer};
 
 use group_world::World;
 use guest_process::{Process, ends_process};
@@ -22,7 +22,7 @@ pub(crate) fn signal_after(
     p: u32,
 ) -> u8
     requires { p < process_count world.now }
-    ensures { (a : Answer) → result ≡ signal_with process.now thread a call.now (has_pending world.now p) }
+    ensures { (a : Answer) → result ≡ signal_with_answer process.now thread a call.now (has_pending world.now p) }
 {
     let Some(kind) = Kind::from_number(call.kind) else {
         return 0;
@@ -37,7 +37,7 @@ pub(crate) fn signal_after(
 #[inline(always)]
 fn lowest_ready(process: &Process<'_>, thread: u16, world: &World, p: u32) -> u8
     requires { p < process_count world.now }
-    ensures { (a : Answer) → result ≡ lowest (is_ready_of (handlers_at process.now thread a) (has_pending world.now p)) most_signal 1 }
+    ensures { (a : Answer) → result ≡ lowest_signal (is_ready_of (handlers_at process.now thread a) (has_pending world.now p)) most_signal 1 }
 {
     if world.has_no_signal(p) {
         return 0;
@@ -48,7 +48,7 @@ fn lowest_ready(process: &Process<'_>, thread: u16, world: &World, p: u32) -> u8
 // The same, where some signal is pending.
 fn lowest_of_all(process: &Process<'_>, thread: u16, world: &World, p: u32) -> u8
     requires { p < process_count world.now }
-    ensures { (a : Answer) → result ≡ lowest (is_ready_of (handlers_at process.now thread a) (has_pending world.now p)) most_signal 1 }
+    ensures { (a : Answer) → result ≡ lowest_signal (is_ready_of (handlers_at process.now thread a) (has_pending world.now p)) most_signal 1 }
 {
     for s in 1..MOST_SIGNAL + 1 {
         if is_ready(process, thread, world, p, s) {

@@ -2,7 +2,7 @@
 ghost use Rattle.std.specs.Prelude.{◌≡◌, ◌≤◌, IfOk, All, length, is_some, option_map, IsTrue, Some};
 ghost use Rattle.group_world.specs.World.{process_count, surroundings_of};
 ghost use Rattle.group_record.specs.Answer.{IsSummary};
-ghost use Rattle.group_record.specs.Recorded.{Sums, summary_line_of};
+ghost use Rattle.group_record.specs.Recorded.{SumsUpRun, summary_line_of};
 
 use crate::member::Member;
 use crate::recorder::Recorder;
@@ -39,7 +39,7 @@ pub(crate) fn summary_of(
     requires around { process_count recorder.now.world ≡ length processes.now }
     requires few { length processes.now ≤ 16 }
     requires present { All (λ m. IsTrue (is_some m.process)) recorder.now.members.items }
-    ensures { IfOk result (Sums processes.now recorder.now) }
+    ensures { IfOk result (SumsUpRun processes.now recorder.now) }
 {
     group_world::laws::by_counting();
     let mut lines = Vec::new(alloc);

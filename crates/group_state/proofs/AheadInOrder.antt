@@ -8,14 +8,14 @@ use Rattle.std.proofs.lemmas.Option.{slice_get-map, slice_get_past, slice_get_re
 use Rattle.lib_calls.specs.declared.entry.Entry.{Entry}
 use Rattle.call_log.specs.Limits.{least_entry, most_log}
 use Rattle.guest_process.specs.Fits.{StateFits}
-use Rattle.guest_process.specs.OneEvent.{IsKept, Rises as AreRising}
+use Rattle.guest_process.specs.OneEvent.{IsKeptByEvents, Rises as AreRising}
 use Rattle.guest_process.specs.State.{State}
-use Rattle.group_order.specs.Heads.{AreNone, IsFirstNode}
-use Rattle.group_order.specs.Order.{AreMerged, ClocksRise, IsMerged, NodeEvent, events_from, list_of, node_event, of_node, order}
-use Rattle.proc_replay.specs.Course.{AreReplays, AreTurns, ahead}
-use Rattle.proc_replay.specs.Replaying.{Makes, Replaying, after, turn}
+use Rattle.group_order.specs.Heads.{AreNoHeads, IsFirstNode}
+use Rattle.group_order.specs.Order.{AreMergedOrders, ClocksRise, IsMergedOrder, NodeEvent, events_from, list_of, node_event, of_node, order_of_events}
+use Rattle.proc_replay.specs.Course.{AreReplays, AreTurns, entries_ahead}
+use Rattle.proc_replay.specs.Replaying.{Makes, Replaying, after_replay_turn, turn}
 use Rattle.group_state.specs.Stands.{parts_from}
-use Rattle.group_state.specs.Place.{PartsFit, entry_clock, events, head, node_event_count, states}
+use Rattle.group_state.specs.Place.{PartsFit, entry_clock, events_of_replays, head_of_replay, node_event_count, states_of_nodes}
 use Rattle.group_state.proofs.TurnsAhead.{ahead_room, made_first}
 use Rattle.group_state.proofs.NodeEvents.{among_own, count_take, length_sort, of_node-drop, sorted_drop}
 use Rattle.group_state.proofs.ClocksRise.{IsAboveTag, ahead_rises, ahead_tags}
@@ -46,95 +46,95 @@ no_front (a ∷ xs) (suc k) is = no_front xs k is
 pub record Goes (start : List Replaying) (at node : ℕ) : Type 0 where
   pub entry : Entry
   pub part : Replaying
-  pub here : slice_get (parts_from 0 start (take at (events start))) node ≡ Some part
+  pub here : slice_get (parts_from 0 start (take at (events_of_replays start))) node ≡ Some part
   pub makes : turn part ≡ Makes entry
-  pub next : slice_get (events start) at ≡ Some (node_event node entry)
-  pub more : set (parts_from 0 start (take at (events start))) node (after part) ≡ parts_from 0 start (take (at + 1) (events start))
-  pub within : at < length (events start)
+  pub next : slice_get (events_of_replays start) at ≡ Some (node_event node entry)
+  pub more : set (parts_from 0 start (take at (events_of_replays start))) node (after_replay_turn part) ≡ parts_from 0 start (take (at + 1) (events_of_replays start))
+  pub within : at < length (events_of_replays start)
 
-module _ (merging : AreMerged Entry) (rising : AreRising) (kept : IsKept) where
-  all_rise : (rs : List Replaying) → AllByRecursion (λ (r : Replaying). StateFits r.state) rs → AllByRecursion (ClocksRise entry_clock) (map ahead rs)
+module _ (merging : AreMergedOrders Entry) (rising : AreRising) (kept : IsKeptByEvents) where
+  all_rise : (rs : List Replaying) → AllByRecursion (λ (r : Replaying). StateFits r.state) rs → AllByRecursion (ClocksRise entry_clock) (map entries_ahead rs)
   all_rise [] fits = tt
   all_rise (r ∷ rs) fits = (ahead_rises rising kept r fits.0, all_rise rs fits.1)
 
-  start_rises : (start : List Replaying) → PartsFit start → AllByRecursion (ClocksRise entry_clock) (map ahead start)
+  start_rises : (start : List Replaying) → PartsFit start → AllByRecursion (ClocksRise entry_clock) (map entries_ahead start)
   start_rises start fits = all_rise start (recursion_from_All (λ (r : Replaying). StateFits r.state) start fits)
 
-  pub start_merged : (start : List Replaying) → PartsFit start → IsMerged entry_clock (map ahead start)
-  start_merged start fits = merging entry_clock (map ahead start) (start_rises start fits)
+  pub start_merged : (start : List Replaying) → PartsFit start → IsMergedOrder entry_clock (map entries_ahead start)
+  start_merged start fits = merging entry_clock (map entries_ahead start) (start_rises start fits)
 
-  all_tagged : (rs : List Replaying) (node : ℕ) → AllByRecursion (λ (r : Replaying). StateFits r.state) rs → AllByRecursion IsAboveTag (list_of (map ahead rs) node)
+  all_tagged : (rs : List Replaying) (node : ℕ) → AllByRecursion (λ (r : Replaying). StateFits r.state) rs → AllByRecursion IsAboveTag (list_of (map entries_ahead rs) node)
   all_tagged [] node fits = tt
   all_tagged (r ∷ rs) zero fits = ahead_tags rising kept r fits.0
   all_tagged (r ∷ rs) (suc node) fits = all_tagged rs node fits.1
 
   -- the clock of an event is above that of the tag that it took
-  pub tag_below : (start : List Replaying) → PartsFit start → (j : ℕ) (x : NodeEvent Entry) → slice_get (events start) j ≡ Some x → IsAboveTag x.entry
+  pub tag_below : (start : List Replaying) → PartsFit start → (j : ℕ) (x : NodeEvent Entry) → slice_get (events_of_replays start) j ≡ Some x → IsAboveTag x.entry
   tag_below start fits j x is =
-      among_own IsAboveTag (events start) j x is
+      among_own IsAboveTag (events_of_replays start) j x is
       (subst (AllByRecursion IsAboveTag) (sym ((start_merged start fits).is.own x.node))
       (all_tagged start x.node (recursion_from_All (λ (r : Replaying). StateFits r.state) start fits)))
 
   module _ (course : AreTurns) (start : List Replaying) (fits : PartsFit start) (at : ℕ) where
     abbrev pub so_far : List (NodeEvent Entry)
-    so_far = take at (events start)
+    so_far = take at (events_of_replays start)
 
     abbrev pub parts_at : List Replaying
     parts_at = parts_from 0 start so_far
 
-    parts_merged : IsMerged entry_clock (map ahead parts_at)
-    parts_merged = merging entry_clock (map ahead parts_at) (parts_rise course 0 start so_far (start_rises start fits))
+    parts_merged : IsMergedOrder entry_clock (map entries_ahead parts_at)
+    parts_merged = merging entry_clock (map entries_ahead parts_at) (parts_rise course 0 start so_far (start_rises start fits))
 
-    pub own_left : (node : ℕ) → of_node node (drop at (events start)) ≡ list_of (map ahead parts_at) node
+    pub own_left : (node : ℕ) → of_node node (drop at (events_of_replays start)) ≡ list_of (map entries_ahead parts_at) node
     own_left node =
         let same : 0 + node ≡ node = omega arith in
-        of_node-drop node at (events start)
+        of_node-drop node at (events_of_replays start)
         ∙ ap (drop (node_event_count node so_far)) ((start_merged start fits).is.own node)
-        ∙ ap (λ n. drop (node_event_count n so_far) (list_of (map ahead start) node)) (sym same)
+        ∙ ap (λ n. drop (node_event_count n so_far) (list_of (map entries_ahead start) node)) (sym same)
         ∙ sym (parts_ahead course 0 start so_far node)
 
-    left_order : drop at (events start) ≡ order entry_clock (map ahead parts_at)
-    left_order = parts_merged.only (drop at (events start)) (record { sorted = sorted_drop at (events start) (start_merged start fits).is.sorted; own = own_left })
+    left_order : drop at (events_of_replays start) ≡ order_of_events entry_clock (map entries_ahead parts_at)
+    left_order = parts_merged.only (drop at (events_of_replays start)) (record { sorted = sorted_drop at (events_of_replays start) (start_merged start fits).is.sorted; own = own_left })
 
-    pub goes : (node : ℕ) → IsFirstNode (map head parts_at) node → Goes start at node
+    pub goes : (node : ℕ) → IsFirstNode (map head_of_replay parts_at) node → Goes start at node
     goes node first =
         let b = parts_merged.begins node (subst (λ heads. IsFirstNode heads node) (sym (heads_ahead course parts_at)) first) in
         let f = found parts_at node b.entry b.rest b.list in
         let x = node_event node b.entry in
-        let at_front = front (events start) at x _ (left_order ∙ b.order) in
+        let at_front = front (events_of_replays start) at x _ (left_order ∙ b.order) in
         record {
           entry = b.entry;
           part = f.part;
           here = f.here;
           makes = made_first course f.part b.entry b.rest f.ahead_is;
           next = at_front.here;
-          more = sym (ap (λ n. parts_from 0 start (take n (events start))) (add-one at) ∙ ap (parts_from 0 start) at_front.more ∙ parts_more 0 start so_far x node f.part (omega arith) f.here);
+          more = sym (ap (λ n. parts_from 0 start (take n (events_of_replays start))) (add-one at) ∙ ap (parts_from 0 start) at_front.more ∙ parts_more 0 start so_far x node f.part (omega arith) f.here);
           within = at_front.within;
         }
 
-    pub ends : AreNone (map head parts_at) → slice_get (events start) at ≡ None
-    ends none = no_front (events start) at (left_order ∙ parts_merged.ends (subst AreNone (sym (heads_ahead course parts_at)) none))
+    pub ends : AreNoHeads (map head_of_replay parts_at) → slice_get (events_of_replays start) at ≡ None
+    ends none = no_front (events_of_replays start) at (left_order ∙ parts_merged.ends (subst AreNoHeads (sym (heads_ahead course parts_at)) none))
 
-    pub states_at : AreReplays → All (λ (r : Replaying). r.state.events ≡ 0) start → map (λ (r : Replaying). r.state) parts_at ≡ states start at
+    pub states_at : AreReplays → All (λ (r : Replaying). r.state.events ≡ 0) start → map (λ (r : Replaying). r.state) parts_at ≡ states_of_nodes start at
     states_at replays fresh =
         parts_states replays 0 start so_far (recursion_from_All (λ (r : Replaying). r.state.events ≡ 0) start fresh)
         (λ k. let same : k ≡ 0 + k = omega arith in
-        subst (λ n. node_event_count n so_far ≤ length (list_of (map ahead start) k)) same
-        (omega (arith, count_take k at (events start), ap length ((start_merged start fits).is.own k))))
+        subst (λ n. node_event_count n so_far ≤ length (list_of (map entries_ahead start) k)) same
+        (omega (arith, count_take k at (events_of_replays start), ap length ((start_merged start fits).is.own k))))
 
 -- ---- how many events there can be
 
 module _ (course : AreTurns) where
-  few_from : (most i : ℕ) (rs : List Replaying) → AllByRecursion (λ (r : Replaying). length r.left.bytes ≤ most) rs → least_entry * length (events_from i (map ahead rs)) ≤ length rs * most
+  few_from : (most i : ℕ) (rs : List Replaying) → AllByRecursion (λ (r : Replaying). length r.left.bytes ≤ most) rs → least_entry * length (events_from i (map entries_ahead rs)) ≤ length rs * most
   few_from most i [] small = omega arith
   few_from most i (r ∷ rs) small =
-      omega (arith, small.0, ahead_room course r, few_from most (suc i) rs small.1, length-append (map (node_event i) (ahead r)) (events_from (suc i) (map ahead rs)), length-map (ahead r) (node_event i))
+      omega (arith, small.0, ahead_room course r, few_from most (suc i) rs small.1, length-append (map (node_event i) (entries_ahead r)) (events_from (suc i) (map entries_ahead rs)), length-map (entries_ahead r) (node_event i))
 
   -- logs within their limit have fewer events than a number of 64 bits can count
-  pub few_events : (rs : List Replaying) → All (λ (r : Replaying). length r.left.bytes ≤ most_log) rs → length rs ≤ 16 → length (events rs) < 2 ^ 64
+  pub few_events : (rs : List Replaying) → All (λ (r : Replaying). length r.left.bytes ≤ most_log) rs → length rs ≤ 16 → length (events_of_replays rs) < 2 ^ 64
   few_events rs small few =
       let within = recursion_from_All (λ (r : Replaying). length r.left.bytes ≤ most_log) rs small in
-      omega (arith, length_sort (events_from 0 (map ahead rs)), few_from most_log 0 rs within, mul-le-mul_right most_log few)
+      omega (arith, length_sort (events_from 0 (map entries_ahead rs)), few_from most_log 0 rs within, mul-le-mul_right most_log few)
 
 -- ---- the process of one node
 

@@ -8,11 +8,11 @@ use Rattle.guest_process.specs.declared.divergence.Divergence.{Divergence}
 use Rattle.guest_process.specs.Fits.{StateFits}
 use Rattle.guest_process.specs.Legal.{reason}
 use Rattle.guest_process.specs.Next.{next}
-use Rattle.guest_process.specs.OneEvent.{IsKept, Rises as AreRising}
-use Rattle.guest_process.specs.Replay.{accepted, reach, reach_then}
+use Rattle.guest_process.specs.OneEvent.{IsKeptByEvents, Rises as AreRising}
+use Rattle.guest_process.specs.Replay.{accepted, reach_of_entries, reach_with_entry}
 use Rattle.guest_process.specs.State.{State}
 use Rattle.group_order.specs.Order.{ClocksRise}
-use Rattle.proc_replay.specs.Course.{ahead}
+use Rattle.proc_replay.specs.Course.{entries_ahead}
 use Rattle.proc_replay.specs.Replaying.{Replaying}
 use Rattle.group_state.specs.Place.{entry_clock}
 
@@ -29,9 +29,9 @@ pub record Climbs (floor : ℕ) (es : List Entry) : Type 0 where
   pub tags : AllByRecursion IsAboveTag es
   pub rises : ClocksRise entry_clock es
 
-module _ (rising : AreRising) (kept : IsKept) where
+module _ (rising : AreRising) (kept : IsKeptByEvents) where
   climbs_by : (S : State) (e : Entry) (es : List Entry) → StateFits S → (StateFits (next S e) → Climbs (next S e).clock (take (accepted (next S e) es) es))
-      → (o : Option Divergence) → reason S e ≡ o → Climbs S.clock (take (reach_then o (reach (next S e) es)).accepted (e ∷ es))
+      → (o : Option Divergence) → reason S e ≡ o → Climbs S.clock (take (reach_with_entry o (reach_of_entries (next S e) es)).accepted (e ∷ es))
   climbs_by S e es fits more None legal =
       let to = rising S e fits legal in
       let left = more (kept S e fits legal) in
@@ -46,10 +46,10 @@ module _ (rising : AreRising) (kept : IsKept) where
   climbs [] S fits = record { above = tt; tags = tt; rises = tt }
   climbs (e ∷ es) S fits = climbs_by S e es fits (climbs es (next S e)) (reason S e) refl
 
-  pub ahead_rises : (r : Replaying) → StateFits r.state → ClocksRise entry_clock (ahead r)
+  pub ahead_rises : (r : Replaying) → StateFits r.state → ClocksRise entry_clock (entries_ahead r)
   ahead_rises r fits = (climbs (entries_of r.left) r.state fits).rises
 
-  pub ahead_tags : (r : Replaying) → StateFits r.state → AllByRecursion IsAboveTag (ahead r)
+  pub ahead_tags : (r : Replaying) → StateFits r.state → AllByRecursion IsAboveTag (entries_ahead r)
   ahead_tags r fits = (climbs (entries_of r.left) r.state fits).tags
 
 pub rises_drop : (n : ℕ) (es : List Entry) → ClocksRise entry_clock es → ClocksRise entry_clock (drop n es)

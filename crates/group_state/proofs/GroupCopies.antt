@@ -10,12 +10,12 @@ use Rattle.group_order.specs.Order.{NodeEvent}
 use Rattle.proc_replay.specs.Replaying.{Replaying}
 use Rattle.group_state.specs.declared.stand.Stand.{Stand}
 use Rattle.group_state.specs.Moves.{event_of, last_event_of}
-use Rattle.group_state.specs.Place.{events}
-use Rattle.group_state.specs.Stands.{AreSound, AreStands, IsStand, KeepsStands, SameStand, StillStand, parts_from}
+use Rattle.group_state.specs.Place.{events_of_replays}
+use Rattle.group_state.specs.Stands.{AreSoundMemories, AreStands, IsStand, KeepsStands, SameStand, StillStandGroups, parts_from}
 use Rattle.group_state.proofs.ReplaysAfter.{parts_none}
 
 abbrev parts_at : List Replaying → ℕ → List Replaying
-parts_at start n = parts_from 0 start (take n (events start))
+parts_at start n = parts_from 0 start (take n (events_of_replays start))
 
 -- a copy stands where the group does
 pub same_stand : (start : List Replaying) (stand copy : Stand) → SameStand stand copy → IsStand start stand → IsStand start copy
@@ -23,16 +23,16 @@ same_stand start stand copy same is = record {
   parts = same.parts ∙ is.parts ∙ ap (parts_at start) (sym same.at);
   within = omega (arith, same.at, is.within);
   last = ap (option_map event_of) same.last ∙ is.last ∙ ap (λ n. last_event_of (record { start = start; at = n })) (sym same.at);
-  sound = subst AreSound (sym same.parts) is.sound;
+  sound = subst AreSoundMemories (sym same.parts) is.sound;
 }
 
 -- where it begins
-pub first_stand : (start : List Replaying) (stand : Stand) → stand.parts.items ≡ start → stand.at ≡ 0 → stand.last ≡ None → AreSound start → IsStand start stand
+pub first_stand : (start : List Replaying) (stand : Stand) → stand.parts.items ≡ start → stand.at ≡ 0 → stand.last ≡ None → AreSoundMemories start → IsStand start stand
 first_stand start stand parts at last sound = record {
   parts = parts ∙ sym (parts_none 0 start) ∙ ap (parts_at start) (sym at);
   within = omega (arith, at);
   last = ap (option_map event_of) last ∙ ap (λ n. last_event_of (record { start = start; at = n })) (sym at);
-  sound = subst AreSound (sym parts) sound;
+  sound = subst AreSoundMemories (sym parts) sound;
 }
 
 pub length_parts : (i : ℕ) (rs : List Replaying) (es : List (NodeEvent Entry)) → length (parts_from i rs es) ≡ length rs
@@ -46,14 +46,14 @@ kept_checkpoint start stands (Some s) among all = All-contains (IsStand start) s
 
 -- wherever it stands it has as many parts
 pub few_parts : (start : List Replaying) (stand : Stand) → IsStand start stand → length start ≤ 16 → length stand.parts.items ≤ 16
-few_parts start stand is few = omega (arith, ap length is.parts, length_parts 0 start (take stand.at (events start)), few)
+few_parts start stand is few = omega (arith, ap length is.parts, length_parts 0 start (take stand.at (events_of_replays start)), few)
 
 -- what a group keeps where it is
-pub keeps_more : (old room : List Stand) (here copy : Stand) (new : List Stand) → StillStand old room → SameStand here copy → new ≡ room ++ copy ∷ [] → KeepsStands old here new
+pub keeps_more : (old room : List Stand) (here copy : Stand) (new : List Stand) → StillStandGroups old room → SameStand here copy → new ≡ room ++ copy ∷ [] → KeepsStands old here new
 keeps_more old room here copy new still same is =
     λ start all stands. subst (AreStands start) (sym is) (All-push (IsStand start) room copy (still start all) (same_stand start here copy same stands))
 
-pub keeps_rest : (old room : List Stand) (here : Stand) (new : List Stand) → StillStand old room → new ≡ room → KeepsStands old here new
+pub keeps_rest : (old room : List Stand) (here : Stand) (new : List Stand) → StillStandGroups old room → new ≡ room → KeepsStands old here new
 keeps_rest old room here new still is = λ start all stands. subst (AreStands start) (sym is) (still start all)
 
 -- those for which a test said `true`

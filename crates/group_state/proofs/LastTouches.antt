@@ -14,18 +14,18 @@ use Rattle.wasm_step.specs.Marks.{StoreMarksTell}
 use Rattle.guest_process.specs.Fits.{StateFits}
 use Rattle.guest_process.specs.Marks.{UnmarkedStays}
 use Rattle.guest_process.specs.Next.{next}
-use Rattle.guest_process.specs.OneEvent.{IsKept, Rises as AreRising}
+use Rattle.guest_process.specs.OneEvent.{IsKeptByEvents, Rises as AreRising}
 use Rattle.guest_process.specs.State.{State}
 use Rattle.group_order.specs.Order.{NodeEvent}
 use Rattle.proc_replay.specs.Replaying.{Replaying}
 use Rattle.watch_expr.specs.declared.reads.Place.{Place as Location}
 use Rattle.watch_expr.specs.declared.reads.Place.TheVariants as location
 use Rattle.page_watch.specs.Touch.{node_of}
-use Rattle.group_state.specs.Laws.{IsStep}
+use Rattle.group_state.specs.Laws.{IsStepOfGroup}
 use Rattle.group_state.specs.Motions.{nth_position, positions, positions_from}
 use Rattle.group_state.specs.Moves.{event_before}
-use Rattle.group_state.specs.Place.{AreParts, PartsFit, events, states}
-use Rattle.group_state.specs.Touch.{is_touched_by, is_touched_in, mark, mark_in, is_touched_at}
+use Rattle.group_state.specs.Place.{AreParts, PartsFit, events_of_replays, states_of_nodes}
+use Rattle.group_state.specs.Touch.{is_touched_by, is_touched_in, mark_of_place, mark_in, is_touched_at}
 use Rattle.group_state.proofs.NodeMoves.{one_more_other, one_more_own}
 use Rattle.group_state.proofs.NodeViews.{states_length}
 use Rattle.group_state.proofs.NextPosition.{none_made}
@@ -88,8 +88,8 @@ mark_stays S T (location.Size node) tells counted not = (tells.size not).0
 -- event that touched it last
 pub record IsMarked (start : List Replaying) (k node : ℕ) (S : State) : Type 0 where
   pub fits : StateFits S
-  pub moved : S.events ≡ length (positions node (take k (events start)))
-  pub marked : (l : Location) → node_of l ≡ node → mark start k l ≡ nth_position (positions node (take k (events start))) (mark_in S l)
+  pub moved : S.events ≡ length (positions node (take k (events_of_replays start)))
+  pub marked : (l : Location) → node_of l ≡ node → mark_of_place start k l ≡ nth_position (positions node (take k (events_of_replays start))) (mark_in S l)
 
 -- whether the event of a position touched a place of its node's, and of another's
 pub touched_own : (e : Option (NodeEvent Entry)) (now : List State) (x : NodeEvent Entry) (l : Location) (S : State) → e ≡ Some x → node_of l ≡ x.node → slice_get now x.node ≡ Some S
@@ -108,12 +108,12 @@ by_touch : (b : Bool) (at last now : ℕ) → (b ≡ true → at ≡ now) → (b
 by_touch true at last now first later = first refl
 by_touch false at last now first later = later refl
 
-module _ (steps : (start : List Replaying) → AreParts start → PartsFit start → (k : ℕ) (e : NodeEvent Entry) → slice_get (events start) k ≡ Some e → IsStep start k e)
-    (rising : AreRising) (kept : IsKept) (unmarked : UnmarkedStays) (start : List Replaying) (parts : AreParts start) (fits : PartsFit start) where
+module _ (steps : (start : List Replaying) → AreParts start → PartsFit start → (k : ℕ) (e : NodeEvent Entry) → slice_get (events_of_replays start) k ≡ Some e → IsStepOfGroup start k e)
+    (rising : AreRising) (kept : IsKeptByEvents) (unmarked : UnmarkedStays) (start : List Replaying) (parts : AreParts start) (fits : PartsFit start) where
   abbrev so_far : ℕ → List (NodeEvent Entry)
-  so_far k = take k (events start)
+  so_far k = take k (events_of_replays start)
 
-  first_marked : (node : ℕ) (S : State) → slice_get (states start 0) node ≡ Some S → IsMarked start 0 node S
+  first_marked : (node : ℕ) (S : State) → slice_get (states_of_nodes start 0) node ≡ Some S → IsMarked start 0 node S
   first_marked node S here =
       let found : option_map (λ (r : Replaying). r.state) (slice_get start node) ≡ Some S = sym (slice_get-map (λ (r : Replaying). r.state) start node) ∙ sym (ap (λ states. slice_get states node) (none_made 0 start)) ∙ here in
       by_part (slice_get start node) refl found
@@ -135,13 +135,13 @@ module _ (steps : (start : List Replaying) → AreParts start → PartsFit start
           }
 
   -- from a position to the next, of the node whose event comes there
-  own_marked : (k : ℕ) (x : NodeEvent Entry) (S : State) → slice_get (events start) k ≡ Some x → take (suc k) (events start) ≡ so_far k ++ x ∷ [] → k ≡ length (so_far k)
-      → (s : IsStep start k x) → IsMarked start k x.node s.state → slice_get (states start (suc k)) x.node ≡ Some S → IsMarked start (suc k) x.node S
+  own_marked : (k : ℕ) (x : NodeEvent Entry) (S : State) → slice_get (events_of_replays start) k ≡ Some x → take (suc k) (events_of_replays start) ≡ so_far k ++ x ∷ [] → k ≡ length (so_far k)
+      → (s : IsStepOfGroup start k x) → IsMarked start k x.node s.state → slice_get (states_of_nodes start (suc k)) x.node ≡ Some S → IsMarked start (suc k) x.node S
   own_marked k x S is more count s prior here =
       let T = s.state in
-      let next_is : next T x.entry ≡ S = same_Some _ _ (sym (ap (λ states. slice_get states x.node) s.after ∙ set_here (states start k) x.node T (next T x.entry) s.stands) ∙ here) in
+      let next_is : next T x.entry ≡ S = same_Some _ _ (sym (ap (λ states. slice_get states x.node) s.after ∙ set_here (states_of_nodes start k) x.node T (next T x.entry) s.stands) ∙ here) in
       let ps = positions x.node (so_far k) in
-      let own : positions x.node (take (suc k) (events start)) ≡ ps ++ suc k ∷ [] =
+      let own : positions x.node (take (suc k) (events_of_replays start)) ≡ ps ++ suc k ∷ [] =
       ap (positions x.node) more ∙ one_more_own x.node (so_far k) x refl ∙ ap (λ n. ps ++ suc n ∷ []) (sym count) in
       let events_are : S.events ≡ T.events + 1 = subst (λ (S : State). S.events ≡ T.events + 1) next_is (rising T x.entry prior.fits s.legal).events in
       let tells : StoreMarksTell (T.events + 1) T.store S.store = subst (λ (S : State). StoreMarksTell (T.events + 1) T.store S.store) next_is (unmarked T x.entry prior.fits s.legal) in
@@ -149,9 +149,9 @@ module _ (steps : (start : List Replaying) → AreParts start → PartsFit start
         fits = subst StateFits next_is (kept T x.entry prior.fits s.legal);
         moved = omega (arith, events_are, prior.moved, ap length own, length-append ps (suc k ∷ []));
         marked = λ l of_node.
-            let by = touched_own (slice_get (events start) k) (states start (suc k)) x l S is of_node here in
-            ap (λ b. cond b (suc k) (mark start k l)) by
-            ∙ by_touch (mark_in S l == S.events) (suc k) (mark start k l) (nth_position (ps ++ suc k ∷ []) (mark_in S l))
+            let by = touched_own (slice_get (events_of_replays start) k) (states_of_nodes start (suc k)) x l S is of_node here in
+            ap (λ b. cond b (suc k) (mark_of_place start k l)) by
+            ∙ by_touch (mark_in S l == S.events) (suc k) (mark_of_place start k l) (nth_position (ps ++ suc k ∷ []) (mark_in S l))
             (λ yes. sym (nth_last ps (suc k) (mark_in S l) (omega (arith, eqb-true (mark_in S l) S.events yes, events_are, prior.moved))))
             (λ no.
             let stays = mark_stays T S l tells events_are (λ same. let test : (mark_in S l == S.events) ≡ true = grind (arith, nat_tests) in let clash : true ≡ false = sym test ∙ no in cc) in
@@ -161,34 +161,34 @@ module _ (steps : (start : List Replaying) → AreParts start → PartsFit start
       }
 
   -- and of another node
-  other_marked : (k node : ℕ) (x : NodeEvent Entry) (S : State) → slice_get (events start) k ≡ Some x → take (suc k) (events start) ≡ so_far k ++ x ∷ [] → (x.node ≡ node → ⊥)
+  other_marked : (k node : ℕ) (x : NodeEvent Entry) (S : State) → slice_get (events_of_replays start) k ≡ Some x → take (suc k) (events_of_replays start) ≡ so_far k ++ x ∷ [] → (x.node ≡ node → ⊥)
       → IsMarked start k node S → IsMarked start (suc k) node S
   other_marked k node x S is more differs prior =
-      let same : positions node (take (suc k) (events start)) ≡ positions node (so_far k) = ap (positions node) more ∙ one_more_other node (so_far k) x differs in
+      let same : positions node (take (suc k) (events_of_replays start)) ≡ positions node (so_far k) = ap (positions node) more ∙ one_more_other node (so_far k) x differs in
       record {
         fits = prior.fits;
         moved = prior.moved ∙ ap length (sym same);
         marked = λ l of_node.
-            let by = touched_other (slice_get (events start) k) (states start (suc k)) x l is (λ own. differs (own ∙ of_node)) in
-            ap (λ b. cond b (suc k) (mark start k l)) by ∙ prior.marked l of_node ∙ ap (λ ps. nth_position ps (mark_in S l)) (sym same);
+            let by = touched_other (slice_get (events_of_replays start) k) (states_of_nodes start (suc k)) x l is (λ own. differs (own ∙ of_node)) in
+            ap (λ b. cond b (suc k) (mark_of_place start k l)) by ∙ prior.marked l of_node ∙ ap (λ ps. nth_position ps (mark_in S l)) (sym same);
       }
 
-  pub marked_at : (k : ℕ) → k ≤ length (events start) → (node : ℕ) (S : State) → slice_get (states start k) node ≡ Some S → IsMarked start k node S
+  pub marked_at : (k : ℕ) → k ≤ length (events_of_replays start) → (node : ℕ) (S : State) → slice_get (states_of_nodes start k) node ≡ Some S → IsMarked start k node S
   marked_at zero within node S here = first_marked node S here
   marked_at (suc k) within node S here =
-      let t = there (events start) k (omega (arith, within)) in
+      let t = there (events_of_replays start) k (omega (arith, within)) in
       let x = t.item in
       let s = steps start parts fits k x t.is in
-      let more : take (suc k) (events start) ≡ so_far k ++ x ∷ [] =
+      let more : take (suc k) (events_of_replays start) ≡ so_far k ++ x ∷ [] =
       let one : suc k ≡ k + 1 = omega arith in
-      ap (λ n. take n (events start)) one ∙ take_more (events start) k x (omega (arith, within)) ∙ ap (λ y. so_far k ++ y ∷ []) (get_or_from_slice_get (events start) k x x t.is) in
-      let count : k ≡ length (so_far k) = omega (arith, length-take k (events start), within) in
+      ap (λ n. take n (events_of_replays start)) one ∙ take_more (events_of_replays start) k x (omega (arith, within)) ∙ ap (λ y. so_far k ++ y ∷ []) (get_or_from_slice_get (events_of_replays start) k x x t.is) in
+      let count : k ≡ length (so_far k) = omega (arith, length-take k (events_of_replays start), within) in
       elim (cases_eq x.node node) [
         | inl own ↦
             subst (λ n. IsMarked start (suc k) n S) own
-            (own_marked k x S t.is more count s (marked_at k (omega (arith, within)) x.node s.state s.stands) (ap (slice_get (states start (suc k))) own ∙ here))
+            (own_marked k x S t.is more count s (marked_at k (omega (arith, within)) x.node s.state s.stands) (ap (slice_get (states_of_nodes start (suc k))) own ∙ here))
         | inr differs ↦
-            let there_before : slice_get (states start k) node ≡ Some S = sym (ap (λ states. slice_get states node) s.after ∙ set_there (states start k) x.node node (next s.state x.entry) differs) ∙ here in
+            let there_before : slice_get (states_of_nodes start k) node ≡ Some S = sym (ap (λ states. slice_get states node) s.after ∙ set_there (states_of_nodes start k) x.node node (next s.state x.entry) differs) ∙ here in
             other_marked k node x S t.is more differs (marked_at k (omega (arith, within)) node S there_before)
       ]
 
@@ -207,30 +207,30 @@ none_past [] n is = omega arith
 none_past (x ∷ xs) zero is = absurd (cc)
 none_past (x ∷ xs) (suc n) is = omega (arith, none_past xs n is)
 
-no_mark : (start : List Replaying) (k : ℕ) (l : Location) → length start ≤ node_of l → mark start k l ≡ 0
+no_mark : (start : List Replaying) (k : ℕ) (l : Location) → length start ≤ node_of l → mark_of_place start k l ≡ 0
 no_mark start zero l past = refl
 no_mark start (suc k) l past =
-    let none : slice_get (states start (suc k)) (node_of l) ≡ None = slice_get_past (states start (suc k)) (node_of l) (omega (arith, states_length 0 start (take (suc k) (events start)), past)) in
-    ap (λ b. cond b (suc k) (mark start k l)) (touched_none (slice_get (events start) k) (states start (suc k)) l none) ∙ no_mark start k l past
+    let none : slice_get (states_of_nodes start (suc k)) (node_of l) ≡ None = slice_get_past (states_of_nodes start (suc k)) (node_of l) (omega (arith, states_length 0 start (take (suc k) (events_of_replays start)), past)) in
+    ap (λ b. cond b (suc k) (mark_of_place start k l)) (touched_none (slice_get (events_of_replays start) k) (states_of_nodes start (suc k)) l none) ∙ no_mark start k l past
 
-pub unmarked_place : (start : List Replaying) (at : ℕ) (l : Location) → slice_get (states start at) (node_of l) ≡ None → 0 ≡ mark start at l
+pub unmarked_place : (start : List Replaying) (at : ℕ) (l : Location) → slice_get (states_of_nodes start at) (node_of l) ≡ None → 0 ≡ mark_of_place start at l
 unmarked_place start at l none =
-    sym (no_mark start at l (omega (arith, none_past (states start at) (node_of l) none, states_length 0 start (take at (events start)))))
+    sym (no_mark start at l (omega (arith, none_past (states_of_nodes start at) (node_of l) none, states_length 0 start (take at (events_of_replays start)))))
 
 -- ---- marks as numbers
 
-pub no_later : (start : List Replaying) (k : ℕ) (l : Location) → mark start k l ≤ k
+pub no_later : (start : List Replaying) (k : ℕ) (l : Location) → mark_of_place start k l ≤ k
 no_later start zero l = omega arith
 no_later start (suc k) l = by_test (is_touched_at start (suc k) l) (no_later start k l)
   where
-    by_test : (b : Bool) → mark start k l ≤ k → cond b (suc k) (mark start k l) ≤ suc k
+    by_test : (b : Bool) → mark_of_place start k l ≤ k → cond b (suc k) (mark_of_place start k l) ≤ suc k
     by_test true before = omega arith
     by_test false before = omega (arith, before)
 
 -- a place has the mark of a position exactly where its event touched it
-pub mark_told : (start : List Replaying) (k : ℕ) (l : Location) → (mark start (suc k) l == suc k) ≡ is_touched_at start (suc k) l
+pub mark_told : (start : List Replaying) (k : ℕ) (l : Location) → (mark_of_place start (suc k) l == suc k) ≡ is_touched_at start (suc k) l
 mark_told start k l = by_test (is_touched_at start (suc k) l)
   where
-    by_test : (b : Bool) → (cond b (suc k) (mark start k l) == suc k) ≡ b
+    by_test : (b : Bool) → (cond b (suc k) (mark_of_place start k l) == suc k) ≡ b
     by_test true = grind (arith, nat_tests)
     by_test false = let less = no_later start k l in grind (arith, nat_tests)

@@ -5,16 +5,16 @@ use Rattle.std.proofs.lemmas.List.{length-map}
 use Rattle.std.proofs.lemmas.List.Elements.{All-head, All-tail, recursion_from_All}
 use Rattle.lib_calls.specs.declared.entry.Entry.{Entry}
 use Rattle.guest_process.specs.Fits.{StateFits}
-use Rattle.guest_process.specs.OneEvent.{IsKept, Rises}
-use Rattle.proc_replay.specs.Course.{ahead}
+use Rattle.guest_process.specs.OneEvent.{IsKeptByEvents, Rises}
+use Rattle.proc_replay.specs.Course.{entries_ahead}
 use Rattle.proc_replay.specs.Replaying.{Replaying}
-use Rattle.group_order.specs.Order.{NodeEvent, events_from, insert_event, node_event, precedes, sort_events}
-use Rattle.group_order.specs.Sends.{FindsOneMore}
+use Rattle.group_order.specs.Order.{NodeEvent, events_from, insert_event, node_event, event_precedes, sort_events}
+use Rattle.group_order.specs.Sends.{FindsOneMoreSend}
 use Rattle.group_state.specs.declared.report.ReportLine.{ReportLine}
-use Rattle.group_state.specs.Place.{AreParts, PartsFit, entry_clock, events, group_count}
-use Rattle.group_state.specs.Report.{accepted_in, all_accepted, report_line}
-use Rattle.group_state.specs.Tally.{Accepted, tally}
-use Rattle.group_state.specs.Tallying.{AreNew, HasTallyRoomFor, Tallying, counts_of, nothing_of, with_all_accepted}
+use Rattle.group_state.specs.Place.{AreParts, PartsFit, entry_clock, events_of_replays, group_count}
+use Rattle.group_state.specs.Report.{accepted_in, all_accepted_events, report_line}
+use Rattle.group_state.specs.Tally.{AcceptedEvent, tally_of_events}
+use Rattle.group_state.specs.Tallying.{AreNewEvents, HasTallyRoomFor, GroupTallying, counts_of, nothing_tallied, with_all_accepted}
 use Rattle.group_state.proofs.EventCounts.{all_new, first_counted, first_new, first_room, has_room}
 use Rattle.group_state.proofs.TallyCounts.{counted}
 
@@ -22,7 +22,7 @@ use Rattle.group_state.proofs.TallyCounts.{counted}
 
 length_insert : (a : NodeEvent Entry) (es : List (NodeEvent Entry)) → length (insert_event entry_clock a es) ≡ suc (length es)
 length_insert a [] = refl
-length_insert a (b ∷ es) = by_test (length_insert a es) (precedes entry_clock b a)
+length_insert a (b ∷ es) = by_test (length_insert a es) (event_precedes entry_clock b a)
   where
     by_test : length (insert_event entry_clock a es) ≡ suc (length es) → (t : Bool) → length (if t then b ∷ insert_event entry_clock a es else a ∷ b ∷ es) ≡ suc (suc (length es))
     by_test more true = ap suc more
@@ -32,85 +32,85 @@ length_sort : (es : List (NodeEvent Entry)) → length (sort_events entry_clock 
 length_sort [] = refl
 length_sort (a ∷ es) = length_insert a (sort_events entry_clock es) ∙ ap suc (length_sort es)
 
-abbrev one : ℕ → Entry → Accepted
+abbrev one : ℕ → Entry → AcceptedEvent
 one p e = record { process = p; entry = e }
 
-length_from : (rs : List Replaying) (node : ℕ) → length (events_from node (map ahead rs)) ≡ length (all_accepted rs)
+length_from : (rs : List Replaying) (node : ℕ) → length (events_from node (map entries_ahead rs)) ≡ length (all_accepted_events rs)
 length_from [] node = refl
 length_from (r ∷ rs) node =
     omega (
       arith,
-      length-append (map (node_event node) (ahead r)) (events_from (suc node) (map ahead rs)),
-      length-append (accepted_in r) (all_accepted rs),
-      length-map (ahead r) (node_event node),
-      length-map (ahead r) (one r.head.process),
+      length-append (map (node_event node) (entries_ahead r)) (events_from (suc node) (map entries_ahead rs)),
+      length-append (accepted_in r) (all_accepted_events rs),
+      length-map (entries_ahead r) (node_event node),
+      length-map (entries_ahead r) (one r.head.process),
       length_from rs (suc node),
     )
 
-as_many : (start : List Replaying) → length (events start) ≡ length (all_accepted start)
-as_many start = length_sort (events_from 0 (map ahead start)) ∙ length_from start 0
+as_many : (start : List Replaying) → length (events_of_replays start) ≡ length (all_accepted_events start)
+as_many start = length_sort (events_from 0 (map entries_ahead start)) ∙ length_from start 0
 
 -- ---- log after log
 
 -- the tally and the lines of all logs but these, the last of all
-pub record Reports (start rest : List Replaying) (t : Tallying) (lines : List ReportLine) : Type 0 where
-  pub tallied : with_all_accepted t (all_accepted rest) ≡ with_all_accepted (nothing_of (group_count start)) (all_accepted start)
-  pub new : AreNew t (all_accepted rest)
-  pub room : HasTallyRoomFor t (all_accepted rest)
+pub record Reports (start rest : List Replaying) (t : GroupTallying) (lines : List ReportLine) : Type 0 where
+  pub tallied : with_all_accepted t (all_accepted_events rest) ≡ with_all_accepted (nothing_tallied (group_count start)) (all_accepted_events start)
+  pub new : AreNewEvents t (all_accepted_events rest)
+  pub room : HasTallyRoomFor t (all_accepted_events rest)
   pub told : lines ++ map report_line rest ≡ map report_line start
   pub fresh : All (λ r. r.state.events ≡ 0) rest
 
-parts_new : FindsOneMore → Rises → IsKept → (start : List Replaying) → AreParts start → PartsFit start → AreNew (nothing_of (group_count start)) (all_accepted start)
+parts_new : FindsOneMoreSend → Rises → IsKeptByEvents → (start : List Replaying) → AreParts start → PartsFit start → AreNewEvents (nothing_tallied (group_count start)) (all_accepted_events start)
 parts_new finds rises kept start parts fits = all_new finds rises kept (group_count start) start parts.ascends (recursion_from_All (λ r. StateFits r.state) start fits)
 
-pub reports_first : FindsOneMore → Rises → IsKept → (start : List Replaying) → AreParts start → PartsFit start → length (events start) < 2 ^ 64 → Reports start start (nothing_of (group_count start)) []
+pub reports_first : FindsOneMoreSend → Rises → IsKeptByEvents → (start : List Replaying) → AreParts start → PartsFit start → length (events_of_replays start) < 2 ^ 64 → Reports start start (nothing_tallied (group_count start)) []
 reports_first finds rises kept start parts fits few =
     let many = as_many start in record {
       tallied = refl;
       new = parts_new finds rises kept start parts fits;
-      room = has_room (all_accepted start) (nothing_of (group_count start)) (omega (arith, many, few)) (omega (arith, many, few));
+      room = has_room (all_accepted_events start) (nothing_tallied (group_count start)) (omega (arith, many, few)) (omega (arith, many, few));
       told = refl;
       fresh = parts.fresh;
     }
 
-pub reports_begin : FindsOneMore → Rises → IsKept → (start first items : List Replaying) (count : ℕ) (t : Tallying) (lines : List ReportLine) → first ≡ start → items ≡ first → count ≡ group_count first
-    → t ≡ nothing_of count → lines ≡ [] → AreParts first → PartsFit first → length (events first) < 2 ^ 64 → Reports start items t lines
+pub reports_begin : FindsOneMoreSend → Rises → IsKeptByEvents → (start first items : List Replaying) (count : ℕ) (t : GroupTallying) (lines : List ReportLine) → first ≡ start → items ≡ first → count ≡ group_count first
+    → t ≡ nothing_tallied count → lines ≡ [] → AreParts first → PartsFit first → length (events_of_replays first) < 2 ^ 64 → Reports start items t lines
 reports_begin finds rises kept start first items count t lines is_start is_items is_count is_t is_lines parts fits few =
     let begun = reports_first finds rises kept first parts fits few in
     subst (λ (s : List Replaying). Reports s items t lines) is_start
     (subst (λ (rs : List Replaying). Reports first rs t lines) (sym is_items)
-    (subst (λ (n : Tallying). Reports first first n lines) (sym (is_t ∙ ap nothing_of is_count))
-    (subst (Reports first first (nothing_of (group_count first))) (sym is_lines) begun)))
+    (subst (λ (n : GroupTallying). Reports first first n lines) (sym (is_t ∙ ap nothing_tallied is_count))
+    (subst (Reports first first (nothing_tallied (group_count first))) (sym is_lines) begun)))
 
 -- the next log can be counted
-pub next_fresh : (start rest : List Replaying) (r : Replaying) (t : Tallying) (lines : List ReportLine) → Reports start (r ∷ rest) t lines → r.state.events ≡ 0
+pub next_fresh : (start rest : List Replaying) (r : Replaying) (t : GroupTallying) (lines : List ReportLine) → Reports start (r ∷ rest) t lines → r.state.events ≡ 0
 next_fresh start rest r t lines k = All-head (λ r. r.state.events ≡ 0) r rest k.fresh
 
-pub next_new : (start rest : List Replaying) (r : Replaying) (t : Tallying) (lines : List ReportLine) → Reports start (r ∷ rest) t lines → AreNew t (accepted_in r)
-next_new start rest r t lines k = (first_new (accepted_in r) (all_accepted rest) t k.new).0
+pub next_new : (start rest : List Replaying) (r : Replaying) (t : GroupTallying) (lines : List ReportLine) → Reports start (r ∷ rest) t lines → AreNewEvents t (accepted_in r)
+next_new start rest r t lines k = (first_new (accepted_in r) (all_accepted_events rest) t k.new).0
 
-pub next_room : (start rest : List Replaying) (r : Replaying) (t : Tallying) (lines : List ReportLine) → Reports start (r ∷ rest) t lines → HasTallyRoomFor t (accepted_in r)
-next_room start rest r t lines k = (first_room (accepted_in r) (all_accepted rest) t k.room).0
+pub next_room : (start rest : List Replaying) (r : Replaying) (t : GroupTallying) (lines : List ReportLine) → Reports start (r ∷ rest) t lines → HasTallyRoomFor t (accepted_in r)
+next_room start rest r t lines k = (first_room (accepted_in r) (all_accepted_events rest) t k.room).0
 
 -- and then it is
-pub reports_more : (start rest : List Replaying) (r : Replaying) (t new : Tallying) (lines : List ReportLine) (line : ReportLine) → Reports start (r ∷ rest) t lines
+pub reports_more : (start rest : List Replaying) (r : Replaying) (t new : GroupTallying) (lines : List ReportLine) (line : ReportLine) → Reports start (r ∷ rest) t lines
     → new ≡ with_all_accepted t (accepted_in r) → line ≡ report_line r → Reports start rest new (lines ++ line ∷ [])
 reports_more start rest r t new lines line k counts said =
-    subst (λ (n : Tallying). Reports start rest n (lines ++ line ∷ [])) (sym counts) (record {
-      tallied = sym (first_counted (accepted_in r) (all_accepted rest) t) ∙ k.tallied;
-      new = (first_new (accepted_in r) (all_accepted rest) t k.new).1;
-      room = (first_room (accepted_in r) (all_accepted rest) t k.room).1;
+    subst (λ (n : GroupTallying). Reports start rest n (lines ++ line ∷ [])) (sym counts) (record {
+      tallied = sym (first_counted (accepted_in r) (all_accepted_events rest) t) ∙ k.tallied;
+      new = (first_new (accepted_in r) (all_accepted_events rest) t k.new).1;
+      room = (first_room (accepted_in r) (all_accepted_events rest) t k.room).1;
       told = append_assoc lines (line ∷ []) (map report_line rest) ∙ ap (λ (l : ReportLine). lines ++ l ∷ map report_line rest) said ∙ k.told;
       fresh = All-tail (λ r. r.state.events ≡ 0) r rest k.fresh;
     })
 
 -- at the end all logs are counted
-pub all_counted : FindsOneMore → Rises → IsKept → (start first items : List Replaying) (t : Tallying) (lines : List ReportLine) → first ≡ start → items ≡ [] → AreParts first → PartsFit first
-    → Reports start items t lines → counts_of t ≡ tally (group_count start) (all_accepted start)
+pub all_counted : FindsOneMoreSend → Rises → IsKeptByEvents → (start first items : List Replaying) (t : GroupTallying) (lines : List ReportLine) → first ≡ start → items ≡ [] → AreParts first → PartsFit first
+    → Reports start items t lines → counts_of t ≡ tally_of_events (group_count start) (all_accepted_events start)
 all_counted finds rises kept start first items t lines is_start none parts fits k =
-    let counts : counts_of (with_all_accepted (nothing_of (group_count start)) (all_accepted start)) ≡ tally (group_count start) (all_accepted start) =
-    counted finds (group_count start) (all_accepted start) (subst (λ (s : List Replaying). AreNew (nothing_of (group_count s)) (all_accepted s)) is_start (parts_new finds rises kept first parts fits)) in
-    ap counts_of (ap (λ (rs : List Replaying). with_all_accepted t (all_accepted rs)) (sym none) ∙ k.tallied) ∙ counts
+    let counts : counts_of (with_all_accepted (nothing_tallied (group_count start)) (all_accepted_events start)) ≡ tally_of_events (group_count start) (all_accepted_events start) =
+    counted finds (group_count start) (all_accepted_events start) (subst (λ (s : List Replaying). AreNewEvents (nothing_tallied (group_count s)) (all_accepted_events s)) is_start (parts_new finds rises kept first parts fits)) in
+    ap counts_of (ap (λ (rs : List Replaying). with_all_accepted t (all_accepted_events rs)) (sym none) ∙ k.tallied) ∙ counts
 
-pub all_lines : (start items : List Replaying) (t : Tallying) (lines : List ReportLine) → items ≡ [] → Reports start items t lines → lines ≡ map report_line start
+pub all_lines : (start items : List Replaying) (t : GroupTallying) (lines : List ReportLine) → items ≡ [] → Reports start items t lines → lines ≡ map report_line start
 all_lines start items t lines none k = sym (append-nil lines) ∙ ap (λ (rs : List Replaying). lines ++ map report_line rs) (sym none) ∙ k.told

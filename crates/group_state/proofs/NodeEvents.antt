@@ -7,7 +7,7 @@ use Rattle.std.proofs.lemmas.Bool.Decides.{nat_tests}
 use Rattle.std.proofs.lemmas.List.{drop_at, length-append, map-append}
 use Rattle.std.proofs.lemmas.List.Elements.{filter-append}
 use Rattle.std.proofs.lemmas.Option.{same_Some}
-use Rattle.group_order.specs.Order.{IsSorted, NodeEvent, insert_event, of_node, precedes, sort_events}
+use Rattle.group_order.specs.Order.{IsSorted, NodeEvent, insert_event, of_node, event_precedes, sort_events}
 use Rattle.group_state.specs.Place.{entry_clock, node_event_count}
 use Rattle.lib_calls.specs.declared.entry.Entry.{Entry}
 
@@ -71,14 +71,14 @@ all_at P [] i x all at = absurd (cc)
 all_at P (e ∷ es) zero x all at = subst P (same_Some e x at) all.0
 all_at P (e ∷ es) (suc i) x all at = all_at P es i x all.1 at
 
-sorted_at : (es : List (NodeEvent Entry)) (i j : ℕ) (x y : NodeEvent Entry) → IsSorted entry_clock es → i < j → slice_get es i ≡ Some x → slice_get es j ≡ Some y → precedes entry_clock x y ≡ true
+sorted_at : (es : List (NodeEvent Entry)) (i j : ℕ) (x y : NodeEvent Entry) → IsSorted entry_clock es → i < j → slice_get es i ≡ Some x → slice_get es j ≡ Some y → event_precedes entry_clock x y ≡ true
 sorted_at [] i j x y sorted less at_i at_j = absurd (cc)
 sorted_at (e ∷ es) i zero x y sorted less at_i at_j = absurd (omega arith)
 sorted_at (e ∷ es) zero (suc j) x y sorted less at_i at_j =
-    all_at (λ f. precedes entry_clock x f ≡ true) es j y (subst (λ (d : NodeEvent Entry). AllByRecursion (λ f. precedes entry_clock d f ≡ true) es) (same_Some e x at_i) sorted.0) at_j
+    all_at (λ f. event_precedes entry_clock x f ≡ true) es j y (subst (λ (d : NodeEvent Entry). AllByRecursion (λ f. event_precedes entry_clock d f ≡ true) es) (same_Some e x at_i) sorted.0) at_j
 sorted_at (e ∷ es) (suc i) (suc j) x y sorted less at_i at_j = sorted_at es i j x y sorted.1 (omega arith) at_i at_j
 
-precedes_clock : (x y : NodeEvent Entry) → precedes entry_clock x y ≡ true → x.entry.clock ≤ y.entry.clock
+precedes_clock : (x y : NodeEvent Entry) → event_precedes entry_clock x y ≡ true → x.entry.clock ≤ y.entry.clock
 precedes_clock x y before = grind (arith, nat_tests)
 
 -- an event with a lesser clock comes before one with a greater
@@ -97,7 +97,7 @@ stands_before es i j x y sorted at_i at_j less = elim (cases_order i j) [
 
 length_insert : (x : NodeEvent Entry) (es : List (NodeEvent Entry)) → length (insert_event entry_clock x es) ≡ suc (length es)
 length_insert x [] = refl
-length_insert x (e ∷ es) = elim (cases_Bool (precedes entry_clock e x)) [
+length_insert x (e ∷ es) = elim (cases_Bool (event_precedes entry_clock e x)) [
   | inl before ↦ rw before (ap suc (length_insert x es))
   | inr not ↦ rw not refl
 ]

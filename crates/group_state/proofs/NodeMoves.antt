@@ -9,7 +9,7 @@ use Rattle.lib_calls.specs.declared.entry.Entry.{Entry}
 use Rattle.group_order.specs.Order.{NodeEvent}
 use Rattle.proc_replay.specs.Replaying.{Replaying}
 use Rattle.group_state.specs.Motions.{AreMotions, Motions, motions_from, no_motions, positions, positions_from, with_motion}
-use Rattle.group_state.specs.Place.{events}
+use Rattle.group_state.specs.Place.{events_of_replays}
 use Rattle.group_state.proofs.ReplaysAfter.{both}
 
 -- one node more without an event
@@ -86,7 +86,7 @@ first_motions start m is = record {
   within = omega (arith, ap (λ (n : Motions). n.reached) is);
   lists =
       ap (λ (n : Motions). n.lists) is ∙ motions_none 0 start
-      ∙ sym (ap (λ (n : Motions). motions_from 0 start (take n.reached (events start))) is);
+      ∙ sym (ap (λ (n : Motions). motions_from 0 start (take n.reached (events_of_replays start))) is);
 }
 
 -- the group went on to the next position
@@ -94,19 +94,19 @@ pub record MovedOn (start : List Replaying) (m : Motions) (at : ℕ) : Type 0 wh
   pub are : AreMotions start m
   pub been : at + 1 ≤ m.reached
 
-pub moved_on : (start : List Replaying) (old new : Motions) (at : ℕ) (x : NodeEvent Entry) → AreMotions start old → at ≤ old.reached → slice_get (events start) at ≡ Some x
-    → at < length (events start) → x.node < length start → new ≡ with_motion old x.node (at + 1) → MovedOn start new at
+pub moved_on : (start : List Replaying) (old new : Motions) (at : ℕ) (x : NodeEvent Entry) → AreMotions start old → at ≤ old.reached → slice_get (events_of_replays start) at ≡ Some x
+    → at < length (events_of_replays start) → x.node < length start → new ≡ with_motion old x.node (at + 1) → MovedOn start new at
 moved_on start old new at x are been next within here is = elim (cases_Bool (nat_lt old.reached (at + 1))) [
   | inl later ↦
-      let so_far = take at (events start) in
+      let so_far = take at (events_of_replays start) in
       let reached : old.reached ≡ at = omega (arith, ltb-true old.reached (at + 1) later, been) in
       let new_is : new ≡ record { reached = at + 1; lists = set old.lists x.node (get_or old.lists x.node [] ++ (at + 1) ∷ []) } = is ∙ rw later refl in
-      let more : take (at + 1) (events start) ≡ so_far ++ x ∷ [] =
-      take_more (events start) at x within ∙ ap (λ y. so_far ++ y ∷ []) (get_or_from_slice_get (events start) at x x next) in
-      let count : suc (length so_far) ≡ at + 1 = omega (arith, length-take at (events start), within) in
-      let lists : old.lists ≡ motions_from 0 start so_far = are.lists ∙ ap (λ n. motions_from 0 start (take n (events start))) reached in
+      let more : take (at + 1) (events_of_replays start) ≡ so_far ++ x ∷ [] =
+      take_more (events_of_replays start) at x within ∙ ap (λ y. so_far ++ y ∷ []) (get_or_from_slice_get (events_of_replays start) at x x next) in
+      let count : suc (length so_far) ≡ at + 1 = omega (arith, length-take at (events_of_replays start), within) in
+      let lists : old.lists ≡ motions_from 0 start so_far = are.lists ∙ ap (λ n. motions_from 0 start (take n (events_of_replays start))) reached in
       let node : x.node ≡ 0 + x.node = omega arith in
-      let grown : set old.lists x.node (get_or old.lists x.node [] ++ (at + 1) ∷ []) ≡ motions_from 0 start (take (at + 1) (events start)) =
+      let grown : set old.lists x.node (get_or old.lists x.node [] ++ (at + 1) ∷ []) ≡ motions_from 0 start (take (at + 1) (events_of_replays start)) =
       ap (λ l. set l x.node (get_or l x.node [] ++ (at + 1) ∷ [])) lists
       ∙ ap (λ n. set (motions_from 0 start so_far) x.node (get_or (motions_from 0 start so_far) x.node [] ++ n ∷ [])) (sym count)
       ∙ motions_more 0 start so_far x x.node node here

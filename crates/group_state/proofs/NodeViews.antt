@@ -4,7 +4,7 @@ use Rattle.lib_calls.specs.declared.entry.Entry.{Entry}
 use Rattle.group_order.specs.Order.{NodeEvent}
 use Rattle.guest_process.specs.State.{State}
 use Rattle.proc_replay.specs.Replaying.{Replaying}
-use Rattle.group_state.specs.Place.{GroupPlace, states, states_from}
+use Rattle.group_state.specs.Place.{GroupPlace, states_of_nodes, states_from}
 use Rattle.group_state.specs.Seen.{nodes_at, seen_node}
 
 -- a node that is there
@@ -24,7 +24,7 @@ map_length (S ∷ states) = ap suc (map_length states)
 
 -- and a node for each
 pub node_for_each : (place : GroupPlace) → length (nodes_at place) ≡ length place.start
-node_for_each place = map_length (states place.start place.at) ∙ states_length 0 place.start _
+node_for_each place = map_length (states_of_nodes place.start place.at) ∙ states_length 0 place.start _
 
-pub states_for_each : (place : GroupPlace) → length (nodes_at place) ≡ length (states place.start place.at)
-states_for_each place = map_length (states place.start place.at)
+pub states_for_each : (place : GroupPlace) → length (nodes_at place) ≡ length (states_of_nodes place.start place.at)
+states_for_each place = map_length (states_of_nodes place.start place.at)

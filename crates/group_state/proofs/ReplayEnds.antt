@@ -2,17 +2,17 @@
 use Rattle.std.proofs.Common.{◌≡◌, ℕ, ◌+◌, List, [], ◌++◌, ap, refl, sym, ◌∙◌, arith}
 use Rattle.lib_calls.specs.Traffic.{prints}
 use Rattle.lib_calls.specs.declared.entry.Entry.{Entry}
-use Rattle.call_log.specs.Log.{entries_of, rest_of}
+use Rattle.call_log.specs.Log.{entries_of, rest_of_log}
 use Rattle.guest_process.specs.declared.end.End.{End}
 use Rattle.guest_process.specs.declared.verdict.Verdict.{Verdict}
-use Rattle.guest_process.specs.Replay.{accepted, last_state, reach, verdict, verdict_of}
+use Rattle.guest_process.specs.Replay.{accepted, last_state, reach_of_entries, verdict, verdict_of}
 use Rattle.guest_process.specs.State.{State}
-use Rattle.proc_replay.specs.Course.{AreTurns, Outcome, Tells, ahead, outcome_at}
+use Rattle.proc_replay.specs.Course.{AreTurns, ReplayOutcome, TellsVerdict, entries_ahead, replay_outcome_at}
 use Rattle.proc_replay.specs.Replaying.{Replaying, turn}
 use Rattle.group_state.specs.declared.image.Image.{Image}
 use Rattle.group_state.specs.declared.report.ReportLine.{ReportLine}
-use Rattle.group_state.specs.Image.{image_of, left_memory, left_print}
-use Rattle.group_state.specs.Report.{EndsAt, report_line}
+use Rattle.group_state.specs.Image.{image_of, memory_of_image, print_of_image}
+use Rattle.group_state.specs.Report.{EndsAtReplay, report_line}
 
 -- the replay of these entries from a first state comes to the state T and this verdict
 pub record Comes (S T : State) (es : List Entry) (rest : List ℕ) (v : Verdict) : Type 0 where
@@ -21,25 +21,25 @@ pub record Comes (S T : State) (es : List Entry) (rest : List ℕ) (v : Verdict)
   pub verdict : v ≡ verdict S es rest
 
 comes_at : (S T : State) (es : List Entry) (rest behind : List ℕ) (v : Verdict) → S.events ≡ 0
-    → outcome_at S es rest ≡ record { accepted = T.events; last = T; verdict = v; rest = behind } → Comes S T es rest v
+    → replay_outcome_at S es rest ≡ record { accepted = T.events; last = T; verdict = v; rest = behind } → Comes S T es rest v
 comes_at S T es rest behind v fresh comes =
     let all : S.events + accepted S es ≡ accepted S es = omega (arith, fresh) in record {
-      events = sym (ap (λ (o : Outcome). o.accepted) comes) ∙ all;
-      last = sym (ap (λ (o : Outcome). o.last) comes);
-      verdict = sym (ap (λ (o : Outcome). o.verdict) comes) ∙ ap (λ n. verdict_of (record (reach S es) { accepted = n }) rest) all;
+      events = sym (ap (λ (o : ReplayOutcome). o.accepted) comes) ∙ all;
+      last = sym (ap (λ (o : ReplayOutcome). o.last) comes);
+      verdict = sym (ap (λ (o : ReplayOutcome). o.verdict) comes) ∙ ap (λ n. verdict_of (record (reach_of_entries S es) { accepted = n }) rest) all;
     }
 
-pub comes : AreTurns → (first last : Replaying) (v : Verdict) → first.state.events ≡ 0 → EndsAt first last → Tells (turn last) last.left.bytes v
-    → Comes first.state last.state (entries_of first.left) (rest_of first.left) v
+pub comes : AreTurns → (first last : Replaying) (v : Verdict) → first.state.events ≡ 0 → EndsAtReplay first last → TellsVerdict (turn last) last.left.bytes v
+    → Comes first.state last.state (entries_of first.left) (rest_of_log first.left) v
 comes turns first last v fresh ends tells =
-    comes_at first.state last.state (entries_of first.left) (rest_of first.left) (rest_of last.left) v fresh (sym ends.same ∙ (turns last).comes v tells)
+    comes_at first.state last.state (entries_of first.left) (rest_of_log first.left) (rest_of_log last.left) v fresh (sym ends.same ∙ (turns last).comes v tells)
 
 same_line : (n m : List ℕ) (a b : ℕ) (c d : End) (e f : Verdict) → n ≡ m → a ≡ b → c ≡ d → e ≡ f
     → ◌≡◌ {A = ReportLine} (record { name = n; events = a; end = c; verdict = e }) (record { name = m; events = b; end = d; verdict = f })
 same_line n m a b c d e f p q r s = rw (p, q, r, s) refl
 
-pub line_so : AreTurns → (first last : Replaying) (v : Verdict) (name : List ℕ) (count : ℕ) (end : End) (said : Verdict) → first.state.events ≡ 0 → EndsAt first last
-    → Tells (turn last) last.left.bytes v → name ≡ last.head.name → count ≡ last.state.events → end ≡ last.state.end → said ≡ v
+pub line_so : AreTurns → (first last : Replaying) (v : Verdict) (name : List ℕ) (count : ℕ) (end : End) (said : Verdict) → first.state.events ≡ 0 → EndsAtReplay first last
+    → TellsVerdict (turn last) last.left.bytes v → name ≡ last.head.name → count ≡ last.state.events → end ≡ last.state.end → said ≡ v
     → ◌≡◌ {A = ReportLine} (record { name = name; events = count; end = end; verdict = said }) (report_line first)
 line_so turns first last v name count end said fresh ends tells is_name is_count is_end is_said =
     let c = comes turns first last v fresh ends tells in
@@ -51,18 +51,18 @@ line_so turns first last v name count end said fresh ends tells is_name is_count
 
 -- ---- what a process leaves
 
-image_so : AreTurns → (first last : Replaying) (memory printed : List ℕ) → first.state.events ≡ 0 → EndsAt first last → memory ≡ last.state.store.memory.bytes → printed ≡ prints (ahead first)
+image_so : AreTurns → (first last : Replaying) (memory printed : List ℕ) → first.state.events ≡ 0 → EndsAtReplay first last → memory ≡ last.state.store.memory.bytes → printed ≡ prints (entries_ahead first)
     → ◌≡◌ {A = Image} (record { memory = memory; printed = printed }) (image_of first)
 image_so turns first last memory printed fresh ends is_memory is_printed =
     let c = comes turns first last ends.verdict fresh ends ends.tells in
-    same_image memory (left_memory first) printed (left_print first) (is_memory ∙ ap (λ (S : State). S.store.memory.bytes) c.last) is_printed
+    same_image memory (memory_of_image first) printed (print_of_image first) (is_memory ∙ ap (λ (S : State). S.store.memory.bytes) c.last) is_printed
   where
     same_image : (a b c d : List ℕ) → a ≡ b → c ≡ d → ◌≡◌ {A = Image} (record { memory = a; printed = c }) (record { memory = b; printed = d })
     same_image a b c d p q = rw (p, q) refl
 
 -- a copy of the first replay was followed to its end
-pub image_at : AreTurns → (first copy last : Replaying) (before memory printed : List ℕ) → first.state.events ≡ 0 → copy ≡ first → EndsAt copy last → memory ≡ last.state.store.memory.bytes
-    → before ≡ [] → printed ≡ before ++ prints (ahead copy) → ◌≡◌ {A = Image} (record { memory = memory; printed = printed }) (image_of first)
+pub image_at : AreTurns → (first copy last : Replaying) (before memory printed : List ℕ) → first.state.events ≡ 0 → copy ≡ first → EndsAtReplay copy last → memory ≡ last.state.store.memory.bytes
+    → before ≡ [] → printed ≡ before ++ prints (entries_ahead copy) → ◌≡◌ {A = Image} (record { memory = memory; printed = printed }) (image_of first)
 image_at turns first copy last before memory printed fresh copied ends is_memory empty is_printed =
-    image_so turns copy last memory printed (ap (λ (r : Replaying). r.state.events) copied ∙ fresh) ends is_memory (is_printed ∙ ap (λ (bs : List ℕ). bs ++ prints (ahead copy)) empty)
+    image_so turns copy last memory printed (ap (λ (r : Replaying). r.state.events) copied ∙ fresh) ends is_memory (is_printed ∙ ap (λ (bs : List ℕ). bs ++ prints (entries_ahead copy)) empty)
     ∙ ap image_of copied

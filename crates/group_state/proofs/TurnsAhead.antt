@@ -6,75 +6,75 @@ use Rattle.guest_process.specs.declared.verdict.Verdict.{Verdict}
 use Rattle.guest_process.specs.declared.verdict.Verdict.TheVariants.{Diverged}
 use Rattle.guest_process.specs.Replay.{left_over}
 use Rattle.group_order.specs.Order.{first_clock}
-use Rattle.proc_replay.specs.Course.{AreTurns, Tells, ahead, turns}
-use Rattle.proc_replay.specs.Replaying.{Replaying, Move, Makes, Ends, Diverges, after, turn}
-use Rattle.group_state.specs.Place.{clock_in, entry_clock, head}
+use Rattle.proc_replay.specs.Course.{AreTurns, TellsVerdict, entries_ahead, after_turns}
+use Rattle.proc_replay.specs.Replaying.{Replaying, ReplayMove, Makes, Ends, Diverges, after_replay_turn, turn}
+use Rattle.group_state.specs.Place.{clock_in, entry_clock, head_of_replay}
 
 -- the turn makes the first event that is ahead
 record Made (r : Replaying) : Type 0 where
   pub entry : Entry
   pub makes : turn r ≡ Makes entry
-  pub first : ahead r ≡ entry ∷ ahead (after r)
-  pub shorter : length (after r).left.bytes + least_entry ≤ length r.left.bytes
+  pub first : entries_ahead r ≡ entry ∷ entries_ahead (after_replay_turn r)
+  pub shorter : length (after_replay_turn r).left.bytes + least_entry ≤ length r.left.bytes
 
 -- none is ahead, and the replay stands
 record Stood (r : Replaying) : Type 0 where
-  pub none : ahead r ≡ []
-  pub stays : after r ≡ r
-  pub headless : head r ≡ None
+  pub none : entries_ahead r ≡ []
+  pub stays : after_replay_turn r ≡ r
+  pub headless : head_of_replay r ≡ None
 
 pub drop_none : {X : Type 0} (n : ℕ) → ◌≡◌ {A = List X} (drop n []) []
 drop_none zero = refl
 drop_none (suc n) = refl
 
-pub turns_more : (n : ℕ) (r : Replaying) → turns r (suc n) ≡ after (turns r n)
+pub turns_more : (n : ℕ) (r : Replaying) → after_turns r (suc n) ≡ after_replay_turn (after_turns r n)
 turns_more zero r = refl
-turns_more (suc n) r = turns_more n (after r)
+turns_more (suc n) r = turns_more n (after_replay_turn r)
 
 module _ (course : AreTurns) where
   turn_cases : (r : Replaying) → Made r ⊎ Stood r
   turn_cases r = by_move (turn r) refl
     where
-      stood : (m : Move) (v : Verdict) → turn r ≡ m → Tells m r.left.bytes v → clock_in m ≡ None → Stood r
+      stood : (m : ReplayMove) (v : Verdict) → turn r ≡ m → TellsVerdict m r.left.bytes v → clock_in m ≡ None → Stood r
       stood m v is tells no_clock =
-          let here : Tells (turn r) r.left.bytes v = rw is tells in
+          let here : TellsVerdict (turn r) r.left.bytes v = rw is tells in
           record { none = (course r).none v here; stays = (course r).stays v here; headless = ap clock_in is ∙ no_clock }
 
-      by_move : (m : Move) → turn r ≡ m → Made r ⊎ Stood r
+      by_move : (m : ReplayMove) → turn r ≡ m → Made r ⊎ Stood r
       by_move (Makes e) is = inl (record { entry = e; makes = is; first = (course r).makes e is; shorter = (course r).takes e is })
       by_move Ends is = inr (stood Ends (left_over r.left.bytes) is refl refl)
       by_move (Diverges at why) is = inr (stood (Diverges at why) (Diverged at why) is refl refl)
 
-  pub ahead_turns : (n : ℕ) (r : Replaying) → ahead (turns r n) ≡ drop n (ahead r)
+  pub ahead_turns : (n : ℕ) (r : Replaying) → entries_ahead (after_turns r n) ≡ drop n (entries_ahead r)
   ahead_turns zero r = refl
-  ahead_turns (suc n) r = ahead_turns n (after r) ∙ elim (turn_cases r) [
+  ahead_turns (suc n) r = ahead_turns n (after_replay_turn r) ∙ elim (turn_cases r) [
     | inl m ↦ sym (ap (drop (suc n)) m.first)
-    | inr s ↦ ap (λ (q : Replaying). drop n (ahead q)) s.stays ∙ ap (drop n) s.none ∙ drop_none n ∙ sym (drop_none (suc n)) ∙ sym (ap (drop (suc n)) s.none)
+    | inr s ↦ ap (λ (q : Replaying). drop n (entries_ahead q)) s.stays ∙ ap (drop n) s.none ∙ drop_none n ∙ sym (drop_none (suc n)) ∙ sym (ap (drop (suc n)) s.none)
   ]
 
-  pub head_ahead : (r : Replaying) → head r ≡ first_clock entry_clock (ahead r)
+  pub head_ahead : (r : Replaying) → head_of_replay r ≡ first_clock entry_clock (entries_ahead r)
   head_ahead r = elim (turn_cases r) [
     | inl m ↦ ap clock_in m.makes ∙ sym (ap (first_clock entry_clock) m.first)
     | inr s ↦ s.headless ∙ sym (ap (first_clock entry_clock) s.none)
   ]
 
   -- each event takes bytes of the log
-  ahead_room_in : (n : ℕ) (r : Replaying) → length r.left.bytes ≤ n → least_entry * length (ahead r) ≤ length r.left.bytes
+  ahead_room_in : (n : ℕ) (r : Replaying) → length r.left.bytes ≤ n → least_entry * length (entries_ahead r) ≤ length r.left.bytes
   ahead_room_in zero r few = elim (turn_cases r) [
     | inl m ↦ absurd (omega (arith, m.shorter, few))
     | inr s ↦ omega (arith, ap length s.none)
   ]
   ahead_room_in (suc n) r few = elim (turn_cases r) [
-    | inl m ↦ omega (arith, m.shorter, ap length m.first, ahead_room_in n (after r) (omega (arith, m.shorter, few)))
+    | inl m ↦ omega (arith, m.shorter, ap length m.first, ahead_room_in n (after_replay_turn r) (omega (arith, m.shorter, few)))
     | inr s ↦ omega (arith, ap length s.none)
   ]
 
-  pub ahead_room : (r : Replaying) → least_entry * length (ahead r) ≤ length r.left.bytes
+  pub ahead_room : (r : Replaying) → least_entry * length (entries_ahead r) ≤ length r.left.bytes
   ahead_room r = ahead_room_in (length r.left.bytes) r (omega arith)
 
   -- where something is ahead, the turn makes the first of it
-  pub made_first : (r : Replaying) (e : Entry) (es : List Entry) → ahead r ≡ e ∷ es → turn r ≡ Makes e
+  pub made_first : (r : Replaying) (e : Entry) (es : List Entry) → entries_ahead r ≡ e ∷ es → turn r ≡ Makes e
   made_first r e es is = elim (turn_cases r) [
-    | inl m ↦ let same : m.entry ∷ ahead (after r) ≡ e ∷ es = sym m.first ∙ is in let first : m.entry ≡ e = cc in m.makes ∙ ap Makes first
+    | inl m ↦ let same : m.entry ∷ entries_ahead (after_replay_turn r) ≡ e ∷ es = sym m.first ∙ is in let first : m.entry ≡ e = cc in m.makes ∙ ap Makes first
     | inr s ↦ let none : [] ≡ e ∷ es = sym s.none ∙ is in absurd (cc)
   ]

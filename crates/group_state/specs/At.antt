@@ -2,7 +2,7 @@
 use Rattle.std.specs.Prelude.{◌≡◌, ◌<◌, ◌≤◌, ◌^◌, length, map}
 use Rattle.group_state.specs.declared.group.Course.{Course}
 use Rattle.group_state.specs.declared.group.Group.TheInside.{Inside}
-use Rattle.group_state.specs.Place.{AreParts, PartsFit, GroupPlace, events, head}
+use Rattle.group_state.specs.Place.{AreParts, PartsFit, GroupPlace, events_of_replays, head_of_replay}
 use Rattle.group_state.specs.Motions.{AreMotions}
 use Rattle.group_state.specs.Stands.{AreStands, IsStand}
 
@@ -17,9 +17,9 @@ place_of_group g = place_of_course g.course.value
 pub record IsSoundCourse (g : Course) : Type 0 where
   pub parts : AreParts g.first.items
   pub fits : PartsFit g.first.items
-  pub few : length (events g.first.items) < 2 ^ 64
+  pub few : length (events_of_replays g.first.items) < 2 ^ 64
   pub here : IsStand g.first.items g.here
-  pub heads : g.merge ≡ map head g.here.parts.items
+  pub heads : g.merge ≡ map head_of_replay g.here.parts.items
   pub kept : AreStands g.first.items g.checkpoints.stands.items
   pub moved : AreMotions g.first.items g.motions
   pub been : g.here.at ≤ g.motions.reached

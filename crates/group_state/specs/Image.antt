@@ -3,17 +3,17 @@ use Rattle.std.specs.Prelude.{ℕ, List}
 use Rattle.call_log.specs.Log.{entries_of}
 use Rattle.guest_process.specs.Replay.{last_state}
 use Rattle.lib_calls.specs.Traffic.{prints}
-use Rattle.proc_replay.specs.Course.{ahead}
+use Rattle.proc_replay.specs.Course.{entries_ahead}
 use Rattle.proc_replay.specs.Replaying.{Replaying}
 use Rattle.group_state.specs.declared.image.Image.{Image}
 
 -- the bytes of the memory after all accepted events of a log
-abbrev pub left_memory : Replaying → List ℕ
-left_memory r = (last_state r.state (entries_of r.left)).store.memory.bytes
+abbrev pub memory_of_image : Replaying → List ℕ
+memory_of_image r = (last_state r.state (entries_of r.left)).store.memory.bytes
 
 -- what they printed
-abbrev pub left_print : Replaying → List ℕ
-left_print r = prints (ahead r)
+abbrev pub print_of_image : Replaying → List ℕ
+print_of_image r = prints (entries_ahead r)
 
 abbrev pub image_of : Replaying → Image
-image_of r = record { memory = left_memory r; printed = left_print r }
+image_of r = record { memory = memory_of_image r; printed = print_of_image r }

@@ -3,7 +3,7 @@ use Rattle.std.specs.Prelude.{◌≡◌, ℕ, zero, suc, ◌≤◌, ◌==◌, na
 use Rattle.lib_calls.specs.declared.entry.Entry.{Entry}
 use Rattle.group_order.specs.Order.{NodeEvent}
 use Rattle.proc_replay.specs.Replaying.{Replaying}
-use Rattle.group_state.specs.Place.{events}
+use Rattle.group_state.specs.Place.{events_of_replays}
 
 -- how far the group has been, and the positions of each node's events up to there
 pub record Motions : Type 0 where
@@ -44,5 +44,5 @@ motions_from node (r ∷ rs) es = positions node es ∷ motions_from (suc node) 
 
 -- they are those of the group of these replays
 pub record AreMotions (start : List Replaying) (m : Motions) : Type 0 where
-  pub within : m.reached ≤ length (events start)
-  pub lists : m.lists ≡ motions_from 0 start (take m.reached (events start))
+  pub within : m.reached ≤ length (events_of_replays start)
+  pub lists : m.lists ≡ motions_from 0 start (take m.reached (events_of_replays start))

@@ -4,10 +4,10 @@ use Rattle.lib_calls.specs.Entry.{entry_of}
 use Rattle.lib_calls.specs.declared.entry.Entry.{Entry}
 use Rattle.proc_replay.specs.declared.turn.Turn.{Turn}
 use Rattle.group_order.specs.Order.{NodeEvent}
-use Rattle.proc_replay.specs.Replaying.{Replaying, after, turn}
+use Rattle.proc_replay.specs.Replaying.{Replaying, after_replay_turn, turn}
 use Rattle.proc_replay.specs.Seen.{move_of}
 use Rattle.group_state.specs.declared.event.GroupEvent.{GroupEvent}
-use Rattle.group_state.specs.Place.{GroupPlace, events}
+use Rattle.group_state.specs.Place.{GroupPlace, events_of_replays}
 
 abbrev pub event_of : GroupEvent → NodeEvent Entry
 event_of e = record { node = e.node; entry = entry_of e.entry }
@@ -18,13 +18,13 @@ place_after place None = place
 place_after place (Some e) = record place { at = place.at + 1 }
 
 -- the event is the next of the order, which is made; none comes exactly at the end
-pub record Moves (old new : GroupPlace) (given : Option GroupEvent) : Type 0 where
-  pub gives : option_map event_of given ≡ slice_get (events old.start) old.at
+pub record GroupMoves (old new : GroupPlace) (given : Option GroupEvent) : Type 0 where
+  pub gives : option_map event_of given ≡ slice_get (events_of_replays old.start) old.at
   pub place : new ≡ place_after old given
 
 -- the group is at position k, where there is one, and else as it was
 pub record IsAtPosition (old : GroupPlace) (k : ℕ) (new : GroupPlace) (there : Bool) : Type 0 where
-  pub exact : IsTrue there ↔ k ≤ length (events old.start)
+  pub exact : IsTrue there ↔ k ≤ length (events_of_replays old.start)
   pub start : new.start ≡ old.start
   pub at : IsTrue there → new.at ≡ k
   pub stays : IsFalse there → new.at ≡ old.at
@@ -35,9 +35,9 @@ event_before es (suc n) = slice_get es n
 
 -- the event that was made last
 abbrev pub last_event_of : GroupPlace → Option (NodeEvent Entry)
-last_event_of place = event_before (events place.start) place.at
+last_event_of place = event_before (events_of_replays place.start) place.at
 
 -- a node had this turn, and the other nodes are as they were
-pub record Turns (old : List Replaying) (node : ℕ) (new : List Replaying) (given : Turn) : Type 0 where
+pub record NodeTurns (old : List Replaying) (node : ℕ) (new : List Replaying) (given : Turn) : Type 0 where
   pub tells : (r : Replaying) → slice_get old node ≡ Some r → move_of given ≡ turn r
-  pub moves : (r : Replaying) → slice_get old node ≡ Some r → new ≡ slice_set old node (after r)
+  pub moves : (r : Replaying) → slice_get old node ≡ Some r → new ≡ slice_set old node (after_replay_turn r)

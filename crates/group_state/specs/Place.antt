@@ -7,9 +7,9 @@ use Rattle.call_log.specs.Log.{entries_of}
 use Rattle.guest_process.specs.Fits.{StateFits}
 use Rattle.guest_process.specs.Replay.{state_after}
 use Rattle.guest_process.specs.State.{State}
-use Rattle.group_order.specs.Order.{NodeEvent, of_node, order}
-use Rattle.proc_replay.specs.Course.{ahead}
-use Rattle.proc_replay.specs.Replaying.{Diverges, Ends, Makes, Move, Replaying, turn}
+use Rattle.group_order.specs.Order.{NodeEvent, of_node, order_of_events}
+use Rattle.proc_replay.specs.Course.{entries_ahead}
+use Rattle.proc_replay.specs.Replaying.{Diverges, Ends, Makes, ReplayMove, Replaying, turn}
 
 -- the replays at position 0, in order of their processes' numbers, and how many events have been made
 pub record GroupPlace : Type 0 where
@@ -28,16 +28,16 @@ group_count [] = 0
 group_count (r ∷ rs) = r.head.count
 
 -- each process's number is below those after it
-abbrev pub Ascends : List Replaying → Type 0
-Ascends [] = Unit {0}
-Ascends (r ∷ rs) = AllByRecursion (λ s. r.head.process < s.head.process) rs × Ascends rs
+abbrev pub AscendsByProcess : List Replaying → Type 0
+AscendsByProcess [] = Unit {0}
+AscendsByProcess (r ∷ rs) = AllByRecursion (λ s. r.head.process < s.head.process) rs × AscendsByProcess rs
 
 -- some of one group's logs, in order of their processes' numbers, each before its first event and within the limit
 pub record AreParts (parts : List Replaying) : Type 0 where
   pub few : length parts ≤ 16
   pub fresh : All (λ r. r.state.events ≡ 0) parts
   pub one : All (λ r. r.head.count ≡ group_count parts) parts
-  pub ascends : Ascends parts
+  pub ascends : AscendsByProcess parts
   pub within : All (λ r. length r.left.bytes ≤ most_log) parts
 
 -- each process is in the ranges of its module
@@ -50,8 +50,8 @@ abbrev pub entry_clock : Entry → ℕ
 entry_clock e = e.clock
 
 -- the accepted events of all logs, by clock and then by node
-abbrev pub events : List Replaying → List (NodeEvent Entry)
-events start = order entry_clock (map ahead start)
+abbrev pub events_of_replays : List Replaying → List (NodeEvent Entry)
+events_of_replays start = order_of_events entry_clock (map entries_ahead start)
 
 -- how many of these events are a node's
 abbrev pub node_event_count : ℕ → List (NodeEvent Entry) → ℕ
@@ -67,16 +67,16 @@ states_from node [] es = []
 states_from node (r ∷ rs) es = after_entries r (node_event_count node es) ∷ states_from (suc node) rs es
 
 -- the state of each node after the first k events of the group
-abbrev pub states : List Replaying → ℕ → List State
-states start k = states_from 0 start (take k (events start))
+abbrev pub states_of_nodes : List Replaying → ℕ → List State
+states_of_nodes start k = states_from 0 start (take k (events_of_replays start))
 
 -- ---- the next event of one replay
 
-abbrev pub clock_in : Move → Option ℕ
+abbrev pub clock_in : ReplayMove → Option ℕ
 clock_in (Makes e) = Some e.clock
 clock_in Ends = None
 clock_in (Diverges at why) = None
 
 -- its clock, where there is one
-abbrev pub head : Replaying → Option ℕ
-head r = clock_in (turn r)
+abbrev pub head_of_replay : Replaying → Option ℕ
+head_of_replay r = clock_in (turn r)

@@ -1,20 +1,20 @@
 -- What is said of a group's logs.
 use Rattle.std.specs.Prelude.{◌≡◌, List, map}
 use Rattle.std.specs.List.{flat_map}
-use Rattle.call_log.specs.Log.{entries_of, rest_of}
+use Rattle.call_log.specs.Log.{entries_of, rest_of_log}
 use Rattle.guest_process.specs.declared.verdict.Verdict.{Verdict}
 use Rattle.guest_process.specs.Replay.{accepted, last_state, verdict}
-use Rattle.proc_replay.specs.Course.{Tells, ahead, outcome}
+use Rattle.proc_replay.specs.Course.{TellsVerdict, entries_ahead, outcome_of_replay}
 use Rattle.proc_replay.specs.Replaying.{Replaying, turn}
 use Rattle.group_state.specs.declared.report.Report.{Report}
 use Rattle.group_state.specs.declared.report.ReportLine.{ReportLine}
 use Rattle.group_state.specs.declared.tally.GroupCounts.{GroupCounts}
 use Rattle.group_state.specs.Place.{group_count}
-use Rattle.group_state.specs.Tally.{Accepted, of_process, tally}
+use Rattle.group_state.specs.Tally.{AcceptedEvent, of_process, tally_of_events}
 
 -- the verdict on a log, whatever the other logs hold
 abbrev pub verdict_on : Replaying → Verdict
-verdict_on r = verdict r.state (entries_of r.left) (rest_of r.left)
+verdict_on r = verdict r.state (entries_of r.left) (rest_of_log r.left)
 
 -- a log to its first entry that is not legal: no other log has a part in it
 abbrev pub report_line : Replaying → ReportLine
@@ -28,11 +28,11 @@ report_line r =
     }
 
 -- the accepted events of a log, and of all logs
-abbrev pub accepted_in : Replaying → List Accepted
-accepted_in r = of_process r.head.process (ahead r)
+abbrev pub accepted_in : Replaying → List AcceptedEvent
+accepted_in r = of_process r.head.process (entries_ahead r)
 
-abbrev pub all_accepted : List Replaying → List Accepted
-all_accepted start = flat_map accepted_in start
+abbrev pub all_accepted_events : List Replaying → List AcceptedEvent
+all_accepted_events start = flat_map accepted_in start
 
 abbrev pub counts_in : Report → GroupCounts
 counts_in report = record { sends = report.sends; receives = report.receives; unmatched = report.unmatched; untagged = report.untagged }
@@ -40,11 +40,11 @@ counts_in report = record { sends = report.sends; receives = report.receives; un
 -- a line for each log, and the counts of all accepted events
 pub record IsReport (start : List Replaying) (report : Report) : Type 0 where
   pub lines : report.lines.items ≡ map report_line start
-  pub counts : counts_in report ≡ tally (group_count start) (all_accepted start)
+  pub counts : counts_in report ≡ tally_of_events (group_count start) (all_accepted_events start)
 
 -- a replay is at the end of its log, and has the same outcome
-pub record EndsAt (first last : Replaying) : Type 0 where
-  pub same : outcome last ≡ outcome first
+pub record EndsAtReplay (first last : Replaying) : Type 0 where
+  pub same : outcome_of_replay last ≡ outcome_of_replay first
   pub head : last.head ≡ first.head
   pub verdict : Verdict
-  pub tells : Tells (turn last) last.left.bytes verdict
+  pub tells : TellsVerdict (turn last) last.left.bytes verdict

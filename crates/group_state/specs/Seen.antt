@@ -5,7 +5,7 @@ use Rattle.wasm_types.specs.declared.code.Value.{Value}
 use Rattle.wasm_types.specs.declared.code.Value.TheVariants.{I32, I64}
 use Rattle.guest_process.specs.State.{State}
 use Rattle.watch_expr.specs.View.{Node}
-use Rattle.group_state.specs.Place.{GroupPlace, states}
+use Rattle.group_state.specs.Place.{GroupPlace, states_of_nodes}
 
 -- the value of a global, signed
 abbrev pub signed_global : Value → ℤ
@@ -17,4 +17,4 @@ seen_node S = record { memory = S.store.memory; globals = map signed_global S.st
 
 -- the nodes at the position
 abbrev pub nodes_at : GroupPlace → List Node
-nodes_at place = map seen_node (states place.start place.at)
+nodes_at place = map seen_node (states_of_nodes place.start place.at)

@@ -3,27 +3,27 @@ use Rattle.std.specs.Prelude.{◌≡◌, ℕ, suc, ◌≤◌, List, [], ◌∷�
 use Rattle.guest_memory.specs.Memory.{IsMemory}
 use Rattle.lib_calls.specs.declared.entry.Entry.{Entry}
 use Rattle.group_order.specs.Order.{NodeEvent}
-use Rattle.proc_replay.specs.Course.{turns}
+use Rattle.proc_replay.specs.Course.{after_turns}
 use Rattle.proc_replay.specs.Replaying.{Replaying}
 use Rattle.group_state.specs.declared.stand.Stand.{Stand}
 use Rattle.group_state.specs.Moves.{event_of, last_event_of}
-use Rattle.group_state.specs.Place.{events, node_event_count}
+use Rattle.group_state.specs.Place.{events_of_replays, node_event_count}
 
 -- each replay from this node on, after as many turns as it has events among these
 abbrev pub parts_from : ℕ → List Replaying → List (NodeEvent Entry) → List Replaying
 parts_from node [] es = []
-parts_from node (r ∷ rs) es = turns r (node_event_count node es) ∷ parts_from (suc node) rs es
+parts_from node (r ∷ rs) es = after_turns r (node_event_count node es) ∷ parts_from (suc node) rs es
 
 -- the memory of each process is one: whole pages, no more than its maximum
-abbrev pub AreSound : List Replaying → Type 0
-AreSound parts = All (λ r. IsMemory r.state.store.memory) parts
+abbrev pub AreSoundMemories : List Replaying → Type 0
+AreSoundMemories parts = All (λ r. IsMemory r.state.store.memory) parts
 
 -- the group of these replays stands so at some position: the parts had the turns of the events before it
 pub record IsStand (start : List Replaying) (stand : Stand) : Type 0 where
-  pub parts : stand.parts.items ≡ parts_from 0 start (take stand.at (events start))
-  pub within : stand.at ≤ length (events start)
+  pub parts : stand.parts.items ≡ parts_from 0 start (take stand.at (events_of_replays start))
+  pub within : stand.at ≤ length (events_of_replays start)
   pub last : option_map event_of stand.last ≡ last_event_of (record { start = start; at = stand.at })
-  pub sound : AreSound stand.parts.items
+  pub sound : AreSoundMemories stand.parts.items
 
 -- and so it does at each of several
 abbrev pub AreStands : List Replaying → List Stand → Type 0
@@ -36,8 +36,8 @@ pub record SameStand (stand copy : Stand) : Type 0 where
   pub last : copy.last ≡ stand.last
 
 -- the new ones are where a group is, if the old are
-abbrev pub StillStand : List Stand → List Stand → Type 0
-StillStand old new = (start : List Replaying) → AreStands start old → AreStands start new
+abbrev pub StillStandGroups : List Stand → List Stand → Type 0
+StillStandGroups old new = (start : List Replaying) → AreStands start old → AreStands start new
 
 -- if the old are and this one is
 abbrev pub KeepsStands : List Stand → Stand → List Stand → Type 0

@@ -9,10 +9,10 @@ use Rattle.proc_replay.specs.Replaying.{Replaying}
 use Rattle.watch_expr.specs.declared.reads.Place.{Place as Location}
 use Rattle.watch_expr.specs.declared.reads.Place.TheVariants as location
 use Rattle.watch_expr.specs.Expression.{Expression}
-use Rattle.watch_expr.specs.Reads.{reads}
+use Rattle.watch_expr.specs.Reads.{reads_of_expression}
 use Rattle.page_watch.specs.Touch.{node_of}
 use Rattle.group_state.specs.Moves.{event_before}
-use Rattle.group_state.specs.Place.{events, states}
+use Rattle.group_state.specs.Place.{events_of_replays, states_of_nodes}
 use Rattle.group_state.specs.Seen.{nodes_at}
 
 -- the number of the event of its process that touched it last: that wrote to a byte of the page, set the global, or made
@@ -35,19 +35,19 @@ is_touched_by (Some e) now l = e.node == node_of l && is_touched_in (slice_get n
 
 -- the event that came to position k touched it
 abbrev pub is_touched_at : List Replaying → ℕ → Location → Bool
-is_touched_at start k l = is_touched_by (event_before (events start) k) (states start k) l
+is_touched_at start k l = is_touched_by (event_before (events_of_replays start) k) (states_of_nodes start k) l
 
 -- the last position up to this one whose event touched it, and 0 where none did
-abbrev pub mark : List Replaying → ℕ → Location → ℕ
-mark start zero l = 0
-mark start (suc k) l = if is_touched_at start (suc k) l then suc k else mark start k l
+abbrev pub mark_of_place : List Replaying → ℕ → Location → ℕ
+mark_of_place start zero l = 0
+mark_of_place start (suc k) l = if is_touched_at start (suc k) l then suc k else mark_of_place start k l
 
 -- the event that came to position k touched something that the expression read just before
-abbrev pub is_met : List Replaying → ℕ → Expression → Bool
-is_met start zero x = false
-is_met start (suc k) x = list_any (is_touched_at start (suc k)) (reads (nodes_at (record { start = start; at = k })) x)
+abbrev pub is_met_by_event : List Replaying → ℕ → Expression → Bool
+is_met_by_event start zero x = false
+is_met_by_event start (suc k) x = list_any (is_touched_at start (suc k)) (reads_of_expression (nodes_at (record { start = start; at = k })) x)
 
 -- how often that is so, for each of these expressions, at so many positions after this one
-abbrev pub ticks : List Replaying → List Expression → ℕ → ℕ → ℕ
-ticks start xs at zero = 0
-ticks start xs at (suc n) = ticks start xs at n + count_by (is_met start (at + suc n)) xs
+abbrev pub watch_ticks : List Replaying → List Expression → ℕ → ℕ → ℕ
+watch_ticks start xs at zero = 0
+watch_ticks start xs at (suc n) = watch_ticks start xs at n + count_by (is_met_by_event start (at + suc n)) xs

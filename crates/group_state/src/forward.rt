@@ -1,14 +1,14 @@
 // One turn of a group's node.
 ghost use Rattle.std.specs.Prelude.{◌≡◌, ◌<◌, IfOk, length};
-ghost use Rattle.group_state.specs.Place.{head};
-ghost use Rattle.group_state.specs.Moves.{Turns};
+ghost use Rattle.group_state.specs.Place.{head_of_replay};
+ghost use Rattle.group_state.specs.Moves.{NodeTurns};
 
 use proc_replay::{Replayer, Turn};
 use std::alloc::AllocError;
 
 /// The clock of a replay's next event, where it has one.
 pub(crate) fn head_of(part: &Replayer<'_, '_>) -> Option<u64>
-    ensures { result ≡ head part.now }
+    ensures { result ≡ head_of_replay part.now }
 {
     match part.peek() {
         Turn::Event(entry) => Some(entry.clock),
@@ -23,7 +23,7 @@ pub(crate) fn take_turn<'a>(
     node: u32,
 ) -> Result<Turn<'a>, AllocError>
     requires { node < length parts.old.items }
-    ensures { IfOk result (Turns parts.old.items node parts.new.items) }
+    ensures { IfOk result (NodeTurns parts.old.items node parts.new.items) }
 {
     let last = parts.len() - 1;
     let part = parts.swap_remove(node as usize);

@@ -1,8 +1,8 @@
 // A group at a position.
 ghost use Rattle.std.specs.Prelude.{◌≡◌, ◌≤◌, ◌-◌, ℕ, Some, None, IfOk, IsTrue, IsFalse, OnOk, ◌↔◌, length, map, option_map, slice_get};
-ghost use Rattle.group_state.specs.Place.{AreParts, PartsFit, GroupPlace, events, states};
+ghost use Rattle.group_state.specs.Place.{AreParts, PartsFit, GroupPlace, events_of_replays, states_of_nodes};
 ghost use Rattle.group_state.specs.At.{IsSoundCourse, place_of_course};
-ghost use Rattle.group_state.specs.Moves.{IsAtPosition, Moves, event_of, last_event_of};
+ghost use Rattle.group_state.specs.Moves.{IsAtPosition, GroupMoves, event_of, last_event_of};
 
 use crate::checkpoints::Checkpoints;
 use crate::event::GroupEvent;
@@ -43,7 +43,7 @@ impl<'m, 'a> Course<'m, 'a> {
     fn forward(&mut self) -> Result<Option<GroupEvent<'a>>, AllocError>
         requires { IsSoundCourse self.old }
         ensures sound { OnOk result (IsSoundCourse self.new) }
-        ensures moves { IfOk result (Moves (place_of_course self.old) (place_of_course self.new)) }
+        ensures moves { IfOk result (GroupMoves (place_of_course self.old) (place_of_course self.new)) }
     {
         group_order::laws::merges::<Entry>();
         proc_replay::laws::replays();
@@ -95,7 +95,7 @@ impl<'m, 'a> Course<'m, 'a> {
     // The replay of a node, at the position.
     fn replay(&self, node: u32) -> Option<&Replayer<'m, 'a>>
         requires { IsSoundCourse self.now }
-        ensures { option_map (λ part. part.now.state) result ≡ slice_get (states self.now.first.items self.now.here.at) node }
+        ensures { option_map (λ part. part.now.state) result ≡ slice_get (states_of_nodes self.now.first.items self.now.here.at) node }
     {
         group_order::laws::merges::<Entry>();
         proc_replay::laws::replays();
@@ -148,7 +148,7 @@ impl<'m, 'a> Group<'m, 'a> {
     /// The group after the next event, and that event. None comes exactly at the end, and the group is then
     /// as it was.
     pub fn forward(self) -> Result<(Group<'m, 'a>, Option<GroupEvent<'a>>), AllocError>
-        ensures { IfOk result (λ moved. Moves self.entry moved.0 moved.1) }
+        ensures { IfOk result (λ moved. GroupMoves self.entry moved.0 moved.1) }
     {
         let Group { mut course } = self;
         let event = course.forward()?;
@@ -185,7 +185,7 @@ impl<'m, 'a> Group<'m, 'a> {
         requires { self.at ≤ k }
         ensures start { IfOk result (λ went. went.0.start ≡ self.entry.start) }
         ensures there { IfOk result (λ went. IsTrue went.1 → went.0.at ≡ k) }
-        ensures within { IfOk result (λ went. IsTrue went.1 ↔ k ≤ length (events self.entry.start)) }
+        ensures within { IfOk result (λ went. IsTrue went.1 ↔ k ≤ length (events_of_replays self.entry.start)) }
     {
         let mut group = self;
         'events: while group.course.here.at < k {
@@ -201,7 +201,7 @@ impl<'m, 'a> Group<'m, 'a> {
     /// How many events have been made.
     pub fn position(&self) -> u64
         ensures position { result ≡ self.now.at }
-        ensures within { self.now.at ≤ length (events self.now.start) }
+        ensures within { self.now.at ≤ length (events_of_replays self.now.start) }
         ensures parts { AreParts self.now.start }
         ensures fits { PartsFit self.now.start }
     {
@@ -231,14 +231,14 @@ impl<'m, 'a> Group<'m, 'a> {
 
     /// The process of a node, at the position. None comes exactly where there is no such node.
     pub fn process(&self, node: u32) -> Option<&Process<'m>>
-        ensures { option_map (λ process. process.now) result ≡ slice_get (states self.now.start self.now.at) node }
+        ensures { option_map (λ process. process.now) result ≡ slice_get (states_of_nodes self.now.start self.now.at) node }
     {
         Some(self.replay(node)?.process())
     }
 
     // The replay of a node, at the position.
     pub(crate) fn replay(&self, node: u32) -> Option<&Replayer<'m, 'a>>
-        ensures { option_map (λ part. part.now.state) result ≡ slice_get (states self.now.start self.now.at) node }
+        ensures { option_map (λ part. part.now.state) result ≡ slice_get (states_of_nodes self.now.start self.now.at) node }
     {
         self.course.replay(node)
     }

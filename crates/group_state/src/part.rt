@@ -3,10 +3,10 @@ ghost use Rattle.std.specs.Prelude.{◌≡◌, ◌++◌, Some, OnOk, IfOk, optio
 ghost use Rattle.lib_calls.specs.Traffic.{prints};
 ghost use Rattle.guest_process.specs.declared.verdict.Verdict.{Verdict as VerdictOf};
 ghost use Rattle.guest_process.specs.Replay.{left_over};
-ghost use Rattle.proc_replay.specs.Course.{Tells, ahead};
+ghost use Rattle.proc_replay.specs.Course.{TellsVerdict, entries_ahead};
 ghost use Rattle.proc_replay.specs.Replaying.{turn};
-ghost use Rattle.group_state.specs.Report.{EndsAt, accepted_in};
-ghost use Rattle.group_state.specs.Tallying.{AreNew, HasTallyRoomFor, with_all_accepted};
+ghost use Rattle.group_state.specs.Report.{EndsAtReplay, accepted_in};
+ghost use Rattle.group_state.specs.Tallying.{AreNewEvents, HasTallyRoomFor, with_all_accepted};
 
 use crate::tally::Tally;
 use fri_bytes::Bytes;
@@ -20,10 +20,10 @@ pub(crate) fn tally_events<'m, 'a>(
     part: Replayer<'m, 'a>,
     tally: &mut Tally,
 ) -> Result<Replayer<'m, 'a>, AllocError>
-    requires new { AreNew tally.old (accepted_in part) }
+    requires new { AreNewEvents tally.old (accepted_in part) }
     requires room { HasTallyRoomFor tally.old (accepted_in part) }
     ensures tally { OnOk result (tally.new ≡ with_all_accepted tally.old (accepted_in part.entry)) }
-    ensures ends { IfOk result (EndsAt part.entry) }
+    ensures ends { IfOk result (EndsAtReplay part.entry) }
 {
     proc_replay::laws::replays();
     let process = part.head().process;
@@ -44,8 +44,8 @@ pub(crate) fn print_events<'m, 'a>(
     part: Replayer<'m, 'a>,
     out: &mut Bytes,
 ) -> Result<Replayer<'m, 'a>, AllocError>
-    ensures out { OnOk result (out.new ≡ out.old ++ prints (ahead part.entry)) }
-    ensures ends { IfOk result (EndsAt part.entry) }
+    ensures out { OnOk result (out.new ≡ out.old ++ prints (entries_ahead part.entry)) }
+    ensures ends { IfOk result (EndsAtReplay part.entry) }
 {
     proc_replay::laws::replays();
     let mut part = part;
@@ -71,8 +71,8 @@ fn left_over(rest: &[u8]) -> Verdict
 
 /// The verdict on a log at whose end a replay is.
 pub(crate) fn verdict(part: &Replayer<'_, '_>) -> Verdict
-    requires { (v : VerdictOf) × Tells (turn part.now) part.now.left.bytes v }
-    ensures { (v : VerdictOf) → Tells (turn part.now) part.now.left.bytes v → result ≡ v }
+    requires { (v : VerdictOf) × TellsVerdict (turn part.now) part.now.left.bytes v }
+    ensures { (v : VerdictOf) → TellsVerdict (turn part.now) part.now.left.bytes v → result ≡ v }
 {
     match part.peek() {
         Turn::Event(_) => unreachable!(),

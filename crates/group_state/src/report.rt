@@ -2,7 +2,7 @@
 ghost use Rattle.std.specs.Prelude.{◌≡◌, IfOk, OnOk};
 ghost use Rattle.group_state.specs.Place.{AreParts, PartsFit, group_count};
 ghost use Rattle.group_state.specs.Report.{IsReport, accepted_in, report_line};
-ghost use Rattle.group_state.specs.Tallying.{AreNew, HasTallyRoomFor, with_all_accepted};
+ghost use Rattle.group_state.specs.Tallying.{AreNewEvents, HasTallyRoomFor, with_all_accepted};
 
 use crate::part::{tally_events, verdict};
 use crate::tally::Tally;
@@ -50,7 +50,7 @@ fn report_log(
     tally: &mut Tally,
 ) -> Result<ReportLine, AllocError>
     requires fresh { part.state.events ≡ 0 }
-    requires new { AreNew tally.old (accepted_in part) }
+    requires new { AreNewEvents tally.old (accepted_in part) }
     requires room { HasTallyRoomFor tally.old (accepted_in part) }
     ensures tally { OnOk result (tally.new ≡ with_all_accepted tally.old (accepted_in part.entry)) }
     ensures line { IfOk result (λ line. line ≡ report_line part.entry) }

@@ -1,7 +1,7 @@
 // Where a group is.
 ghost use Rattle.std.specs.Prelude.{◌≡◌, ◌≤◌, ℕ, IfOk, IfSome, length, map};
-ghost use Rattle.group_state.specs.Place.{PartsFit, head};
-ghost use Rattle.group_state.specs.Stands.{AreSound, IsStand, SameStand};
+ghost use Rattle.group_state.specs.Place.{PartsFit, head_of_replay};
+ghost use Rattle.group_state.specs.Stands.{AreSoundMemories, IsStand, SameStand};
 
 use crate::event::GroupEvent;
 use crate::forward::head_of;
@@ -68,7 +68,7 @@ fn copy_parts<'m, 'a>(
 ) -> Result<Vec<Replayer<'m, 'a>>, AllocError>
     ensures items { IfOk result (λ copies. copies.items ≡ parts.now) }
     ensures fits { IfOk result (λ _. PartsFit parts.now) }
-    ensures sound { IfOk result (λ _. AreSound parts.now) }
+    ensures sound { IfOk result (λ _. AreSoundMemories parts.now) }
 {
     let mut copies = Vec::new(alloc);
     for part in parts {
@@ -83,7 +83,7 @@ fn copy_parts<'m, 'a>(
 /// Which of these replays has the next event of their group.
 pub(crate) fn merge_of(alloc: Global, parts: &[Replayer<'_, '_>]) -> Result<Merge, AllocError>
     requires { length parts.now ≤ 16 }
-    ensures { IfOk result (λ merge. merge ≡ map head parts.now) }
+    ensures { IfOk result (λ merge. merge ≡ map head_of_replay parts.now) }
 {
     let mut merge = Merge::new(alloc, parts.len() as u32)?;
     for (node, part) in parts.iter().enumerate() {

@@ -1,7 +1,7 @@
 // What the accepted events of a group say of datagrams.
 ghost use Rattle.std.specs.Prelude.{◌≡◌, ◌+◌, ◌<◌, ◌^◌, OnOk};
 ghost use Rattle.lib_calls.specs.Entry.{entry_of};
-ghost use Rattle.group_state.specs.Tallying.{HasTallyRoom, IsNewSend, counts_of, is_matched_in, nothing_of, unmatched_in, with_accepted, with_receipt, with_send};
+ghost use Rattle.group_state.specs.Tallying.{HasTallyRoom, IsNewSend, counts_of, is_matched_in, nothing_tallied, unmatched_receipts_in, with_accepted, with_receipt, with_send};
 
 use group_order::SendIndex;
 use lamport_tag::Tag;
@@ -37,9 +37,9 @@ pub struct Tally {
 }
 
 impl Model for Tally {
-    ghost use Rattle.group_state.specs.Tallying.{Tallying, tallying_code};
+    ghost use Rattle.group_state.specs.Tallying.{GroupTallying, tallying_code};
 
-    ghost Value = { Tallying };
+    ghost Value = { GroupTallying };
 
     ghost coded = { tallying_code };
 
@@ -55,7 +55,7 @@ impl Model for Tally {
 impl Tally {
     /// No events, of a group of `count`.
     pub fn new(alloc: Global, count: u32) -> Tally
-        ensures { result ≡ nothing_of count }
+        ensures { result ≡ nothing_tallied count }
     {
         Tally {
             count,
@@ -127,7 +127,7 @@ fn is_matched(sent: &SendIndex, receipt: Receipt) -> bool
 }
 
 fn unmatched(sent: &SendIndex, taken: &[Receipt]) -> u64
-    ensures { result ≡ unmatched_in sent.now taken.now }
+    ensures { result ≡ unmatched_receipts_in sent.now taken.now }
 {
     let unmatched = taken
         .iter()

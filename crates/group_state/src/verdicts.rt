@@ -1,7 +1,7 @@
 // The verdict on one log of a group.
 ghost use Rattle.std.specs.Prelude.{◌≡◌, length, map, slice_get};
 ghost use Rattle.group_state.specs.At.{IsSoundCourse};
-ghost use Rattle.group_state.specs.Place.{events};
+ghost use Rattle.group_state.specs.Place.{events_of_replays};
 ghost use Rattle.group_state.specs.Report.{verdict_on};
 
 use crate::group::{Course, Group};
@@ -13,7 +13,7 @@ impl<'m, 'a> Group<'m, 'a> {
     /// The verdict on a node's log, of a group at its end: there each log has been replayed to its first entry that is not
     /// legal, or to its end. None comes exactly where there is no such node.
     pub fn verdict(&self, node: u32) -> Option<Verdict>
-        requires { self.now.at ≡ length (events self.now.start) }
+        requires { self.now.at ≡ length (events_of_replays self.now.start) }
         ensures { result ≡ slice_get (map verdict_on self.now.start) node }
     {
         self.course.verdict(node)
@@ -23,7 +23,7 @@ impl<'m, 'a> Group<'m, 'a> {
 impl<'m, 'a> Course<'m, 'a> {
     fn verdict(&self, node: u32) -> Option<Verdict>
         requires sound { IsSoundCourse self.now }
-        requires end { self.now.here.at ≡ length (events self.now.first.items) }
+        requires end { self.now.here.at ≡ length (events_of_replays self.now.first.items) }
         ensures { result ≡ slice_get (map verdict_on self.now.first.items) node }
     {
         group_order::laws::merges::<Entry>();

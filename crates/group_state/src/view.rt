@@ -20,12 +20,12 @@ fn signed_global(value: Value) -> i64
 
 impl<'m, 'a> Group<'m, 'a> {
     ghost use Rattle.std.specs.Prelude.{◌<◌, ◌^◌, Some, length, slice_get};
-    ghost use Rattle.group_state.specs.Place.{states};
+    ghost use Rattle.group_state.specs.Place.{states_of_nodes};
 
     // The process of a node that is there.
     fn at(&self, node: u32) -> &Process<'m>
-        requires { node < length (states self.now.start self.now.at) }
-        ensures found { slice_get (states self.now.start self.now.at) node ≡ Some result.now }
+        requires { node < length (states_of_nodes self.now.start self.now.at) }
+        ensures found { slice_get (states_of_nodes self.now.start self.now.at) node ≡ Some result.now }
         ensures few { result.now.events < 2 ^ 61 }
     {
         let Some(replay) = self.replay(node) else {
@@ -72,16 +72,16 @@ impl<'m, 'a> View for Group<'m, 'a> {
 
 impl<'m, 'a> Group<'m, 'a> {
     ghost use Rattle.std.specs.Prelude.{None, slice_get};
-    ghost use Rattle.group_state.specs.Place.{GroupPlace, states};
-    ghost use Rattle.group_state.specs.Touch.{mark_in, mark};
+    ghost use Rattle.group_state.specs.Place.{GroupPlace, states_of_nodes};
+    ghost use Rattle.group_state.specs.Touch.{mark_in, mark_of_place};
     ghost use Rattle.guest_process.specs.State.{State};
     ghost use Rattle.watch_expr.specs.declared.reads.Place.{Place as Location};
     ghost use Rattle.page_watch.specs.Touch.{node_of};
 
     // The position at which a node had its event of this number, which is that of the last event that touched a place.
     fn position_of(&self, node: u32, number: u64) -> u64
-        ensures { (S : State) (l : Location) → slice_get (states self.now.start self.now.at) node ≡ Some S → node_of l ≡ node → number ≡ mark_in S l
-            → result ≡ mark self.now.start self.now.at l }
+        ensures { (S : State) (l : Location) → slice_get (states_of_nodes self.now.start self.now.at) node ≡ Some S → node_of l ≡ node → number ≡ mark_in S l
+            → result ≡ mark_of_place self.now.start self.now.at l }
     {
         self.course.position_of(node, number)
     }
@@ -90,16 +90,16 @@ impl<'m, 'a> Group<'m, 'a> {
 impl<'m, 'a> Course<'m, 'a> {
     ghost use Rattle.std.specs.Prelude.{slice_get, Some};
     ghost use Rattle.group_state.specs.At.{IsSoundCourse};
-    ghost use Rattle.group_state.specs.Place.{states};
-    ghost use Rattle.group_state.specs.Touch.{mark_in, mark};
+    ghost use Rattle.group_state.specs.Place.{states_of_nodes};
+    ghost use Rattle.group_state.specs.Touch.{mark_in, mark_of_place};
     ghost use Rattle.guest_process.specs.State.{State};
     ghost use Rattle.watch_expr.specs.declared.reads.Place.{Place as Location};
     ghost use Rattle.page_watch.specs.Touch.{node_of};
 
     fn position_of(&self, node: u32, number: u64) -> u64
         requires { IsSoundCourse self.now }
-        ensures { (S : State) (l : Location) → slice_get (states self.now.first.items self.now.here.at) node ≡ Some S → node_of l ≡ node → number ≡ mark_in S l
-            → result ≡ mark self.now.first.items self.now.here.at l }
+        ensures { (S : State) (l : Location) → slice_get (states_of_nodes self.now.first.items self.now.here.at) node ≡ Some S → node_of l ≡ node → number ≡ mark_in S l
+            → result ≡ mark_of_place self.now.first.items self.now.here.at l }
     {
         crate::laws::stepwise();
         guest_process::laws::rises();
@@ -112,13 +112,13 @@ impl<'m, 'a> Course<'m, 'a> {
 impl<'m, 'a> TouchView for Group<'m, 'a> {
     ghost use Rattle.group_state.specs.Place.{GroupPlace};
     ghost use Rattle.group_state.specs.Seen.{nodes_at};
-    ghost use Rattle.group_state.specs.Touch.{mark};
+    ghost use Rattle.group_state.specs.Touch.{mark_of_place};
 
     ghost states = { λ place k. nodes_at (record place { at = k }) };
 
     ghost at = { λ place. place.at };
 
-    ghost marks = { λ place. mark place.start place.at };
+    ghost marks = { λ place. mark_of_place place.start place.at };
 
     fn position(&self) -> u64 {
         group_order::laws::merges::<Entry>();

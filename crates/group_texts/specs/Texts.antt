@@ -15,7 +15,7 @@ use Rattle.guest_process.specs.State.{State, is_running}
 use Rattle.group_order.specs.Order.{NodeEvent}
 use Rattle.proc_replay.specs.Replaying.{Replaying}
 use Rattle.group_state.specs.Moves.{last_event_of}
-use Rattle.group_state.specs.Place.{GroupPlace, events, node_names}
+use Rattle.group_state.specs.Place.{GroupPlace, events_of_replays, node_names}
 use Rattle.end_text.specs.Ends.{end_text}
 
 -- ---- calls
@@ -90,7 +90,7 @@ event_lines start k (e ∷ es) = event_line start k e ++ event_lines start (suc 
 
 -- the last n events up to the position
 abbrev pub last_lines : GroupPlace → ℕ → List ℕ
-last_lines place n = event_lines place.start (suc (place.at - n)) (drop (place.at - n) (take place.at (events place.start)))
+last_lines place n = event_lines place.start (suc (place.at - n)) (drop (place.at - n) (take place.at (events_of_replays place.start)))
 
 -- ---- threads
 

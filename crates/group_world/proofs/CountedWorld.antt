@@ -7,7 +7,7 @@ use Rattle.lib_calls.specs.declared.entry.Entry.{Entry}
 use Rattle.lib_calls.specs.Traffic.{drawn, is_sent, is_taken}
 use Rattle.lossy_net.specs.Network.{Traffic, no_traffic, nth_of, sent_by, traffic_of, with_delivered}
 use Rattle.signal_points.specs.Signals.{is_signal, most_signal}
-use Rattle.group_world.specs.History.{Act, Event, Deliver, Inject, Clock, Random, Signal, Kill, History, addressed, given, is_killed, is_pending, mailbox, one_if, pool, put_last_if, sends, supplied, taken_count, time, used_count}
+use Rattle.group_world.specs.History.{Act, Event, Deliver, Inject, Clock, Random, Signal, Kill, History, addressed_datagram, given, is_killed, is_pending, mailbox, one_if, pool, put_last_if, sends, supplied_bytes, taken_count, time, used_count}
 use Rattle.group_world.specs.Laws.{CanBe, CanFollow, Counting, IsCounted, sent_as}
 use Rattle.group_world.specs.World.{Surroundings, World, after_entry, has_pending, new_world, no_surroundings, sent_if, process_count, surroundings_of, took_if, with_act, without_signal, world_after}
 use Rattle.group_world.proofs.ListEnds.{put_last_is}
@@ -47,7 +47,7 @@ surroundings_stay count (a ∷ h) = surroundings-after (world_after count h) a �
 -- what process p took is a part of what it was given
 record IsWithin (count : ℕ) (h : History) (p : ℕ) : Type 0 where
   datagrams : taken_count h p ≤ length (given count h p)
-  bytes : used_count h p ≤ length (supplied h p)
+  bytes : used_count h p ≤ length (supplied_bytes h p)
 
 one_more : (mine takes : Bool) (before all : ℕ) → before ≤ all → (mine ≡ true → IsTrue takes → 1 ≤ all - before) → before + one_if (mine && takes) ≤ all
 one_more true true before all within can = let left : 1 ≤ all - before = can refl refl in omega arith
@@ -69,8 +69,8 @@ within_next : (count : ℕ) (h : History) (a : Act) (p : ℕ) → CanFollow coun
 within_next count h (Event q e) p can within = record {
   datagrams = one_more (q == p) (is_taken e) (taken_count h p) (length (given count h p)) within.datagrams
       (λ mine takes. subst (λ n. 1 ≤ n) (length-drop (taken_count h p) (given count h p)) (subst (λ k. 1 ≤ length (mailbox count h k)) (eqb-true q p mine) (can.1.datagrams takes)));
-  bytes = so_many_more (q == p) (used_count h p) (drawn e) (length (supplied h p)) within.bytes
-      (λ mine. subst (λ n. drawn e ≤ n) (length-drop (used_count h p) (supplied h p)) (subst (λ k. drawn e ≤ length (pool h k)) (eqb-true q p mine) can.1.bytes));
+  bytes = so_many_more (q == p) (used_count h p) (drawn e) (length (supplied_bytes h p)) within.bytes
+      (λ mine. subst (λ n. drawn e ≤ n) (length-drop (used_count h p) (supplied_bytes h p)) (subst (λ k. drawn e ≤ length (pool h k)) (eqb-true q p mine) can.1.bytes));
 }
 within_next count h (Deliver q n) p can within = record { datagrams = longer _ (given count h p) _ within.datagrams; bytes = within.bytes }
 within_next count h (Inject q bytes) p can within = record {
@@ -78,7 +78,7 @@ within_next count h (Inject q bytes) p can within = record {
   bytes = within.bytes;
 }
 within_next count h (Clock q value) p can within = record { datagrams = within.datagrams; bytes = within.bytes }
-within_next count h (Random q bytes) p can within = record { datagrams = within.datagrams; bytes = longer_if (q == p) _ (supplied h p) bytes within.bytes }
+within_next count h (Random q bytes) p can within = record { datagrams = within.datagrams; bytes = longer_if (q == p) _ (supplied_bytes h p) bytes within.bytes }
 within_next count h (Signal q s) p can within = record { datagrams = within.datagrams; bytes = within.bytes }
 within_next count h (Kill q) p can within = record { datagrams = within.datagrams; bytes = within.bytes }
 
@@ -215,7 +215,7 @@ event_counted count h w p q e b =
       mailbox = ap (λ (t : Traffic). t.waiting) traffic
           ∙ ap (drop (one_if ((q == p) && is_taken e))) b.counted.mailbox
           ∙ drop-drop (one_if ((q == p) && is_taken e)) (taken_count h p) (given count h p);
-      pool = ap (λ (s : Surroundings). s.pool) place ∙ pool_drew (q == p) (surroundings_of w p) e (used_count h p) (supplied h p) b.counted.pool;
+      pool = ap (λ (s : Surroundings). s.pool) place ∙ pool_drew (q == p) (surroundings_of w p) e (used_count h p) (supplied_bytes h p) b.counted.pool;
       time = ap (λ (s : Surroundings). s.time) place ∙ part_stays (λ s. s.time) (λ s. after_entry s e) (q == p) (surroundings_of w p) refl ∙ b.counted.time;
       killed = ap (λ (s : Surroundings). s.killed) place ∙ part_stays (λ s. s.killed) (λ s. after_entry s e) (q == p) (surroundings_of w p) refl ∙ b.counted.killed;
       pending = λ s first last. ap (λ (x : Surroundings). get_or x.pending s false) place
@@ -231,8 +231,8 @@ deliver_counted count h w p q n b sender =
     record {
       sent = ap (λ (t : Traffic). t.sent) traffic ∙ b.counted.sent;
       mailbox = ap (λ (t : Traffic). t.waiting) traffic
-          ∙ ap (λ waiting. waiting ++ addressed q p (nth_of (sends count h q) n)) b.counted.mailbox
-          ∙ sym (drop-append-le (taken_count h p) (given count h p) (addressed q p (nth_of (sends count h q) n)) b.within.datagrams);
+          ∙ ap (λ waiting. waiting ++ addressed_datagram q p (nth_of (sends count h q) n)) b.counted.mailbox
+          ∙ sym (drop-append-le (taken_count h p) (given count h p) (addressed_datagram q p (nth_of (sends count h q) n)) b.within.datagrams);
       pool = b.counted.pool;
       time = b.counted.time;
       killed = b.counted.killed;
@@ -276,7 +276,7 @@ random_counted count h w p q bytes b =
     record {
       sent = b.counted.sent;
       mailbox = b.counted.mailbox;
-      pool = ap (λ (s : Surroundings). s.pool) place ∙ pool_added (q == p) (surroundings_of w p) bytes (used_count h p) (supplied h p) b.within.bytes b.counted.pool;
+      pool = ap (λ (s : Surroundings). s.pool) place ∙ pool_added (q == p) (surroundings_of w p) bytes (used_count h p) (supplied_bytes h p) b.within.bytes b.counted.pool;
       time = ap (λ (s : Surroundings). s.time) place ∙ part_stays (λ s. s.time) (λ s. record s { pool = s.pool ++ bytes }) (q == p) (surroundings_of w p) refl ∙ b.counted.time;
       killed = ap (λ (s : Surroundings). s.killed) place ∙ part_stays (λ s. s.killed) (λ s. record s { pool = s.pool ++ bytes }) (q == p) (surroundings_of w p) refl ∙ b.counted.killed;
       pending = λ s first last. ap (λ (x : Surroundings). get_or x.pending s false) place

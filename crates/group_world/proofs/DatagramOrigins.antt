@@ -7,8 +7,8 @@ use Rattle.std.proofs.lemmas.List.Elements.{Contains-append_cases, Contains-appe
 use Rattle.lib_calls.specs.declared.entry.Entry.{Entry}
 use Rattle.lib_calls.specs.Traffic.{is_sent}
 use Rattle.lossy_net.specs.Network.{nth_of}
-use Rattle.group_world.specs.History.{Act, Event, Deliver, Inject, History, addressed, datagram, given, put_last_if, sends, taken_count}
-use Rattle.group_world.specs.Laws.{HasOrigin, Origin, FromOutside, FromSend}
+use Rattle.group_world.specs.History.{Act, Event, Deliver, Inject, History, addressed_datagram, datagram, given, put_last_if, sends, taken_count}
+use Rattle.group_world.specs.Laws.{HasOrigin, OriginOfDatagram, FromOutside, FromSend}
 
 -- ---- lists
 
@@ -44,7 +44,7 @@ stays_sent count h (Event p last) q n e found = nth-push_if ((p == q) && is_sent
 stays_sent count h a q n e found = found
 
 -- what has an origin has it after a further act
-later : (count : ℕ) (h : History) (p : ℕ) (bytes : List ℕ) (a : Act) → Origin count h p bytes → Origin count (a ∷ h) p bytes
+later : (count : ℕ) (h : History) (p : ℕ) (bytes : List ℕ) (a : Act) → OriginOfDatagram count h p bytes → OriginOfDatagram count (a ∷ h) p bytes
 later count h p bytes a (FromOutside came) = FromOutside (held_before a h (Inject p bytes) came)
 later count h p bytes a (FromSend q n e delivered found to is) =
     FromSend q n e (held_before a h (Deliver q n) delivered) (stays_sent count h a q n e found) to is
@@ -57,15 +57,15 @@ addressed_to p q e true bytes held = (refl, is_only (datagram q e) bytes held)
 addressed_to p q e false bytes held = absurd (not_in_none bytes held)
 
 delivers : (count : ℕ) (h : History) (p q n : ℕ) (bytes : List ℕ) (found : Option Entry) → nth_of (sends count h q) n ≡ found
-    → Contains (addressed q p found) bytes → Origin count (Deliver q n ∷ h) p bytes
+    → Contains (addressed_datagram q p found) bytes → OriginOfDatagram count (Deliver q n ∷ h) p bytes
 delivers count h p q n bytes None found held = absurd (not_in_none bytes held)
 delivers count h p q n bytes (Some e) found held =
     let facts = addressed_to p q e (e.call.a0 == p) bytes held in
     FromSend q n e (held_first h (Deliver q n)) found (eqb-true e.call.a0 p facts.0) (sym facts.1)
 
 injects : (count : ℕ) (h : History) (p q : ℕ) (given_bytes bytes : List ℕ) (before : List (List ℕ)) (mine : Bool) → (q == p) ≡ mine
-    → (Contains before bytes → Origin count (Inject q given_bytes ∷ h) p bytes)
-    → Contains (put_last_if mine before given_bytes) bytes → Origin count (Inject q given_bytes ∷ h) p bytes
+    → (Contains before bytes → OriginOfDatagram count (Inject q given_bytes ∷ h) p bytes)
+    → Contains (put_last_if mine before given_bytes) bytes → OriginOfDatagram count (Inject q given_bytes ∷ h) p bytes
 injects count h p q given_bytes bytes before true is earlier held = ⊎_elim
     earlier
     (λ same. FromOutside (subst (λ a. Contains (Inject q given_bytes ∷ h) a) (ap (λ k. Inject k given_bytes) (eqb-true q p is) ∙ ap (Inject p) same) (held_first h (Inject q given_bytes))))
@@ -74,12 +74,12 @@ injects count h p q given_bytes bytes before false is earlier held = earlier hel
 
 -- ---- all acts
 
-given_has_origin : (count : ℕ) (h : History) (p : ℕ) (bytes : List ℕ) → Contains (given count h p) bytes → Origin count h p bytes
+given_has_origin : (count : ℕ) (h : History) (p : ℕ) (bytes : List ℕ) → Contains (given count h p) bytes → OriginOfDatagram count h p bytes
 given_has_origin count [] p bytes held = absurd (not_in_none bytes held)
 given_has_origin count (Deliver q n ∷ h) p bytes held = ⊎_elim
     (λ before. later count h p bytes (Deliver q n) (given_has_origin count h p bytes before))
     (λ last. delivers count h p q n bytes (nth_of (sends count h q) n) refl last)
-    (Contains-append_cases (given count h p) (addressed q p (nth_of (sends count h q) n)) bytes held)
+    (Contains-append_cases (given count h p) (addressed_datagram q p (nth_of (sends count h q) n)) bytes held)
 given_has_origin count (Inject q last ∷ h) p bytes held =
     injects count h p q last bytes (given count h p) (q == p) refl
     (λ before. later count h p bytes (Inject q last) (given_has_origin count h p bytes before)) held

@@ -5,8 +5,8 @@ use Rattle.std.proofs.lemmas.List.{append-nil}
 use Rattle.std.proofs.lemmas.Option.{same_Some}
 use Rattle.lib_calls.specs.declared.entry.Entry.{Entry}
 use Rattle.lossy_net.specs.Network.{nth_of}
-use Rattle.group_world.specs.History.{Act, Deliver, Inject, History, addressed, datagram, given, sends, taken_count}
-use Rattle.group_world.specs.Laws.{Giver, InTurn, gives}
+use Rattle.group_world.specs.History.{Act, Deliver, Inject, History, addressed_datagram, datagram, given, sends, taken_count}
+use Rattle.group_world.specs.Laws.{GiverOfDatagram, InTurn, gives}
 use Rattle.group_world.proofs.ListEnds.{put_last_is}
 
 -- ---- lists
@@ -35,7 +35,7 @@ one_at_most : {A : Type 0} (b : Bool) (x : A) → length (if b then x ∷ [] els
 one_at_most true x = omega arith
 one_at_most false x = omega arith
 
-addressed_once : (q p : ℕ) (found : Option Entry) → length (addressed q p found) ≤ 1
+addressed_once : (q p : ℕ) (found : Option Entry) → length (addressed_datagram q p found) ≤ 1
 addressed_once q p None = omega arith
 addressed_once q p (Some e) = one_at_most (e.call.a0 == p) (datagram q e)
 
@@ -51,7 +51,7 @@ given_next count h a p = sym (append-nil (given count h p))
 
 -- ---- all acts
 
-earlier_giver : (count : ℕ) (h : History) (a : Act) (p number : ℕ) (bytes : List ℕ) → Giver count h p number bytes → Giver count (a ∷ h) p number bytes
+earlier_giver : (count : ℕ) (h : History) (a : Act) (p number : ℕ) (bytes : List ℕ) → GiverOfDatagram count h p number bytes → GiverOfDatagram count (a ∷ h) p number bytes
 earlier_giver count h a p number bytes g = record {
   later = a ∷ g.later;
   act = g.act;
@@ -61,7 +61,7 @@ earlier_giver count h a p number bytes g = record {
   gives_it = g.gives_it;
 }
 
-has_giver : (count : ℕ) (h : History) (p number : ℕ) (bytes : List ℕ) → slice_get (given count h p) number ≡ Some bytes → Giver count h p number bytes
+has_giver : (count : ℕ) (h : History) (p number : ℕ) (bytes : List ℕ) → slice_get (given count h p) number ≡ Some bytes → GiverOfDatagram count h p number bytes
 has_giver count [] p number bytes found = absurd cc
 has_giver count (a ∷ h) p number bytes found = ⊎_elim
     (λ stood. earlier_giver count h a p number bytes (has_giver count h p number bytes stood))

@@ -6,7 +6,7 @@ use Rattle.std.proofs.lemmas.List.{append-nil, get_or-replicate}
 use Rattle.std.proofs.lemmas.Option.{slice_get-map}
 use Rattle.lib_calls.specs.declared.entry.Entry.{Entry}
 use Rattle.lossy_net.specs.Network.{Sent, Traffic, after_sending, no_traffic, nth_of, traffic_of, with_delivered, with_waiting}
-use Rattle.group_world.specs.History.{addressed, datagram, one_if, put_last_if}
+use Rattle.group_world.specs.History.{addressed_datagram, datagram, one_if, put_last_if}
 use Rattle.group_world.specs.Laws.{sent_as}
 use Rattle.group_world.specs.World.{sent_if, took_if}
 
@@ -91,7 +91,7 @@ traffic_of-waiting net q p bytes within = ⊎_elim
 
 -- the traffic of process p after a send of process q, if there is one, was delivered
 pub traffic_of-delivered : (net : List Traffic) (q p : ℕ) (found : Option Entry) → p < length net
-    → traffic_of (with_delivered net (option_map (sent_as q) found)) p ≡ and_waiting (traffic_of net p) (addressed q p found)
+    → traffic_of (with_delivered net (option_map (sent_as q) found)) p ≡ and_waiting (traffic_of net p) (addressed_datagram q p found)
 traffic_of-delivered net q p None within = none_waiting (traffic_of net p)
 traffic_of-delivered net q p (Some e) within = traffic_of-waiting net e.call.a0 p (datagram q e) within
 

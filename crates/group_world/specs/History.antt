@@ -44,15 +44,15 @@ abbrev pub datagram : ℕ → Entry → List ℕ
 datagram p e = tag_bytes (record { sender = p; clock = e.clock }) ++ e.outgoing
 
 -- the datagram of a send of process q, where it is for process p
-abbrev pub addressed : ℕ → ℕ → Option Entry → List (List ℕ)
-addressed q p None = []
-addressed q p (Some e) = if e.call.a0 == p then datagram q e ∷ [] else []
+abbrev pub addressed_datagram : ℕ → ℕ → Option Entry → List (List ℕ)
+addressed_datagram q p None = []
+addressed_datagram q p (Some e) = if e.call.a0 == p then datagram q e ∷ [] else []
 
 -- the datagrams that were given to a process: those from outside, and those that were delivered, each as
 -- its sender had sent it by then
 abbrev pub given : ℕ → History → ℕ → List (List ℕ)
 given count [] p = []
-given count (Deliver q n ∷ h) p = given count h p ++ addressed q p (nth_of (sends count h q) n)
+given count (Deliver q n ∷ h) p = given count h p ++ addressed_datagram q p (nth_of (sends count h q) n)
 given count (Inject q bytes ∷ h) p = put_last_if (q == p) (given count h p) bytes
 given count (_ ∷ h) p = given count h p
 
@@ -73,10 +73,10 @@ mailbox count h p = drop (taken_count h p) (given count h p)
 -- ---- random bytes
 
 -- the random bytes that came for a process
-abbrev pub supplied : History → ℕ → List ℕ
-supplied [] p = []
-supplied (Random q bytes ∷ h) p = if q == p then supplied h p ++ bytes else supplied h p
-supplied (_ ∷ h) p = supplied h p
+abbrev pub supplied_bytes : History → ℕ → List ℕ
+supplied_bytes [] p = []
+supplied_bytes (Random q bytes ∷ h) p = if q == p then supplied_bytes h p ++ bytes else supplied_bytes h p
+supplied_bytes (_ ∷ h) p = supplied_bytes h p
 
 -- how many of them it took
 abbrev pub used_count : History → ℕ → ℕ
@@ -86,7 +86,7 @@ used_count (_ ∷ h) p = used_count h p
 
 -- the pool of a process
 abbrev pub pool : History → ℕ → List ℕ
-pool h p = drop (used_count h p) (supplied h p)
+pool h p = drop (used_count h p) (supplied_bytes h p)
 
 -- ---- the rest
 

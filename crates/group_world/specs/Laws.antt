@@ -6,7 +6,7 @@ use Rattle.lib_calls.specs.declared.entry.Entry.{Entry}
 use Rattle.lib_calls.specs.Traffic.{drawn, is_taken}
 use Rattle.lossy_net.specs.Network.{Sent, mailbox_of, nth_of, sent_by}
 use Rattle.signal_points.specs.Signals.{most_signal}
-use Rattle.group_world.specs.History.{Act, Event, Deliver, Inject, Clock, Random, Signal, Kill, History, addressed, datagram, given, is_killed, is_pending, mailbox, pool, sends, taken_count, time}
+use Rattle.group_world.specs.History.{Act, Event, Deliver, Inject, Clock, Random, Signal, Kill, History, addressed_datagram, datagram, given, is_killed, is_pending, mailbox, pool, sends, taken_count, time}
 use Rattle.group_world.specs.World.{World, has_pending, surroundings_of, world_after}
 
 -- ---- which acts can come
@@ -55,26 +55,26 @@ pub record Counting : Type 0 where
 
 -- the bytes came from outside for process p, or they are the datagram of the nth send of process q, which
 -- was for p, and which an item delivers
-pub data Origin (count : ℕ) (h : History) (p : ℕ) (bytes : List ℕ) : Type 0 where
-  FromOutside : Contains h (Inject p bytes) → Origin count h p bytes
+pub data OriginOfDatagram (count : ℕ) (h : History) (p : ℕ) (bytes : List ℕ) : Type 0 where
+  FromOutside : Contains h (Inject p bytes) → OriginOfDatagram count h p bytes
   FromSend : (q n : ℕ) → (e : Entry) → Contains h (Deliver q n) → nth_of (sends count h q) n ≡ Some e
-      → e.call.a0 ≡ p → bytes ≡ datagram q e → Origin count h p bytes
+      → e.call.a0 ≡ p → bytes ≡ datagram q e → OriginOfDatagram count h p bytes
 
 -- each datagram of a mailbox has such an origin
 abbrev pub HasOrigin : Type 0
-HasOrigin = (count : ℕ) (h : History) (p : ℕ) (bytes : List ℕ) → Contains (mailbox count h p) bytes → Origin count h p bytes
+HasOrigin = (count : ℕ) (h : History) (p : ℕ) (bytes : List ℕ) → Contains (mailbox count h p) bytes → OriginOfDatagram count h p bytes
 
 -- ---- which act gave a datagram
 
 -- the datagram, if it is one, that an act which follows these gives to process p
 abbrev pub gives : ℕ → History → Act → ℕ → List (List ℕ)
-gives count h (Deliver q n) p = addressed q p (nth_of (sends count h q) n)
+gives count h (Deliver q n) p = addressed_datagram q p (nth_of (sends count h q) n)
 gives count h (Inject q bytes) p = if q == p then bytes ∷ [] else []
 gives count h _ p = []
 
 -- the act that gave process p this datagram, which has this number, from 0: before it those of the lesser
 -- numbers had been given, and no others
-pub record Giver (count : ℕ) (h : History) (p number : ℕ) (bytes : List ℕ) : Type 0 where
+pub record GiverOfDatagram (count : ℕ) (h : History) (p number : ℕ) (bytes : List ℕ) : Type 0 where
   pub later : History
   pub act : Act
   pub earlier : History
@@ -87,7 +87,7 @@ pub record Giver (count : ℕ) (h : History) (p number : ℕ) (bytes : List ℕ)
 pub record InTurn : Type 0 where
   pub front : (count : ℕ) (h : History) (p : ℕ) → slice_get (mailbox count h p) 0 ≡ slice_get (given count h p) (taken_count h p)
   pub giver : (count : ℕ) (h : History) (p number : ℕ) (bytes : List ℕ) → slice_get (given count h p) number ≡ Some bytes
-      → Giver count h p number bytes
+      → GiverOfDatagram count h p number bytes
 
 -- ---- what a datagram says
 

@@ -48,8 +48,8 @@ took_if taken net p = if taken then without_front net p else net
 abbrev pub sent_if : Bool → List Traffic → ℕ → Entry → List Traffic
 sent_if sent net p e = if sent then with_sent net p (record { to = e.call.a0; bytes = datagram p e }) else net
 
-abbrev pub drew : Surroundings → ℕ → Surroundings
-drew place n = record place { pool = drop n place.pool }
+abbrev pub drew_bytes : Surroundings → ℕ → Surroundings
+drew_bytes place n = record place { pool = drop n place.pool }
 
 -- the signal, if it is one, is pending no longer
 abbrev pub without_signal : List Bool → ℕ → List Bool
@@ -57,7 +57,7 @@ without_signal pending signal = if is_signal signal then with_pending pending si
 
 -- random bytes that the event took are gone, and a signal that it delivered is pending no longer
 abbrev pub after_entry : Surroundings → Entry → Surroundings
-after_entry place e = record (drew place (drawn e)) { pending = without_signal place.pending e.signal }
+after_entry place e = record (drew_bytes place (drawn e)) { pending = without_signal place.pending e.signal }
 
 -- a datagram that the event took is gone, and one that it sent is kept
 abbrev pub after_event : World → ℕ → Entry → World

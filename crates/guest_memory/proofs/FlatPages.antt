@@ -2,13 +2,13 @@
 use Rattle.std.proofs.Common.{◌≡◌, ◌<◌, ◌≤◌, ℕ, ◌+◌, ◌*◌, zero, suc, List, [], ◌∷◌, ◌++◌, length, get_or, take, drop, replicate, append_assoc, length-append, zero-add, refl, ap, sym, ◌∙◌, arith}
 use Rattle.std.proofs.Math.ListN.{set}
 use Rattle.guest_memory.specs.Memory.{put_piece}
-use Rattle.guest_memory.specs.Pages.{AreWhole, flat, put_in_page, stamps_of}
+use Rattle.guest_memory.specs.Pages.{AreWhole, bytes_of_pages, put_in_page, stamps_of}
 use Rattle.guest_memory.specs.declared.page.Page.{Page}
 use Rattle.guest_memory.proofs.WrittenPieces.{drop-past, part-left, put-left, put-right}
 
-pub flat-length : (ps : List Page) → AreWhole ps → length (flat ps) ≡ 4096 * length ps
+pub flat-length : (ps : List Page) → AreWhole ps → length (bytes_of_pages ps) ≡ 4096 * length ps
 flat-length [] w = refl
-flat-length (p ∷ ps) w = let h = flat-length ps w.1 in omega (arith, length-append p.bytes (flat ps), w.0, h)
+flat-length (p ∷ ps) w = let h = flat-length ps w.1 in omega (arith, length-append p.bytes (bytes_of_pages ps), w.0, h)
 
 pub whole-get : (ps : List Page) (q : ℕ) (d : Page) → AreWhole ps → q < length ps → length (get_or ps q d).bytes ≡ 4096
 whole-get [] q d w h = absurd (omega arith)
@@ -27,25 +27,25 @@ set-same (p ∷ ps) (suc q) d h = ap (λ l. p ∷ l) (set-same ps q d (omega ari
 
 -- a piece that stays in the page q
 pub flat-put : (ps : List Page) (q r a : ℕ) (piece : List ℕ) (number : ℕ) (d : Page) → AreWhole ps → q < length ps → r + length piece ≤ 4096 → a ≡ 4096 * q + r
-    → put_piece (flat ps) a piece ≡ flat (set ps q (put_in_page (get_or ps q d) r piece number))
+    → put_piece (bytes_of_pages ps) a piece ≡ bytes_of_pages (set ps q (put_in_page (get_or ps q d) r piece number))
 flat-put [] q r a piece number d w h k e = absurd (omega arith)
-flat-put (p ∷ ps) zero r a piece number d w h k e = let s : a ≡ r = omega arith in rw s (put-left p.bytes (flat ps) r piece (omega (arith, w.0)))
+flat-put (p ∷ ps) zero r a piece number d w h k e = let s : a ≡ r = omega arith in rw s (put-left p.bytes (bytes_of_pages ps) r piece (omega (arith, w.0)))
 flat-put (p ∷ ps) (suc q) r a piece number d w h k e =
-    put-right p.bytes (flat ps) a (4096 * q + r) piece (omega (arith, w.0))
+    put-right p.bytes (bytes_of_pages ps) a (4096 * q + r) piece (omega (arith, w.0))
     ∙ ap (λ l. p.bytes ++ l) (flat-put ps q r (4096 * q + r) piece number d w.1 (omega arith) k refl)
 
 -- a part that stays in the page q
 pub flat-part : (ps : List Page) (q r a n : ℕ) (d : Page) → AreWhole ps → q < length ps → r + n ≤ 4096 → a ≡ 4096 * q + r
-    → take n (drop a (flat ps)) ≡ take n (drop r (get_or ps q d).bytes)
+    → take n (drop a (bytes_of_pages ps)) ≡ take n (drop r (get_or ps q d).bytes)
 flat-part [] q r a n d w h k e = absurd (omega arith)
-flat-part (p ∷ ps) zero r a n d w h k e = let s : a ≡ r = omega arith in rw s (part-left p.bytes (flat ps) r n (omega (arith, w.0)))
+flat-part (p ∷ ps) zero r a n d w h k e = let s : a ≡ r = omega arith in rw s (part-left p.bytes (bytes_of_pages ps) r n (omega (arith, w.0)))
 flat-part (p ∷ ps) (suc q) r a n d w h k e =
-    ap (take n) (drop-past p.bytes (flat ps) a (4096 * q + r) (omega (arith, w.0)))
+    ap (take n) (drop-past p.bytes (bytes_of_pages ps) a (4096 * q + r) (omega (arith, w.0)))
     ∙ flat-part ps q r (4096 * q + r) n d w.1 (omega arith) k refl
 
-pub flat-append : (ps qs : List Page) → flat (ps ++ qs) ≡ flat ps ++ flat qs
+pub flat-append : (ps qs : List Page) → bytes_of_pages (ps ++ qs) ≡ bytes_of_pages ps ++ bytes_of_pages qs
 flat-append [] qs = refl
-flat-append (p ∷ ps) qs = rw (flat-append ps qs) (sym (append_assoc p.bytes (flat ps) (flat qs)))
+flat-append (p ∷ ps) qs = rw (flat-append ps qs) (sym (append_assoc p.bytes (bytes_of_pages ps) (bytes_of_pages qs)))
 
 -- ---- pages of zeros, at a length that is a variable: a list of 4,096 zeros is never written out
 
@@ -62,7 +62,7 @@ replicate-more : (n m : ℕ) → replicate {A = ℕ} n 0 ++ replicate {A = ℕ} 
 replicate-more zero m = rw zero-add refl
 replicate-more (suc n) m = let e : suc n + m ≡ suc (n + m) = omega arith in rw e (ap (λ (l : List ℕ). 0 ∷ l) (replicate-more n m))
 
-pub zeros-flat : (n : ℕ) (ps : List Page) → AreZeros n ps → flat ps ≡ replicate (n * length ps) 0
+pub zeros-flat : (n : ℕ) (ps : List Page) → AreZeros n ps → bytes_of_pages ps ≡ replicate (n * length ps) 0
 zeros-flat n [] z = let e : n * 0 ≡ 0 = omega arith in rw e refl
 zeros-flat n (p ∷ ps) z =
     let e : n * suc (length ps) ≡ n + n * length ps = omega arith in

@@ -3,33 +3,33 @@ use Rattle.std.proofs.Common.{◌≡◌, ◌<◌, ◌≤◌, ℕ, ◌+◌, ◌*�
 use Rattle.std.proofs.Math.ListN.{set}
 use Rattle.std.proofs.lemmas.Bool.Decides.{nat_tests}
 use Rattle.guest_memory.specs.Pages.{stamps_of}
-use Rattle.guest_memory.specs.Stamps.{touches, stamped, stamped_from}
+use Rattle.guest_memory.specs.Stamps.{touches_page, stamped_pages, stamped_pages_from}
 use Rattle.guest_memory.specs.declared.page.Page.{Page}
 
 -- ---- which pages some bytes touch
 
-touches-in : (i a done n r : ℕ) → a + done ≡ 4096 * i + r → 0 < n → r + n ≤ 4096 → touches i a (done + n) ≡ true
+touches-in : (i a done n r : ℕ) → a + done ≡ 4096 * i + r → 0 < n → r + n ≤ 4096 → touches_page i a (done + n) ≡ true
 touches-in i a done n r e p h = grind (arith, nat_tests)
 
-touches-later : (i a count : ℕ) → a + count ≤ 4096 * i → touches i a count ≡ false
+touches-later : (i a count : ℕ) → a + count ≤ 4096 * i → touches_page i a count ≡ false
 touches-later i a count h = grind (arith, nat_tests)
 
-touches-earlier : (i q a done n r : ℕ) → a + done ≡ 4096 * q + r → i < q → touches i a (done + n) ≡ touches i a done
+touches-earlier : (i q a done n r : ℕ) → a + done ≡ 4096 * q + r → i < q → touches_page i a (done + n) ≡ touches_page i a done
 touches-earlier i q a done n r e h = grind (arith, nat_tests)
 
 -- ---- the stamps after a write
 
-pub stamped-none : (i : ℕ) (ss : List ℕ) (a number : ℕ) → stamped_from i ss a 0 number ≡ ss
+pub stamped-none : (i : ℕ) (ss : List ℕ) (a number : ℕ) → stamped_pages_from i ss a 0 number ≡ ss
 stamped-none i [] a number = refl
 stamped-none i (s ∷ ss) a number = ap (λ l. s ∷ l) (stamped-none (suc i) ss a number)
 
-stamped-later : (i : ℕ) (ss : List ℕ) (a count number : ℕ) → a + count ≤ 4096 * i → stamped_from i ss a count number ≡ ss
+stamped-later : (i : ℕ) (ss : List ℕ) (a count number : ℕ) → a + count ≤ 4096 * i → stamped_pages_from i ss a count number ≡ ss
 stamped-later i [] a count number h = refl
 stamped-later i (s ∷ ss) a count number h = rw (touches-later i a count h) (ap (λ l. s ∷ l) (stamped-later (suc i) ss a count number (omega arith)))
 
 -- n bytes more, in the page q
 stamped-step : (i : ℕ) (ss : List ℕ) (k q a done n r number : ℕ) → q ≡ i + k → a + done ≡ 4096 * q + r → 0 < n → r + n ≤ 4096 → k < length ss
-    → set (stamped_from i ss a done number) k number ≡ stamped_from i ss a (done + n) number
+    → set (stamped_pages_from i ss a done number) k number ≡ stamped_pages_from i ss a (done + n) number
 stamped-step i [] k q a done n r number at e p h l = absurd (omega arith)
 stamped-step i (s ∷ ss) zero q a done n r number at e p h l =
     let same : a + done ≡ 4096 * i + r = omega arith in
@@ -37,7 +37,7 @@ stamped-step i (s ∷ ss) zero q a done n r number at e p h l =
     (ap (λ t. number ∷ t) (stamped-later (suc i) ss a done number (omega arith) ∙ sym (stamped-later (suc i) ss a (done + n) number (omega arith))))
 stamped-step i (s ∷ ss) (suc k) q a done n r number at e p h l =
     rw (touches-earlier i q a done n r e (omega arith))
-    (ap (λ t. (if touches i a done then number else s) ∷ t) (stamped-step (suc i) ss k q a done n r number (omega arith) e p h (omega arith)))
+    (ap (λ t. (if touches_page i a done then number else s) ∷ t) (stamped-step (suc i) ss k q a done n r number (omega arith) e p h (omega arith)))
 
 -- ---- the stamps of a list of pages
 
@@ -66,8 +66,8 @@ stamps-set (a ∷ ps) (suc q) p = ap (λ l. a.stamp ∷ l) (stamps-set ps q p)
 
 -- n bytes more, in the page q, which is stamped
 pub stamps-more : (old now : List Page) (addr done n q r number : ℕ) (page : Page)
-    → stamps_of now ≡ stamped (stamps_of old) addr done number → page.stamp ≡ number → addr + done ≡ 4096 * q + r → 0 < n → r + n ≤ 4096 → q < length old
-    → stamps_of (set now q page) ≡ stamped (stamps_of old) addr (done + n) number
+    → stamps_of now ≡ stamped_pages (stamps_of old) addr done number → page.stamp ≡ number → addr + done ≡ 4096 * q + r → 0 < n → r + n ≤ 4096 → q < length old
+    → stamps_of (set now q page) ≡ stamped_pages (stamps_of old) addr (done + n) number
 stamps-more old now addr done n q r number page so_far stamp at some fits room =
     stamps-set now q page
     ∙ rw (stamp, so_far) (stamped-step 0 (stamps_of old) q q addr done n r number (omega arith) at some fits (omega (arith, room, length-stamps old)))

@@ -2,15 +2,15 @@
 use Rattle.std.proofs.Common.{◌≤◌, ℕ, ◌*◌, zero, suc, Bool, true, false, cond, List, [], ◌∷◌, ◌++◌, replicate, refl, arith}
 use Rattle.guest_memory.specs.Laws.{FreshIsUnstamped, NoLaterWhenGrown, NoLaterWhenWritten, StampsNoLater}
 use Rattle.guest_memory.specs.Memory.{Memory, can_grow, no_stamps, zero_bytes}
-use Rattle.guest_memory.specs.Stamps.{AreWithin, stamped_from, touches}
+use Rattle.guest_memory.specs.Stamps.{AreWithin, stamped_pages_from, touches_page}
 
 either_within : (b : Bool) (number s : ℕ) → s ≤ number → cond b number s ≤ number
 either_within true number s h = omega arith
 either_within false number s h = h
 
-stamped_within : (i : ℕ) (ss : List ℕ) (addr count number : ℕ) → AreWithin number ss → AreWithin number (stamped_from i ss addr count number)
+stamped_within : (i : ℕ) (ss : List ℕ) (addr count number : ℕ) → AreWithin number ss → AreWithin number (stamped_pages_from i ss addr count number)
 stamped_within i [] addr count number w = tt
-stamped_within i (s ∷ ss) addr count number w = (either_within (touches i addr count) number s w.0, stamped_within (suc i) ss addr count number w.1)
+stamped_within i (s ∷ ss) addr count number w = (either_within (touches_page i addr count) number s w.0, stamped_within (suc i) ss addr count number w.1)
 
 zeros_within : (most n : ℕ) → AreWithin most (replicate n 0)
 zeros_within most zero = tt

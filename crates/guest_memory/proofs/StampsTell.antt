@@ -4,12 +4,12 @@ use Rattle.std.proofs.lemmas.Bool.Decides.{nat_tests}
 use Rattle.std.proofs.lemmas.List.{take-append-drop}
 use Rattle.guest_memory.specs.Laws.{KeepsPages, StampsTell, TellsWhenGrown, TellsWhenWritten}
 use Rattle.guest_memory.specs.Memory.{Memory, can_grow, no_stamps, put_piece, zero_bytes}
-use Rattle.guest_memory.specs.Stamps.{stamped_from, touches}
+use Rattle.guest_memory.specs.Stamps.{stamped_pages_from, touches_page}
 use Rattle.guest_memory.proofs.WrittenPieces.{drop-add, drop-past, part-left, put-none}
 
 -- ---- the stamps
 
-stamped-length : (i : ℕ) (ss : List ℕ) (addr count number : ℕ) → length (stamped_from i ss addr count number) ≡ length ss
+stamped-length : (i : ℕ) (ss : List ℕ) (addr count number : ℕ) → length (stamped_pages_from i ss addr count number) ≡ length ss
 stamped-length i [] addr count number = refl
 stamped-length i (s ∷ ss) addr count number = ap suc (stamped-length (suc i) ss addr count number)
 
@@ -17,10 +17,10 @@ either-stays : (b : Bool) (number s : ℕ) → (cond b number s ≡ number → �
 either-stays true number s h = absurd (h refl)
 either-stays false number s h = refl
 
-stamped-stays : (i : ℕ) (ss : List ℕ) (k addr count number : ℕ) → (get_or (stamped_from i ss addr count number) k 0 ≡ number → ⊥)
-    → get_or (stamped_from i ss addr count number) k 0 ≡ get_or ss k 0
+stamped-stays : (i : ℕ) (ss : List ℕ) (k addr count number : ℕ) → (get_or (stamped_pages_from i ss addr count number) k 0 ≡ number → ⊥)
+    → get_or (stamped_pages_from i ss addr count number) k 0 ≡ get_or ss k 0
 stamped-stays i [] k addr count number h = refl
-stamped-stays i (s ∷ ss) zero addr count number h = either-stays (touches i addr count) number s h
+stamped-stays i (s ∷ ss) zero addr count number h = either-stays (touches_page i addr count) number s h
 stamped-stays i (s ∷ ss) (suc k) addr count number h = stamped-stays (suc i) ss k addr count number h
 
 not-chosen : (b : Bool) (number s : ℕ) → (cond b number s ≡ number → ⊥) → b ≡ false
@@ -28,9 +28,9 @@ not-chosen true number s h = absurd (h refl)
 not-chosen false number s h = refl
 
 untouched : (i : ℕ) (ss : List ℕ) (k q addr count number : ℕ) → q ≡ i + k → k < length ss
-    → (get_or (stamped_from i ss addr count number) k 0 ≡ number → ⊥) → touches q addr count ≡ false
+    → (get_or (stamped_pages_from i ss addr count number) k 0 ≡ number → ⊥) → touches_page q addr count ≡ false
 untouched i [] k q addr count number at l h = absurd (omega arith)
-untouched i (s ∷ ss) zero q addr count number at l h = let e : q ≡ i = omega arith in rw e (not-chosen (touches i addr count) number s h)
+untouched i (s ∷ ss) zero q addr count number at l h = let e : q ≡ i = omega arith in rw e (not-chosen (touches_page i addr count) number s h)
 untouched i (s ∷ ss) (suc k) q addr count number at l h = untouched (suc i) ss k q addr count number (omega arith) (omega arith) h
 
 zeros-get : (n page : ℕ) → get_or (replicate {A = ℕ} n 0) page 0 ≡ 0
@@ -73,7 +73,7 @@ put-longer : (xs : List ℕ) (addr : ℕ) (piece : List ℕ) → length xs ≤ l
 put-longer xs addr piece = simp (length-append, length-append, length-drop, length-take) (omega arith)
 
 -- the bytes of a page that the piece does not touch
-page-stays : (xs : List ℕ) (q addr : ℕ) (piece : List ℕ) → touches q addr (length piece) ≡ false → 4096 * q + 4096 ≤ length xs
+page-stays : (xs : List ℕ) (q addr : ℕ) (piece : List ℕ) → touches_page q addr (length piece) ≡ false → 4096 * q + 4096 ≤ length xs
     → take 4096 (drop (4096 * q) (put_piece xs addr piece)) ≡ take 4096 (drop (4096 * q) xs)
 page-stays xs q addr piece h inside = by_tests _ _ _ refl refl refl h
   where

@@ -1,13 +1,13 @@
 -- The fields of a memory.
 use Rattle.std.specs.Prelude.{◌≡◌, ◌≤◌, ◌*◌, ◌%◌, length}
 use Rattle.guest_memory.specs.Memory.{Memory}
-use Rattle.guest_memory.specs.Pages.{AreWhole, flat, stamps_of}
+use Rattle.guest_memory.specs.Pages.{AreWhole, bytes_of_pages, stamps_of}
 use Rattle.guest_memory.specs.declared.memory.Memory.TheInside.{Inside}
 
 -- the memory that the fields tell
 abbrev pub memory_of : Inside → Memory
 memory_of inside = record {
-  bytes = flat inside.pages.items;
+  bytes = bytes_of_pages inside.pages.items;
   max = inside.max;
   stamps = stamps_of inside.pages.items;
   number = inside.number;

@@ -1,6 +1,6 @@
 -- Laws of stamps.
 use Rattle.std.specs.Prelude.{◌≡◌, ◌+◌, ◌*◌, ◌<◌, ◌≤◌, ℕ, List, length}
-use Rattle.guest_memory.specs.Memory.{Memory, after_grow, bytes_from, fresh, stamp_of, with_bytes}
+use Rattle.guest_memory.specs.Memory.{Memory, after_grow, bytes_from, fresh_memory, stamp_of, with_bytes}
 use Rattle.guest_memory.specs.Stamps.{AreWithin}
 
 -- the same event writes, and where no stamp was later than it, none is
@@ -16,7 +16,7 @@ NoLaterWhenGrown = (memory : Memory) (pages : ℕ) → StampsNoLater memory (aft
 
 -- a new memory bears no event's number
 abbrev pub FreshIsUnstamped : Type 0
-FreshIsUnstamped = (pages max : ℕ) → AreWithin 0 (fresh pages max).stamps
+FreshIsUnstamped = (pages max : ℕ) → AreWithin 0 (fresh_memory pages max).stamps
 
 -- the watch page is as it was
 pub record SameWatchPage (old new : Memory) (page : ℕ) : Type 0 where

@@ -1,7 +1,7 @@
 -- Watch pages, the bytes that they make end to end, and what is written to them.
 use Rattle.std.specs.Prelude.{◌≡◌, ◌≤◌, ℕ, List, [], ◌∷◌, ◌++◌, length, take}
 use Rattle.guest_memory.specs.Memory.{put_piece}
-use Rattle.guest_memory.specs.Stamps.{stamped}
+use Rattle.guest_memory.specs.Stamps.{stamped_pages}
 use Rattle.guest_memory.specs.declared.page.Page.{Page}
 
 -- the page after the event of this number wrote the piece to it
@@ -9,9 +9,9 @@ abbrev pub put_in_page : Page → ℕ → List ℕ → ℕ → Page
 put_in_page p at piece number = record { stamp = number; bytes = put_piece p.bytes at piece }
 
 -- the bytes of all pages
-abbrev pub flat : List Page → List ℕ
-flat [] = []
-flat (p ∷ ps) = p.bytes ++ flat ps
+abbrev pub bytes_of_pages : List Page → List ℕ
+bytes_of_pages [] = []
+bytes_of_pages (p ∷ ps) = p.bytes ++ bytes_of_pages ps
 
 -- and their stamps
 abbrev pub stamps_of : List Page → List ℕ
@@ -27,5 +27,5 @@ AreWhole (p ∷ ps) = (length p.bytes ≡ 4096) × AreWhole ps
 pub record PutsPrefix (old new : List Page) (addr : ℕ) (piece : List ℕ) (number : ℕ) : Type 0 where
   pub count : ℕ
   pub most : count ≤ length piece
-  pub bytes : flat new ≡ put_piece (flat old) addr (take count piece)
-  pub stamps : stamps_of new ≡ stamped (stamps_of old) addr count number
+  pub bytes : bytes_of_pages new ≡ put_piece (bytes_of_pages old) addr (take count piece)
+  pub stamps : stamps_of new ≡ stamped_pages (stamps_of old) addr count number

@@ -1,7 +1,7 @@
 // A linear memory.
 ghost use Rattle.std.specs.Prelude.{◌≡◌, ◌↔◌, ◌+◌, ◌≤◌, length, IsSome, IfSome, IfOk, OnOk, OnErr, Ok, None};
 ghost use Rattle.guest_memory.specs.LittleEndian.{low_bytes, IsWidth};
-ghost use Rattle.guest_memory.specs.Memory.{IsMemory, WritesPrefix, after_store, after_write_at, bytes_from, fresh, growth, after_grow, is_inside, loaded, size_of, stamp_of, stretch};
+ghost use Rattle.guest_memory.specs.Memory.{IsMemory, WritesPrefix, after_store, after_write_at, bytes_from, fresh_memory, growth_size, after_grow, is_inside, loaded_number, size_of, stamp_of, stretch_in_page};
 
 use crate::page::{SharedPage, WATCH_PAGE};
 use crate::pages::{
@@ -42,7 +42,7 @@ impl Memory {
     pub fn new(alloc: Global, pages: u32, max: u32) -> Result<Memory, AllocError>
         requires within { pages ≤ max }
         requires most { max ≤ 256 }
-        ensures { IfOk result (λ memory. memory ≡ fresh pages max) }
+        ensures { IfOk result (λ memory. memory ≡ fresh_memory pages max) }
     {
         let mut list = Vec::new(alloc);
         add_zeros(alloc, &mut list, pages)?;
@@ -113,7 +113,7 @@ impl Memory {
     #[inline(always)]
     pub fn load(&self, addr: u64, width: u32) -> Option<u64>
         requires { IsWidth width }
-        ensures { result ≡ loaded self.now addr width }
+        ensures { result ≡ loaded_number self.now addr width }
     {
         if addr as usize % WATCH_PAGE + width as usize > WATCH_PAGE {
             return self.load_across(addr, width);
@@ -128,7 +128,7 @@ impl Memory {
     #[inline(never)]
     fn load_across(&self, addr: u64, width: u32) -> Option<u64>
         requires { IsWidth width }
-        ensures { result ≡ loaded self.now addr width }
+        ensures { result ≡ loaded_number self.now addr width }
     {
         if !self.contains(addr, u64::from(width)) {
             return None;
@@ -187,7 +187,7 @@ impl Memory {
     /// The longest first part of the range that stays in one watch page of 4,096 bytes.
     pub fn part(&self, addr: u64, len: u64) -> Option<&[u8]>
         ensures some { IsSome result ↔ (addr + len ≤ length self.now.bytes) }
-        ensures value { IfSome result (λ part. part.now ≡ bytes_from self.now addr (stretch addr len)) }
+        ensures value { IfSome result (λ part. part.now ≡ bytes_from self.now addr (stretch_in_page addr len)) }
     {
         if !self.contains(addr, len) {
             return None;
@@ -198,9 +198,9 @@ impl Memory {
     /// Adds so many pages of zeros, and gives the number of pages before. `Ok(None)` comes exactly
     /// where the sum passes the maximum.
     pub fn grow(&mut self, pages: u32) -> Result<Option<u32>, AllocError>
-        ensures answer { IfOk result (λ before. before ≡ growth self.old pages) }
+        ensures answer { IfOk result (λ before. before ≡ growth_size self.old pages) }
         ensures ok { OnOk result (self.new ≡ after_grow self.old pages) }
-        ensures refused { growth self.old pages ≡ None → result ≡ Ok None }
+        ensures refused { growth_size self.old pages ≡ None → result ≡ Ok None }
         ensures err { OnErr result (self.new ≡ self.old) }
     {
         let before = self.size();

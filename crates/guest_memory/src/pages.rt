@@ -2,8 +2,8 @@
 ghost use Rattle.std.specs.Prelude.{◌≡◌, ◌+◌, ◌*◌, ◌-◌, ◌/◌, ◌%◌, ◌≤◌, ◌<◌, ◌++◌, IfOk, OnErr, OnOk, length, min, slice_index_or, take, drop, vec_len};
 ghost use Rattle.guest_memory.specs.LittleEndian.{little_endian, low_bytes, IsWidth};
 ghost use Rattle.guest_memory.specs.Memory.{no_stamps, put_piece, zero_bytes};
-ghost use Rattle.guest_memory.specs.Pages.{AreWhole, PutsPrefix, flat, stamps_of};
-ghost use Rattle.guest_memory.specs.Stamps.{stamped};
+ghost use Rattle.guest_memory.specs.Pages.{AreWhole, PutsPrefix, bytes_of_pages, stamps_of};
+ghost use Rattle.guest_memory.specs.Stamps.{stamped_pages};
 
 use crate::little_endian::{number_at, put_piece};
 use crate::page::{SharedPage, WATCH_PAGE};
@@ -16,7 +16,7 @@ pub(crate) fn number_in(pages: &[SharedPage], addr: usize, width: u32) -> u64
     requires whole { AreWhole pages.now }
     requires one { addr % 4096 + width ≤ 4096 }
     requires inside { addr / 4096 < length pages.now }
-    ensures { result ≡ little_endian (take width (drop addr (flat pages.now))) }
+    ensures { result ≡ little_endian (take width (drop addr (bytes_of_pages pages.now))) }
 {
     number_at(pages[addr / WATCH_PAGE].bytes(), addr % WATCH_PAGE, width)
 }
@@ -25,9 +25,9 @@ pub(crate) fn number_in(pages: &[SharedPage], addr: usize, width: u32) -> u64
 pub(crate) fn number_across(pages: &[SharedPage], addr: usize, width: u32) -> u64
     requires width { IsWidth width }
     requires whole { AreWhole pages.now }
-    requires inside { addr + width ≤ length (flat pages.now) }
-    requires few { length (flat pages.now) ≤ 16777216 }
-    ensures { result ≡ little_endian (take width (drop addr (flat pages.now))) }
+    requires inside { addr + width ≤ length (bytes_of_pages pages.now) }
+    requires few { length (bytes_of_pages pages.now) ≤ 16777216 }
+    ensures { result ≡ little_endian (take width (drop addr (bytes_of_pages pages.now))) }
 {
     let front = part_in(pages, addr, width as usize);
     let back = part_in(pages, addr + front.len(), width as usize - front.len());
@@ -40,8 +40,8 @@ pub(crate) fn number_across(pages: &[SharedPage], addr: usize, width: u32) -> u6
 // The longest first part of the range that stays in one page.
 pub(crate) fn part_in(pages: &[SharedPage], addr: usize, len: usize) -> &[u8]
     requires whole { AreWhole pages.now }
-    requires within { addr + len ≤ length (flat pages.now) }
-    ensures { result.now ≡ take (min len (4096 - addr % 4096)) (drop addr (flat pages.now)) }
+    requires within { addr + len ≤ length (bytes_of_pages pages.now) }
+    ensures { result.now ≡ take (min len (4096 - addr % 4096)) (drop addr (bytes_of_pages pages.now)) }
 {
     let index = addr / WATCH_PAGE;
     let at = addr % WATCH_PAGE;
@@ -77,8 +77,8 @@ pub(crate) fn put_number_in(
     requires inside { addr / 4096 < length pages.old }
     ensures whole { AreWhole pages.new }
     ensures len { length pages.new ≡ length pages.old }
-    ensures bytes { OnOk result (flat pages.new ≡ put_piece (flat pages.old) addr (low_bytes width value)) }
-    ensures stamps { OnOk result (stamps_of pages.new ≡ stamped (stamps_of pages.old) addr (length (low_bytes width value)) number) }
+    ensures bytes { OnOk result (bytes_of_pages pages.new ≡ put_piece (bytes_of_pages pages.old) addr (low_bytes width value)) }
+    ensures stamps { OnOk result (stamps_of pages.new ≡ stamped_pages (stamps_of pages.old) addr (length (low_bytes width value)) number) }
     ensures err { OnErr result (PutsPrefix pages.old pages.new addr (low_bytes width value) number) }
 {
     pages[addr / WATCH_PAGE].put_number(addr % WATCH_PAGE, width, value, number)?;
@@ -96,12 +96,12 @@ pub(crate) fn put_number_across(
 ) -> Result<(), AllocError>
     requires width { IsWidth width }
     requires whole { AreWhole pages.old }
-    requires within { addr + width ≤ length (flat pages.old) }
-    requires few { length (flat pages.old) ≤ 16777216 }
+    requires within { addr + width ≤ length (bytes_of_pages pages.old) }
+    requires few { length (bytes_of_pages pages.old) ≤ 16777216 }
     ensures whole { AreWhole pages.new }
     ensures len { length pages.new ≡ length pages.old }
-    ensures bytes { OnOk result (flat pages.new ≡ put_piece (flat pages.old) addr (low_bytes width value)) }
-    ensures stamps { OnOk result (stamps_of pages.new ≡ stamped (stamps_of pages.old) addr (length (low_bytes width value)) number) }
+    ensures bytes { OnOk result (bytes_of_pages pages.new ≡ put_piece (bytes_of_pages pages.old) addr (low_bytes width value)) }
+    ensures stamps { OnOk result (stamps_of pages.new ≡ stamped_pages (stamps_of pages.old) addr (length (low_bytes width value)) number) }
     ensures err { OnErr result (PutsPrefix pages.old pages.new addr (low_bytes width value) number) }
 {
     let all = value.to_le_bytes();
@@ -117,12 +117,12 @@ pub(crate) fn put_all(
     number: u64,
 ) -> Result<(), AllocError>
     requires whole { AreWhole pages.old }
-    requires within { addr + length piece.now ≤ length (flat pages.old) }
-    requires few { length (flat pages.old) ≤ 16777216 }
+    requires within { addr + length piece.now ≤ length (bytes_of_pages pages.old) }
+    requires few { length (bytes_of_pages pages.old) ≤ 16777216 }
     ensures whole { AreWhole pages.new }
     ensures len { length pages.new ≡ length pages.old }
-    ensures bytes { OnOk result (flat pages.new ≡ put_piece (flat pages.old) addr piece.now) }
-    ensures stamps { OnOk result (stamps_of pages.new ≡ stamped (stamps_of pages.old) addr (length piece.now) number) }
+    ensures bytes { OnOk result (bytes_of_pages pages.new ≡ put_piece (bytes_of_pages pages.old) addr piece.now) }
+    ensures stamps { OnOk result (stamps_of pages.new ≡ stamped_pages (stamps_of pages.old) addr (length piece.now) number) }
     ensures err { OnErr result (PutsPrefix pages.old pages.new addr piece.now number) }
 {
     let mut done = 0;
@@ -145,7 +145,7 @@ pub(crate) fn add_zeros(
     requires { count ≤ 256 }
     ensures whole { AreWhole pages.old.items → AreWhole pages.new.items }
     ensures len { OnOk result (vec_len pages.new ≡ vec_len pages.old + 16 * count) }
-    ensures bytes { OnOk result (flat pages.new.items ≡ flat pages.old.items ++ zero_bytes (65536 * count)) }
+    ensures bytes { OnOk result (bytes_of_pages pages.new.items ≡ bytes_of_pages pages.old.items ++ zero_bytes (65536 * count)) }
     ensures stamps { OnOk result (stamps_of pages.new.items ≡ stamps_of pages.old.items ++ no_stamps count) }
     ensures err { OnErr result (pages.new.items ≡ pages.old.items) }
 {

@@ -9,18 +9,18 @@ use Rattle.guest_memory.specs.Memory.{Memory, is_inside}
 use Rattle.lamport_tag.specs.declared.Tag.{Tag}
 use Rattle.lib_calls.specs.declared.entry.Call.{Call}
 use Rattle.lib_calls.specs.Answer.{Answer}
-use Rattle.lib_calls.specs.Effects.{brings, has_good, is_answer, is_good, is_range, minus_one, minus_two, put_in, with_received, takes_counted, takes_nothing, memory_after_answer as memory_with}
-use Rattle.guest_process.specs.Advancing.{acted}
-use Rattle.guest_process.specs.Answers.{Need, Fixed, World, after_need, need_of_world, effects, handled, is_drawn, is_empty, is_payload, brings_nothing, is_possible, takes_datagram, locked, narrow, need, spawned, unlocked, with_answer}
+use Rattle.lib_calls.specs.Effects.{call_brings, has_good_ranges, is_answer, is_good, is_range, minus_one, minus_two, put_in_memory, with_received, takes_counted, takes_nothing, memory_after_answer as memory_with}
+use Rattle.guest_process.specs.Advancing.{acted_on_answer}
+use Rattle.guest_process.specs.Answers.{Need, Fixed, World, after_need, need_of_world, effects_of_answer, handled, is_drawn, is_empty, is_payload, brings_nothing, is_possible, takes_datagram, locked, narrow, need, spawned, unlocked, with_answer}
 use Rattle.guest_process.specs.Kinds.{ends_process}
-use Rattle.guest_process.specs.Legal.{gives_answer}
+use Rattle.guest_process.specs.Legal.{need_gives_answer}
 use Rattle.guest_process.specs.Live.{with_given}
 use Rattle.guest_process.specs.State.{State, with_memory}
 use Rattle.guest_process.proofs.CallEffects.{effects_has}
 
 -- ---- good arguments
 
-good_is : (k : Kind) (c : Call) (memory : Memory) → kind_numbered c.kind ≡ Some k → is_good c memory ≡ has_good k c memory
+good_is : (k : Kind) (c : Call) (memory : Memory) → kind_numbered c.kind ≡ Some k → is_good c memory ≡ has_good_ranges k c memory
 unfolding is_good
 good_is k c memory e = rw e refl
 
@@ -54,7 +54,7 @@ try_recv_short S c e good =
 
 -- ---- what is written
 
-good_written : (k : Kind) (S : State) (c : Call) (a : Answer) → kind_numbered c.kind ≡ Some k → is_good c S.store.memory ≡ true → with_answer S c a ≡ with_memory S (put_in k c a S.store.memory)
+good_written : (k : Kind) (S : State) (c : Call) (a : Answer) → kind_numbered c.kind ≡ Some k → is_good c S.store.memory ≡ true → with_answer S c a ≡ with_memory S (put_in_memory k c a S.store.memory)
 unfolding memory_with
 good_written k S c a e good = ap (with_memory S) (rw (good, e) refl)
 
@@ -63,7 +63,7 @@ unfolding memory_with
 bad_written S c a bad = ap (with_memory S) (rw bad refl)
 
 -- an answer to a call of a kind that puts nothing in writes nothing
-plain_written : (k : Kind) (S : State) (c : Call) (a : Answer) → kind_numbered c.kind ≡ Some k → put_in k c a S.store.memory ≡ S.store.memory → with_answer S c a ≡ S
+plain_written : (k : Kind) (S : State) (c : Call) (a : Answer) → kind_numbered c.kind ≡ Some k → put_in_memory k c a S.store.memory ≡ S.store.memory → with_answer S c a ≡ S
 plain_written k S c a e same = by_test (is_good c S.store.memory) refl
   where
     by_test : (b : Bool) → is_good c S.store.memory ≡ b → with_answer S c a ≡ S
@@ -80,16 +80,16 @@ asked_written S c a = by_test (is_good c S.store.memory) refl
     by_test true good = refl
     by_test false bad = sym (bad_written S c a bad)
 
-fixed_written : (k : Kind) (S : State) (c : Call) (a : Answer) (n : Need) → kind_numbered c.kind ≡ Some k → put_in k c a S.store.memory ≡ S.store.memory → after_need n (with_answer S c a) ≡ after_need n S
+fixed_written : (k : Kind) (S : State) (c : Call) (a : Answer) (n : Need) → kind_numbered c.kind ≡ Some k → put_in_memory k c a S.store.memory ≡ S.store.memory → after_need n (with_answer S c a) ≡ after_need n S
 fixed_written k S c a n e same = ap (after_need n) (plain_written k S c a e same)
 
-joined_written : (S : State) (t : ℕ) (c : Call) (a : Answer) → kind_numbered c.kind ≡ Some Join → effects Join S t c a ≡ with_answer S c a
+joined_written : (S : State) (t : ℕ) (c : Call) (a : Answer) → kind_numbered c.kind ≡ Some Join → effects_of_answer Join S t c a ≡ with_answer S c a
 joined_written S t c a e =
     let plain = plain_written Join S c a e refl in
     effects_has (λ S'. S' ≡ with_answer S c a) Join S t c a (record { locks = λ h. cc; unlocks = λ h. cc; handles = λ h. cc; spawns = λ h. cc }) (sym plain) refl (λ h. cc)
 
 -- where it does not end the process, an answer does so much
-pub effects_acted : (k : Kind) (S : State) (t : ℕ) (c : Call) (a : Answer) → kind_numbered c.kind ≡ Some k → ends_process k ≡ false → effects k S t c a ≡ acted (Some k) S t c a
+pub effects_acted : (k : Kind) (S : State) (t : ℕ) (c : Call) (a : Answer) → kind_numbered c.kind ≡ Some k → ends_process k ≡ false → effects_of_answer k S t c a ≡ acted_on_answer (Some k) S t c a
 effects_acted Exit S t c a e h = cc
 effects_acted Begin S t c a e h = sym (plain_written Begin S c a e refl)
 effects_acted Note S t c a e h = sym (plain_written Note S c a e refl)
@@ -156,28 +156,28 @@ tried_counted count c a h = elim (or_cases (takes_datagram count c a) (is_empty 
   | inr empty ↦ or_right (takes_counted c a) (takes_nothing minus_two a) (plain_nothing minus_two a empty)
 ]
 
-asked_brings : (S : State) (c : Call) (a : Answer) (good possible counted : Bool) → is_good c S.store.memory ≡ good → (possible ≡ true → counted ≡ true) → gives_answer (need_of_world S c) a possible ≡ true → cond good counted (takes_nothing minus_one a) ≡ true
+asked_brings : (S : State) (c : Call) (a : Answer) (good possible counted : Bool) → is_good c S.store.memory ≡ good → (possible ≡ true → counted ≡ true) → need_gives_answer (need_of_world S c) a possible ≡ true → cond good counted (takes_nothing minus_one a) ≡ true
 asked_brings S c a good possible counted e counts h = by_tests (is_good c S.store.memory) good e h
   where
-    by_tests : (b good : Bool) → b ≡ good → gives_answer (cond b World (Fixed minus_one S)) a possible ≡ true → cond good counted (takes_nothing minus_one a) ≡ true
+    by_tests : (b good : Bool) → b ≡ good → need_gives_answer (cond b World (Fixed minus_one S)) a possible ≡ true → cond good counted (takes_nothing minus_one a) ≡ true
     by_tests true true e h = counts h
     by_tests true false e h = cc
     by_tests false true e h = cc
     by_tests false false e h = plain_nothing minus_one a h
 
-brought : (k : Kind) (S : State) (t : ℕ) (c : Call) (a : Answer) → is_good c S.store.memory ≡ has_good k c S.store.memory → gives_answer (need k S t c) a (is_possible k S c a) ≡ true → brings k c a S.store.memory ≡ true
+brought : (k : Kind) (S : State) (t : ℕ) (c : Call) (a : Answer) → is_good c S.store.memory ≡ has_good_ranges k c S.store.memory → need_gives_answer (need k S t c) a (is_possible k S c a) ≡ true → call_brings k c a S.store.memory ≡ true
 brought Random S t c a good h =
-    asked_brings S c a (has_good Random c S.store.memory) (is_drawn c a) (takes_counted c a) good (drawn_counted c a) h
+    asked_brings S c a (has_good_ranges Random c S.store.memory) (is_drawn c a) (takes_counted c a) good (drawn_counted c a) h
 brought Recv S t c a good h =
-    asked_brings S c a (has_good Recv c S.store.memory) (takes_datagram S.count c a) (takes_counted c a) good (taken_counted S.count c a) h
+    asked_brings S c a (has_good_ranges Recv c S.store.memory) (takes_datagram S.count c a) (takes_counted c a) good (taken_counted S.count c a) h
 brought TryRecv S t c a good h =
-    asked_brings S c a (has_good TryRecv c S.store.memory) (takes_datagram S.count c a || is_empty a) (takes_counted c a || takes_nothing minus_two a) good (tried_counted S.count c a) h
+    asked_brings S c a (has_good_ranges TryRecv c S.store.memory) (takes_datagram S.count c a || is_empty a) (takes_counted c a || takes_nothing minus_two a) good (tried_counted S.count c a) h
 brought _ S t c a good h = refl
 
-answer_is : (k : Kind) (c : Call) (a : Answer) (memory : Memory) → kind_numbered c.kind ≡ Some k → is_answer c a memory ≡ brings k c a memory
+answer_is : (k : Kind) (c : Call) (a : Answer) (memory : Memory) → kind_numbered c.kind ≡ Some k → is_answer c a memory ≡ call_brings k c a memory
 unfolding is_answer
 answer_is k c a memory e = rw e refl
 
 -- the bytes that come in with a legal answer are such as the call lets come in
-pub legal_answer : (k : Kind) (S : State) (t : ℕ) (c : Call) (a : Answer) → kind_numbered c.kind ≡ Some k → gives_answer (need k S t c) a (is_possible k S c a) ≡ true → is_answer c a S.store.memory ≡ true
+pub legal_answer : (k : Kind) (S : State) (t : ℕ) (c : Call) (a : Answer) → kind_numbered c.kind ≡ Some k → need_gives_answer (need k S t c) a (is_possible k S c a) ≡ true → is_answer c a S.store.memory ≡ true
 legal_answer k S t c a e h = answer_is k c a S.store.memory e ∙ brought k S t c a (good_is k c S.store.memory e) h

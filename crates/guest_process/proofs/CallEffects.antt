@@ -15,8 +15,8 @@ use Rattle.lib_calls.specs.declared.entry.Call.{Call}
 use Rattle.signal_points.specs.Signals.{with_handler}
 use Rattle.wasm_step.specs.Strand.{new_thread}
 use Rattle.wasm_step.specs.Thread.{Thread}
-use Rattle.guest_process.specs.Advancing.{acted}
-use Rattle.guest_process.specs.Answers.{Fixed, World, after_need, need_of_world, effects, exited, handled, handler_given, handles, is_holder, joined, joins, locked, locks, narrow, spawnable, spawned, spawned_at, spawns, unlocked, with_answer}
+use Rattle.guest_process.specs.Advancing.{acted_on_answer}
+use Rattle.guest_process.specs.Answers.{Fixed, World, after_need, need_of_world, effects_of_answer, exited_process, handled, handler_given, handles_signal, is_lock_holder, joined, joins_standing, locked, asks_for_lock, narrow, spawnable, spawned, spawned_at_index, spawns_thread, unlocked, with_answer}
 use Rattle.guest_process.specs.Start.{waiting_at}
 use Rattle.guest_process.specs.State.{State, with_handlers, with_lock, with_new_thread, without_lock}
 
@@ -31,24 +31,24 @@ asked_has Q S c S' bad good = by_test (is_good c S.store.memory)
 joined_has : (Q : State → Type 0) (S : State) (t u : ℕ) (S' : State) → Q S → Q S' → Q (after_need (joined S t u) S')
 joined_has Q S t u S' same other = by_test (u == t)
   where
-    by_status : (status : Status) → Q (after_need (joins S status) S')
+    by_status : (status : Status) → Q (after_need (joins_standing S status) S')
     by_status Unknown = same
     by_status Live = other
     by_status Taken = other
     by_status Ended = same
 
-    by_test : (b : Bool) → Q (after_need (cond b (Fixed minus_one S) (joins S (status_of (slice_get S.crew.threads u)))) S')
+    by_test : (b : Bool) → Q (after_need (cond b (Fixed minus_one S) (joins_standing S (status_of (slice_get S.crew.threads u)))) S')
     by_test true = same
     by_test false = by_status (status_of (slice_get S.crew.threads u))
 
 locked_has : (Q : State → Type 0) (S : State) (m t : ℕ) (S' : State) → Q S → Q S' → (holder_of S.crew m ≡ None → Q (with_lock S m t)) → Q (after_need (locked S m t) S')
 locked_has Q S m t S' same other taken = by_holder (holder_of S.crew m) refl
   where
-    by_test : (holder : ℕ) (b : Bool) → Q (after_need (locks S m t (cond b Already (Held holder))) S')
+    by_test : (holder : ℕ) (b : Bool) → Q (after_need (asks_for_lock S m t (cond b Already (Held holder))) S')
     by_test holder true = same
     by_test holder false = other
 
-    by_holder : (o : Option ℕ) → holder_of S.crew m ≡ o → Q (after_need (locks S m t (grip_of o t)) S')
+    by_holder : (o : Option ℕ) → holder_of S.crew m ≡ o → Q (after_need (asks_for_lock S m t (grip_of o t)) S')
     by_holder None free = taken free
     by_holder (Some holder) held = by_test holder (holder == t)
 
@@ -59,25 +59,25 @@ unlocked_has Q S m t S' same freed = by_holder (holder_of S.crew m) refl
     by_test holder true test held = freed (held ∙ ap Some (eqb-true holder t test))
     by_test holder false test held = same
 
-    by_holder : (o : Option ℕ) → holder_of S.crew m ≡ o → Q (after_need (cond (is_holder o t) (Fixed 0 (without_lock S m)) (Fixed minus_one S)) S')
+    by_holder : (o : Option ℕ) → holder_of S.crew m ≡ o → Q (after_need (cond (is_lock_holder o t) (Fixed 0 (without_lock S m)) (Fixed minus_one S)) S')
     by_holder None free = same
     by_holder (Some holder) held = by_test holder (holder == t) refl held
 
 handled_has : (Q : State → Type 0) (S : State) (signal number : ℕ) (S' : State) → Q S → ((h : Option ℕ) → handler_given S signal number ≡ Some h → Q (with_handlers S (with_handler S.handlers signal h))) → Q (after_need (handled S signal number) S')
 handled_has Q S signal number S' same set = by_given (handler_given S signal number) refl
   where
-    by_given : (o : Option (Option ℕ)) → handler_given S signal number ≡ o → Q (after_need (handles S signal o) S')
+    by_given : (o : Option (Option ℕ)) → handler_given S signal number ≡ o → Q (after_need (handles_signal S signal o) S')
     by_given None given = same
     by_given (Some h) given = set h given
 
 spawned_has : (Q : State → Type 0) (S : State) (index arg : ℕ) (S' : State) → Q S → ((f : ℕ) → spawnable S index ≡ Some f → (thread : Thread) → new_thread S.store.«module» f arg ≡ Some thread → Q (with_new_thread S (waiting_at S.store.«module» thread))) → Q (after_need (spawned S index arg) S')
 spawned_has Q S index arg S' same made = by_func (spawnable S index) refl
   where
-    by_thread : (f : ℕ) → spawnable S index ≡ Some f → (o : Option Thread) → new_thread S.store.«module» f arg ≡ o → Q (after_need (spawns S o) S')
+    by_thread : (f : ℕ) → spawnable S index ≡ Some f → (o : Option Thread) → new_thread S.store.«module» f arg ≡ o → Q (after_need (spawns_thread S o) S')
     by_thread f found None starts = same
     by_thread f found (Some thread) starts = made f found thread starts
 
-    by_func : (o : Option ℕ) → spawnable S index ≡ o → Q (after_need (spawned_at S arg o) S')
+    by_func : (o : Option ℕ) → spawnable S index ≡ o → Q (after_need (spawned_at_index S arg o) S')
     by_func None found = same
     by_func (Some f) found = by_thread f found (new_thread S.store.«module» f arg) refl
 
@@ -89,7 +89,7 @@ pub record Cases (Q : State → Type 0) (k : Kind) (S : State) (t : ℕ) (c : Ca
   pub spawns : k ≡ Spawn → (f : ℕ) → spawnable S (narrow c.a0) ≡ Some f → (thread : Thread) → new_thread S.store.«module» f (narrow c.a1) ≡ Some thread → Q (with_new_thread S (waiting_at S.store.«module» thread))
 
 -- holds after each answer
-pub effects_has : (Q : State → Type 0) (k : Kind) (S : State) (t : ℕ) (c : Call) (a : Answer) → Cases Q k S t c → Q S → Q (with_answer S c a) → (k ≡ Exit → Q (exited S t c.a0)) → Q (effects k S t c a)
+pub effects_has : (Q : State → Type 0) (k : Kind) (S : State) (t : ℕ) (c : Call) (a : Answer) → Cases Q k S t c → Q S → Q (with_answer S c a) → (k ≡ Exit → Q (exited_process S t c.a0)) → Q (effects_of_answer k S t c a)
 effects_has Q Exit S t c a cases same writes exits = exits refl
 effects_has Q Random S t c a cases same writes exits = asked_has Q S c (with_answer S c a) same writes
 effects_has Q Recv S t c a cases same writes exits = asked_has Q S c (with_answer S c a) same writes
@@ -109,7 +109,7 @@ effects_has Q Number S t c a cases same writes exits = same
 effects_has Q _ S t c a cases same writes exits = writes
 
 -- and but for the end of the thread
-pub acted_has : (Q : State → Type 0) (o : Option Kind) (S : State) (t : ℕ) (c : Call) (a : Answer) → ((k : Kind) → Cases Q k S t c) → Q S → Q (with_answer S c a) → Q (acted o S t c a)
+pub acted_has : (Q : State → Type 0) (o : Option Kind) (S : State) (t : ℕ) (c : Call) (a : Answer) → ((k : Kind) → Cases Q k S t c) → Q S → Q (with_answer S c a) → Q (acted_on_answer o S t c a)
 acted_has Q (Some Lock) S t c a cases same writes = locked_has Q S (narrow c.a0) t S same same ((cases Lock).locks refl)
 acted_has Q (Some Unlock) S t c a cases same writes = unlocked_has Q S (narrow c.a0) t S same ((cases Unlock).unlocks refl)
 acted_has Q (Some OnSignal) S t c a cases same writes = handled_has Q S (narrow c.a0) (narrow c.a1) S same ((cases OnSignal).handles refl)

@@ -8,7 +8,7 @@ use Rattle.std.proofs.lemmas.List.{length-set}
 use Rattle.call_table.specs.Table.{kind_numbered}
 use Rattle.call_table.specs.declared.kind.Kind.TheVariants.{Spawn, Lock, Unlock}
 use Rattle.coop_threads.specs.Crew.{holder_of}
-use Rattle.coop_threads.specs.Locks.{Holders, holders_after}
+use Rattle.coop_threads.specs.Locks.{LockHolders, holders_after}
 use Rattle.coop_threads.specs.declared.slot.Slot.{Slot}
 use Rattle.coop_threads.specs.declared.slot.Slot.TheVariants.{Kept, Over}
 use Rattle.lib_calls.specs.Answer.{answer_of}
@@ -18,12 +18,12 @@ use Rattle.wasm_step.specs.Store.{handler_at}
 use Rattle.wasm_step.specs.Strand.{new_thread}
 use Rattle.wasm_step.specs.Thread.{Thread}
 use Rattle.guest_process.specs.declared.waiting.Waiting.{Waiting}
-use Rattle.guest_process.specs.Answers.{effects, narrow, spawnable}
+use Rattle.guest_process.specs.Answers.{effects_of_answer, narrow, spawnable}
 use Rattle.guest_process.specs.Crews.{AsMany, LockAfter, LockKept, Locked, MadeAfter, OneMore, OnlySpawnAdds, OtherThreadsStay, Same, Unlocked}
 use Rattle.guest_process.specs.Fits.{StateFits, WaitingFits}
 use Rattle.guest_process.specs.GoesOn.{with_event_counted}
-use Rattle.guest_process.specs.Legal.{checks, reason_at}
-use Rattle.guest_process.specs.Next.{next_at}
+use Rattle.guest_process.specs.Legal.{entry_checks, reason_at}
+use Rattle.guest_process.specs.Next.{next_at_thread}
 use Rattle.guest_process.specs.Start.{waiting_at}
 use Rattle.guest_process.specs.State.{State, is_running, thread_at, with_lock, with_new_thread, without_lock}
 use Rattle.guest_process.proofs.KeptByEvents.{Keeps, Stand, affected, one_more, set_other, went_on}
@@ -35,9 +35,9 @@ use Rattle.guest_process.proofs.MadeThreads.{found_at, has_room}
 use Rattle.guest_process.proofs.LegalEntries.{call_told, fits_at}
 
 -- what the thread changes that goes on after the answer
-goes : KeepsModule → (S : State) (e : Entry) → StateFits S → (w : Waiting) → Keeps WaitingFits e.thread (with_event_counted (effects w.kind S e.thread w.call (answer_of e)) e.clock) (next_at S e (Some w))
+goes : KeepsModule → (S : State) (e : Entry) → StateFits S → (w : Waiting) → Keeps WaitingFits e.thread (with_event_counted (effects_of_answer w.kind S e.thread w.call (answer_of e)) e.clock) (next_at_thread S e (Some w))
 goes keeps S e s w =
-    let S' = effects w.kind S e.thread w.call (answer_of e) in
+    let S' = effects_of_answer w.kind S e.thread w.call (answer_of e) in
     let n = affected WaitingFits w.kind S e.thread w.call (answer_of e) s.threads (begin_fits S.store.«module») in
     went_on WaitingFits keeps w.kind S' e.thread w e.reply e.signal e.clock n.threads (subst (Stand WaitingFits) (sym n.«module») (stand_fits S.store.«module»))
 
@@ -52,13 +52,13 @@ last : (slots : List (Slot Waiting)) (w : Waiting) → slice_get (slots ++ Kept 
 last [] w = refl
 last (slot ∷ slots) w = last slots w
 
-answer_others : (S : State) (e : Entry) (w : Waiting) (u : ℕ) → u ≢ e.thread → u < length S.crew.threads → slice_get (effects w.kind S e.thread w.call (answer_of e)).crew.threads u ≡ slice_get S.crew.threads u
+answer_others : (S : State) (e : Entry) (w : Waiting) (u : ℕ) → u ≢ e.thread → u < length S.crew.threads → slice_get (effects_of_answer w.kind S e.thread w.call (answer_of e)).crew.threads u ≡ slice_get S.crew.threads u
 answer_others S e w u other low =
     effects_has (λ S'. slice_get S'.crew.threads u ≡ slice_get S.crew.threads u) w.kind S e.thread w.call (answer_of e)
     (record { locks = λ k free. refl; unlocks = λ k held. refl; handles = λ k h given. refl; spawns = λ k f found thread starts. before_last S.crew.threads u (waiting_at S.store.«module» thread) low })
     refl refl (λ k. set_other S.crew.threads e.thread u Over other)
 
-others_at : KeepsModule → (S : State) (e : Entry) → StateFits S → (o : Option Waiting) → reason_at S e o ≡ None → (u : ℕ) → u ≢ e.thread → u < length S.crew.threads → slice_get (next_at S e o).crew.threads u ≡ slice_get S.crew.threads u
+others_at : KeepsModule → (S : State) (e : Entry) → StateFits S → (o : Option Waiting) → reason_at S e o ≡ None → (u : ℕ) → u ≢ e.thread → u < length S.crew.threads → slice_get (next_at_thread S e o).crew.threads u ≡ slice_get S.crew.threads u
 others_at keeps S e s None h u other low = cc
 others_at keeps S e s (Some w) h u other low = (goes keeps S e s w).others u other ∙ answer_others S e w u other low
 
@@ -69,7 +69,7 @@ others_kept keeps S e s h = others_at keeps S e s (thread_at S e.thread) (unless
 -- ---- the threads that are made
 
 -- the thread's call is of this kind
-told_kind : (S : State) (e : Entry) → StateFits S → (w : Waiting) → thread_at S e.thread ≡ Some w → Hold (checks S e w) → kind_numbered e.call.kind ≡ Some w.kind
+told_kind : (S : State) (e : Entry) → StateFits S → (w : Waiting) → thread_at S e.thread ≡ Some w → Hold (entry_checks S e w) → kind_numbered e.call.kind ≡ Some w.kind
 told_kind S e s w at holds = ap (λ call. kind_numbered call.kind) (call_told S e w holds) ∙ (fits_at S e.thread w s at).kind
 
 thread_made : (S : State) (e : Entry) (w : Waiting) (f : ℕ) (thread : Thread) → kind_numbered e.call.kind ≡ Some Spawn → e.call ≡ w.call → spawnable S (narrow w.call.a0) ≡ Some f → new_thread S.store.«module» f (narrow w.call.a1) ≡ Some thread → MadeAfter S e (with_new_thread S (waiting_at S.store.«module» thread))
@@ -98,14 +98,14 @@ made_later S S' S'' e low same others (OneMore n) = OneMore (record {
   made = others (length S.crew.threads) (λ is. absurd (omega (arith, low, is))) ∙ n.made;
 })
 
-made_at : KeepsModule → (S : State) (e : Entry) → StateFits S → (o : Option Waiting) → thread_at S e.thread ≡ o → reason_at S e o ≡ None → MadeAfter S e (next_at S e o)
+made_at : KeepsModule → (S : State) (e : Entry) → StateFits S → (o : Option Waiting) → thread_at S e.thread ≡ o → reason_at S e o ≡ None → MadeAfter S e (next_at_thread S e o)
 made_at keeps S e s None at h = cc
 made_at keeps S e s (Some w) at h =
-    let holds = all_hold (checks S e w) h in
+    let holds = all_hold (entry_checks S e w) h in
     let call = call_told S e w holds in
     let kind = told_kind S e s w at holds in
     let later = goes keeps S e s w in
-    made_later S (effects w.kind S e.thread w.call (answer_of e)) (next_at S e (Some w)) e (live_low S.crew.threads e.thread w at) later.room later.others
+    made_later S (effects_of_answer w.kind S e.thread w.call (answer_of e)) (next_at_thread S e (Some w)) e (live_low S.crew.threads e.thread w at) later.room later.others
     (effects_has (MadeAfter S e) w.kind S e.thread w.call (answer_of e)
     (record {
       locks = λ k free. AsMany refl;
@@ -121,10 +121,10 @@ spawn_adds keeps S e s h = made_at keeps S e s (thread_at S e.thread) refl (unle
 
 -- ---- the locks
 
-get_insert : (holders : Holders) (m n q : ℕ) → map.get (map.insert holders m n) q ≡ cond (q == m) (Some n) (map.get holders q)
+get_insert : (holders : LockHolders) (m n q : ℕ) → map.get (map.insert holders m n) q ≡ cond (q == m) (Some n) (map.get holders q)
 get_insert holders m n q = map.get-insert nat_cmp_total holders m n q ∙ ap (λ (b : Bool). cond b (Some n) (map.get holders q)) (unsigned_tied q m)
 
-get_remove : (holders : Holders) (m q : ℕ) → map.get (map.remove holders m) q ≡ cond (q == m) None (map.get holders q)
+get_remove : (holders : LockHolders) (m q : ℕ) → map.get (map.remove holders m) q ≡ cond (q == m) None (map.get holders q)
 get_remove holders m q = map.get-remove nat_cmp_total holders m q ∙ ap (λ (b : Bool). cond b None (map.get holders q)) (unsigned_tied q m)
 
 lock_taken : (S : State) (e : Entry) (w : Waiting) (m : ℕ) → kind_numbered e.call.kind ≡ Some Lock → e.call ≡ w.call → holder_of S.crew (narrow w.call.a0) ≡ None → LockAfter S e m (with_lock S (narrow w.call.a0) e.thread)
@@ -171,14 +171,14 @@ lock_later S S' S'' e m same (Locked l) =
 lock_later S S' S'' e m same (Unlocked l) =
     Unlocked (record { kind = l.kind; lock = l.lock; held = l.held; free = ap (λ holders. map.get holders m) same ∙ l.free })
 
-lock_at : KeepsModule → (S : State) (e : Entry) → StateFits S → (o : Option Waiting) → thread_at S e.thread ≡ o → reason_at S e o ≡ None → (m : ℕ) → LockAfter S e m (next_at S e o)
+lock_at : KeepsModule → (S : State) (e : Entry) → StateFits S → (o : Option Waiting) → thread_at S e.thread ≡ o → reason_at S e o ≡ None → (m : ℕ) → LockAfter S e m (next_at_thread S e o)
 lock_at keeps S e s None at h m = cc
 lock_at keeps S e s (Some w) at h m =
-    let holds = all_hold (checks S e w) h in
+    let holds = all_hold (entry_checks S e w) h in
     let call = call_told S e w holds in
     let kind = told_kind S e s w at holds in
-    let S' = effects w.kind S e.thread w.call (answer_of e) in
-    lock_later S S' (next_at S e (Some w)) e m (goes keeps S e s w).holders
+    let S' = effects_of_answer w.kind S e.thread w.call (answer_of e) in
+    lock_later S S' (next_at_thread S e (Some w)) e m (goes keeps S e s w).holders
     (effects_has (LockAfter S e m) w.kind S e.thread w.call (answer_of e)
     (record {
       locks = λ k free. lock_taken S e w m (kind ∙ ap Some k) call free;

@@ -7,7 +7,7 @@ use Rattle.coop_threads.specs.Locks.{grip_of, holders_after}
 use Rattle.coop_threads.specs.declared.grip.Grip.TheVariants.{Already, Held}
 use Rattle.coop_threads.specs.declared.slot.Slot.{Slot}
 use Rattle.coop_threads.specs.declared.status.Status.TheVariants.{Unknown}
-use Rattle.guest_process.specs.Answers.{after_need, locked, locks, unlocked}
+use Rattle.guest_process.specs.Answers.{after_need, locked, asks_for_lock, unlocked}
 use Rattle.guest_process.specs.declared.waiting.Waiting.{Waiting}
 use Rattle.guest_process.specs.State.{State, with_lock, without_lock}
 
@@ -21,11 +21,11 @@ unknown_past (slot ∷ slots) (suc t) past = unknown_past slots t (omega arith)
 pub lock_taken : (S : State) (m t : ℕ) → with_lock S m t ≡ after_need (locked S m t) S
 lock_taken S m t = by_holder (holder_of S.crew m) refl
   where
-    by_test : (holder : ℕ) (b : Bool) → S ≡ after_need (locks S m t (cond b Already (Held holder))) S
+    by_test : (holder : ℕ) (b : Bool) → S ≡ after_need (asks_for_lock S m t (cond b Already (Held holder))) S
     by_test holder true = refl
     by_test holder false = refl
 
-    by_holder : (o : Option ℕ) → holder_of S.crew m ≡ o → with_lock S m t ≡ after_need (locks S m t (grip_of o t)) S
+    by_holder : (o : Option ℕ) → holder_of S.crew m ≡ o → with_lock S m t ≡ after_need (asks_for_lock S m t (grip_of o t)) S
     by_holder None e = refl
     by_holder (Some holder) e =
         ap {B = State} (λ o. record S { crew = record S.crew { holders = holders_after S.crew.holders m t o } }) e ∙ by_test holder (holder == t)

@@ -23,9 +23,9 @@ use Rattle.call_table.specs.declared.kind.Kind.TheVariants.{Begin, Exit, Note, P
 use Rattle.lib_calls.specs.Answer.{Answer}
 use Rattle.wasm_step.specs.Strand.{new_thread}
 use Rattle.wasm_step.specs.Thread.{Thread}
-use Rattle.guest_process.specs.Answers.{Need, Fixed, Blocked, World, need_of_world, need, handled, handler_given, handles, is_empty, is_holder, is_payload, is_possible, is_due, brings_nothing, takes_datagram, joined, joins, locked, locks, narrow, replied, replies, spawnable, spawned, spawned_at, spawns, unlocked}
+use Rattle.guest_process.specs.Answers.{Need, Fixed, Blocked, World, need_of_world, need, handled, handler_given, handles_signal, is_empty, is_lock_holder, is_payload, is_possible, is_due, brings_nothing, takes_datagram, joined, joins_standing, locked, asks_for_lock, narrow, replied, replies_with, spawnable, spawned, spawned_at_index, spawns_thread, unlocked}
 use Rattle.guest_process.specs.Fits.{EnvFits, StateFits}
-use Rattle.guest_process.specs.Legal.{gives_answer}
+use Rattle.guest_process.specs.Legal.{need_gives_answer}
 use Rattle.guest_process.specs.Live.{Env, cut_datagram, random_answer, taken_of, world_answer}
 use Rattle.guest_process.specs.State.{State, without_lock}
 use Rattle.guest_process.proofs.FirstFailure.{kept, same}
@@ -68,26 +68,26 @@ asked_fits S c = by_test (is_good c S.store.memory)
 joined_fits : (S : State) (t u : ℕ) → ReplyFits (joined S t u)
 joined_fits S t u = by_test (u == t)
   where
-    by_status : (status : Status) → ReplyFits (joins S status)
+    by_status : (status : Status) → ReplyFits (joins_standing S status)
     by_status Unknown = omega arith
     by_status Live = tt
     by_status Taken = tt
     by_status Ended = omega arith
 
-    by_test : (b : Bool) → ReplyFits (cond b (Fixed minus_one S) (joins S (status_of (slice_get S.crew.threads u))))
+    by_test : (b : Bool) → ReplyFits (cond b (Fixed minus_one S) (joins_standing S (status_of (slice_get S.crew.threads u))))
     by_test true = omega arith
     by_test false = by_status (status_of (slice_get S.crew.threads u))
 
 locked_fits : (S : State) (m t : ℕ) → ReplyFits (locked S m t)
 locked_fits S m t = by_grip (grip_of (holder_of S.crew m) t)
   where
-    by_grip : (grip : Grip) → ReplyFits (locks S m t grip)
+    by_grip : (grip : Grip) → ReplyFits (asks_for_lock S m t grip)
     by_grip Got = omega arith
     by_grip Already = omega arith
     by_grip (Held holder) = tt
 
 unlocked_fits : (S : State) (m t : ℕ) → ReplyFits (unlocked S m t)
-unlocked_fits S m t = by_test (is_holder (holder_of S.crew m) t)
+unlocked_fits S m t = by_test (is_lock_holder (holder_of S.crew m) t)
   where
     by_test : (b : Bool) → ReplyFits (cond b (Fixed 0 (without_lock S m)) (Fixed minus_one S))
     by_test true = omega arith
@@ -96,18 +96,18 @@ unlocked_fits S m t = by_test (is_holder (holder_of S.crew m) t)
 handled_fits : (S : State) (signal number : ℕ) → ReplyFits (handled S signal number)
 handled_fits S signal number = by_given (handler_given S signal number)
   where
-    by_given : (o : Option (Option ℕ)) → ReplyFits (handles S signal o)
+    by_given : (o : Option (Option ℕ)) → ReplyFits (handles_signal S signal o)
     by_given None = omega arith
     by_given (Some h) = omega arith
 
 spawned_fits : (S : State) (index arg : ℕ) → length S.crew.threads ≤ most_threads → ReplyFits (spawned S index arg)
 spawned_fits S index arg few = by_func (spawnable S index)
   where
-    by_thread : (o : Option Thread) → ReplyFits (spawns S o)
+    by_thread : (o : Option Thread) → ReplyFits (spawns_thread S o)
     by_thread None = omega arith
     by_thread (Some thread) = omega (arith, few)
 
-    by_func : (o : Option ℕ) → ReplyFits (spawned_at S arg o)
+    by_func : (o : Option ℕ) → ReplyFits (spawned_at_index S arg o)
     by_func None = omega arith
     by_func (Some f) = by_thread (new_thread S.store.«module» f arg)
 
@@ -208,9 +208,9 @@ module _ (stays : StaysUntagged) (sent : IsFromGroup) where
       let short = try_recv_short S c e good in
       record { possible = or_left _ _ b.taken; reply = omega (arith, short, b.reply); incoming = omega (arith, short, b.incoming); tag = b.tag; clock = b.clock }
 
-  none_matches : (S : State) (c : Call) → Matches TryRecv S c (replies minus_two)
+  none_matches : (S : State) (c : Call) → Matches TryRecv S c (replies_with minus_two)
   none_matches S c = record {
-    possible = or_right (takes_datagram S.count c (replies minus_two)) _ refl;
+    possible = or_right (takes_datagram S.count c (replies_with minus_two)) _ refl;
     reply = omega arith;
     incoming = omega arith;
     tag = tt;
@@ -222,7 +222,7 @@ module _ (stays : StaysUntagged) (sent : IsFromGroup) where
   first_matches S c (datagram ∷ waiting) few e good a h =
       subst (Matches Recv S c) (same_Some _ _ h) (recv_matches S c _ e good (cut_brings S c datagram few))
 
-  tried_matches : (S : State) (c : Call) (mailbox : List (List ℕ)) → S.count ≤ 16 → kind_numbered c.kind ≡ Some TryRecv → is_good c S.store.memory ≡ true → Matches TryRecv S c (unwrap_or (taken_of S.count c.a1 mailbox) (replies minus_two))
+  tried_matches : (S : State) (c : Call) (mailbox : List (List ℕ)) → S.count ≤ 16 → kind_numbered c.kind ≡ Some TryRecv → is_good c S.store.memory ≡ true → Matches TryRecv S c (unwrap_or (taken_of S.count c.a1 mailbox) (replies_with minus_two))
   tried_matches S c [] few e good = none_matches S c
   tried_matches S c (datagram ∷ waiting) few e good = try_recv_matches S c _ e good (cut_brings S c datagram few)
 
@@ -266,7 +266,7 @@ possible_clock TryRecv S c a h = elim (or_cases (takes_datagram S.count c a) (is
 ]
 possible_clock _ S c a h = cc
 
-pub answer_clock : (k : Kind) (S : State) (c : Call) (n : Need) (a : Answer) → gives_answer n a (is_possible k S c a) ≡ true → clock_of a.tag ≤ 2 ^ 62
+pub answer_clock : (k : Kind) (S : State) (c : Call) (n : Need) (a : Answer) → need_gives_answer n a (is_possible k S c a) ≡ true → clock_of a.tag ≤ 2 ^ 62
 answer_clock k S c (Fixed r S') a h = rw (plain_tag a.tag a.incoming (and_parts (a.reply == r) (brings_nothing a.tag a.incoming) h).1) (omega arith)
 answer_clock k S c Blocked a h = cc
 answer_clock k S c World a h = possible_clock k S c a h

@@ -12,9 +12,9 @@ use Rattle.wasm_types.specs.Library.{kind_at}
 use Rattle.wasm_types.specs.Modules.{module_of}
 use Rattle.wasm_types.specs.declared.traps.Trap.TheVariants.{Exhausted, Unreachable}
 use Rattle.wasm_step.specs.After.{Halt, Calls, Ends, Traps, Sticks}
-use Rattle.wasm_step.specs.Strand.{Strand, answered}
+use Rattle.wasm_step.specs.Strand.{Strand, answered_strand}
 use Rattle.wasm_step.specs.Burst.{burst}
-use Rattle.wasm_step.specs.Suits.{Suits}
+use Rattle.wasm_step.specs.Suits.{SuitsModule}
 use Rattle.wasm_step.specs.Laws.{KeepsModule}
 use Rattle.wasm_step.specs.Thread.{Thread}
 use Rattle.wasm_stack.specs.declared.call.CallSite.{CallSite}
@@ -26,15 +26,15 @@ use Rattle.call_table.specs.declared.kind.Kind.TheVariants.{Exit}
 use Rattle.guest_process.specs.declared.parts.Parts.{Parts}
 use Rattle.guest_process.specs.declared.waiting.Waiting.{Waiting}
 use Rattle.lib_calls.specs.Answer.{Answer, answer_of}
-use Rattle.guest_process.specs.Advancing.{acted}
-use Rattle.guest_process.specs.Answers.{effects, exited, narrow}
+use Rattle.guest_process.specs.Advancing.{acted_on_answer}
+use Rattle.guest_process.specs.Answers.{effects_of_answer, exited_process, narrow}
 use Rattle.guest_process.specs.Fits.{Each, StateFits, live_has}
-use Rattle.guest_process.specs.GoesOn.{after_running, budget, with_event_counted, finished_if_over, handler, runs_on, stands, stopped, stopped_at_call, with_handler_frame}
+use Rattle.guest_process.specs.GoesOn.{after_running, instruction_budget, with_event_counted, finished_if_all_over, handler, thread_runs_on, stands, stopped_thread, stopped_at_call, with_handler_frame}
 use Rattle.guest_process.specs.Kinds.{ends_process, reply_value}
 use Rattle.guest_process.specs.Legal.{reason, reason_at}
-use Rattle.guest_process.specs.Next.{next, next_at}
+use Rattle.guest_process.specs.Next.{next, next_at_thread}
 use Rattle.guest_process.specs.Seen.{IsOfModule, state_of}
-use Rattle.guest_process.specs.Sound.{IsSound, IsStanding}
+use Rattle.guest_process.specs.Sound.{IsSoundProcess, IsStandingAtCall}
 use Rattle.guest_process.specs.Start.{waiting_at}
 use Rattle.guest_process.specs.State.{State, awaits_event, is_running, pending_kind as kind_of, thread_at, with_thread}
 use Rattle.guest_process.proofs.EventMarks.{MarkLaws}
@@ -62,8 +62,8 @@ live_is S e h none = by_thread (thread_at S e.thread) none (unless_none (is_runn
     by_thread None n r = cc
     by_thread (Some w) n r = cc
 
-pub stands_at : (S : State) (t : ℕ) (w : Waiting) → Each (IsStanding S.store.«module») S.crew.threads → thread_at S t ≡ Some w → IsStanding S.store.«module» w
-stands_at S t w f at = live_has (IsStanding S.store.«module») S.crew.threads t f w at
+pub stands_at : (S : State) (t : ℕ) (w : Waiting) → Each (IsStandingAtCall S.store.«module») S.crew.threads → thread_at S t ≡ Some w → IsStandingAtCall S.store.«module» w
+stands_at S t w f at = live_has (IsStandingAtCall S.store.«module») S.crew.threads t f w at
 
 pub is_out : (crew : Crew Waiting) (t : ℕ) (w : Waiting) → live_at crew t ≡ Some w → IsTaken (with_slot crew t Lent) t
 is_out crew t w at = by_slots crew.threads t at
@@ -90,33 +90,33 @@ called_out : (S : State) (t : ℕ) (thread : Thread) (site : CallSite) (o : Opti
 called_out S t thread site (Some kind) = with_again S t (Kept (stands S thread site kind))
 called_out S t thread site None = ap (λ S'. ended S' (Trapped Unreachable)) (with_again S t Over)
 
-stopped_out : (S : State) (t : ℕ) (stop : Halt) → stopped (with_thread S t Lent) t stop ≡ stopped S t stop
+stopped_out : (S : State) (t : ℕ) (stop : Halt) → stopped_thread (with_thread S t Lent) t stop ≡ stopped_thread S t stop
 stopped_out S t (Calls thread site) = called_out S t thread site (kind_at S.store.«module» site.func)
-stopped_out S t Ends = ap (λ S'. finished_if_over S') (with_again S t Over)
+stopped_out S t Ends = ap (λ S'. finished_if_all_over S') (with_again S t Over)
 stopped_out S t (Traps trap) = ap (λ S'. ended S' (Trapped trap)) (with_again S t Over)
 stopped_out S t Sticks = ap (λ S'. ended S' (Trapped Unreachable)) (with_again S t Over)
 
 runs_out : (S : State) (t : ℕ) (o : Option Thread) → after_running (with_thread S t Lent) t o ≡ after_running S t o
 runs_out S t None = ap (λ S'. ended S' (Trapped Exhausted)) (with_again S t Over)
 runs_out S t (Some thread) =
-    let run = burst budget thread S.store in
+    let run = burst instruction_budget thread S.store in
     stopped_out (record S { store = run.store }) t run.stop
 
 exits_by : (k : Kind) (S : State) (t : ℕ) (w : Waiting) (a : Answer) (signal clock : ℕ) → kind_numbered w.call.kind ≡ Some k → ends_process k ≡ true
-    → exited (with_event_counted (with_thread (acted (Some k) S t w.call a) t Lent) clock) t w.call.a0 ≡ runs_on k (effects k S t w.call a) t w.strand a.reply signal clock
+    → exited_process (with_event_counted (with_thread (acted_on_answer (Some k) S t w.call a) t Lent) clock) t w.call.a0 ≡ thread_runs_on k (effects_of_answer k S t w.call a) t w.strand a.reply signal clock
 exits_by Exit S t w a signal clock e h =
-    ap (λ S'. exited (with_event_counted (with_thread S' t Lent) clock) t w.call.a0) (exit_written S w.call a e)
+    ap (λ S'. exited_process (with_event_counted (with_thread S' t Lent) clock) t w.call.a0) (exit_written S w.call a e)
     ∙ ap (λ S'. record (with_event_counted S' clock) { end = Exited (cast_signed w32 (w.call.a0 % 2 ^ 32)) }) (with_again S t Over)
 exits_by _ S t w a signal clock e h = cc
 
 -- how a thread goes on that was taken out of the state after its answer
 abbrev pub goes_out : Kind → State → ℕ → Strand → ℕ → ℕ → ℕ → State
 goes_out k S t strand reply signal clock =
-    after_running (with_event_counted (with_thread S t Lent) clock) t (with_handler_frame S.store.«module» (answered strand (reply_value k reply)) signal (handler S.handlers signal))
+    after_running (with_event_counted (with_thread S t Lent) clock) t (with_handler_frame S.store.«module» (answered_strand strand (reply_value k reply)) signal (handler S.handlers signal))
 
-runs_by : (k : Kind) (S : State) (t : ℕ) (strand : Strand) (reply signal clock : ℕ) → ends_process k ≡ false → goes_out k S t strand reply signal clock ≡ runs_on k S t strand reply signal clock
+runs_by : (k : Kind) (S : State) (t : ℕ) (strand : Strand) (reply signal clock : ℕ) → ends_process k ≡ false → goes_out k S t strand reply signal clock ≡ thread_runs_on k S t strand reply signal clock
 runs_by k S t strand reply signal clock h =
-    let thread = with_handler_frame S.store.«module» (answered strand (reply_value k reply)) signal (handler S.handlers signal) in
+    let thread = with_handler_frame S.store.«module» (answered_strand strand (reply_value k reply)) signal (handler S.handlers signal) in
     runs_out (with_event_counted S clock) t thread
     ∙ ap (λ ends. cond ends (with_event_counted S clock) (after_running (with_event_counted S clock) t thread)) (sym h)
 
@@ -129,33 +129,33 @@ kept_before (slot ∷ slots) zero new w at = at
 kept_before (slot ∷ slots) (suc t) new w at = kept_before slots t new w at
 
 -- the thread stands as it stood
-same_thread : (o : Option Kind) (S : State) (t : ℕ) (c : Call) (a : Answer) (w : Waiting) → thread_at S t ≡ Some w → thread_at (acted o S t c a) t ≡ Some w
+same_thread : (o : Option Kind) (S : State) (t : ℕ) (c : Call) (a : Answer) (w : Waiting) → thread_at S t ≡ Some w → thread_at (acted_on_answer o S t c a) t ≡ Some w
 same_thread o S t c a w at =
     acted_has (λ S'. thread_at S' t ≡ Some w) o S t c a (λ k. record { locks = λ e free. at; unlocks = λ e held. at; handles = λ e h given. at; spawns = λ e f found thread starts. kept_before S.crew.threads t (waiting_at S.store.«module» thread) w at }) at at
 
-pub taken_is : (S : State) (e : Entry) (o : Option Kind) (w : Waiting) → reason S e ≡ None → thread_at (acted o S e.thread e.call (answer_of e)) e.thread ≡ Some w → thread_at S e.thread ≡ Some w
+pub taken_is : (S : State) (e : Entry) (o : Option Kind) (w : Waiting) → reason S e ≡ None → thread_at (acted_on_answer o S e.thread e.call (answer_of e)) e.thread ≡ Some w → thread_at S e.thread ≡ Some w
 taken_is S e o w legal after = by_thread (thread_at S e.thread) refl
   where
     by_thread : (found : Option Waiting) → thread_at S e.thread ≡ found → thread_at S e.thread ≡ Some w
     by_thread None at = absurd (live_is S e legal at)
     by_thread (Some found) at = at ∙ sym (same_thread o S e.thread e.call (answer_of e) found at) ∙ after
 
-pub still_live : (S : State) (e : Entry) (o : Option Kind) → reason S e ≡ None → thread_at (acted o S e.thread e.call (answer_of e)) e.thread ≡ None → ⊥
+pub still_live : (S : State) (e : Entry) (o : Option Kind) → reason S e ≡ None → thread_at (acted_on_answer o S e.thread e.call (answer_of e)) e.thread ≡ None → ⊥
 still_live S e o legal after = by_thread (thread_at S e.thread) refl
   where
     by_thread : (found : Option Waiting) → thread_at S e.thread ≡ found → ⊥
     by_thread None at = live_is S e legal at
     by_thread (Some found) at = let there = same_thread o S e.thread e.call (answer_of e) found at in cc
 
-pub acted_module : (S : State) (e : Entry) (o : Option Kind) → (acted o S e.thread e.call (answer_of e)).store.«module» ≡ S.store.«module»
+pub acted_module : (S : State) (e : Entry) (o : Option Kind) → (acted_on_answer o S e.thread e.call (answer_of e)).store.«module» ≡ S.store.«module»
 acted_module S e o =
     acted_has (λ S'. S'.store.«module» ≡ S.store.«module») o S e.thread e.call (answer_of e) (λ k. record { locks = λ h free. refl; unlocks = λ h held. refl; handles = λ e h given. refl; spawns = λ e f found thread starts. refl }) refl refl
 
-pub acted_events : (S : State) (e : Entry) (o : Option Kind) → (acted o S e.thread e.call (answer_of e)).events ≡ S.events
+pub acted_events : (S : State) (e : Entry) (o : Option Kind) → (acted_on_answer o S e.thread e.call (answer_of e)).events ≡ S.events
 acted_events S e o =
     acted_has (λ S'. S'.events ≡ S.events) o S e.thread e.call (answer_of e) (λ k. record { locks = λ h free. refl; unlocks = λ h held. refl; handles = λ e h given. refl; spawns = λ e f found thread starts. refl }) refl refl
 
-pub acted_handlers : (S : State) (e : Entry) (o : Option Kind) → AreHandlers S.store.«module» S.handlers → AreHandlers S.store.«module» (acted o S e.thread e.call (answer_of e)).handlers
+pub acted_handlers : (S : State) (e : Entry) (o : Option Kind) → AreHandlers S.store.«module» S.handlers → AreHandlers S.store.«module» (acted_on_answer o S e.thread e.call (answer_of e)).handlers
 acted_handlers S e o sound =
     acted_has (λ S'. AreHandlers S.store.«module» S'.handlers) o S e.thread e.call (answer_of e) (λ k. record {
       locks = λ h free. sound;
@@ -167,30 +167,30 @@ acted_handlers S e o sound =
 
 -- the event of a thread that calls `exit`
 pub exits : (S : State) (e : Entry) (w : Waiting) → StateFits S → reason S e ≡ None → thread_at S e.thread ≡ Some w → ends_process w.kind ≡ true
-    → awaits_event (exited (with_event_counted (with_thread (acted (kind_of S e.thread) S e.thread e.call (answer_of e)) e.thread Lent) e.clock) e.thread w.call.a0) ≡ next S e
+    → awaits_event (exited_process (with_event_counted (with_thread (acted_on_answer (kind_of S e.thread) S e.thread e.call (answer_of e)) e.thread Lent) e.clock) e.thread w.call.a0) ≡ next S e
 exits S e w s legal at h =
-    ap awaits_event (ap (λ o. exited (with_event_counted (with_thread (acted (option_map (λ w. w.kind) o) S e.thread e.call (answer_of e)) e.thread Lent) e.clock) e.thread w.call.a0) at
-    ∙ ap (λ call. exited (with_event_counted (with_thread (acted (Some w.kind) S e.thread call (answer_of e)) e.thread Lent) e.clock) e.thread w.call.a0) (call_told S e w (legal_at S e w legal at))
+    ap awaits_event (ap (λ o. exited_process (with_event_counted (with_thread (acted_on_answer (option_map (λ w. w.kind) o) S e.thread e.call (answer_of e)) e.thread Lent) e.clock) e.thread w.call.a0) at
+    ∙ ap (λ call. exited_process (with_event_counted (with_thread (acted_on_answer (Some w.kind) S e.thread call (answer_of e)) e.thread Lent) e.clock) e.thread w.call.a0) (call_told S e w (legal_at S e w legal at))
     ∙ exits_by w.kind S e.thread w (answer_of e) e.signal e.clock (fits_at S e.thread w s at).kind h)
-    ∙ ap (next_at S e) (sym at)
+    ∙ ap (next_at_thread S e) (sym at)
 
 -- the event of another
 pub goes : (S : State) (e : Entry) (w : Waiting) → StateFits S → reason S e ≡ None → thread_at S e.thread ≡ Some w → ends_process w.kind ≡ false
-    → awaits_event (goes_out w.kind (acted (kind_of S e.thread) S e.thread e.call (answer_of e)) e.thread w.strand e.reply e.signal e.clock) ≡ next S e
+    → awaits_event (goes_out w.kind (acted_on_answer (kind_of S e.thread) S e.thread e.call (answer_of e)) e.thread w.strand e.reply e.signal e.clock) ≡ next S e
 goes S e w s legal at h =
     let effect = effects_acted w.kind S e.thread w.call (answer_of e) (fits_at S e.thread w s at).kind h in
-    ap awaits_event (ap (λ o. goes_out w.kind (acted (option_map (λ w. w.kind) o) S e.thread e.call (answer_of e)) e.thread w.strand e.reply e.signal e.clock) at
-    ∙ ap (λ call. goes_out w.kind (acted (Some w.kind) S e.thread call (answer_of e)) e.thread w.strand e.reply e.signal e.clock) (call_told S e w (legal_at S e w legal at))
+    ap awaits_event (ap (λ o. goes_out w.kind (acted_on_answer (option_map (λ w. w.kind) o) S e.thread e.call (answer_of e)) e.thread w.strand e.reply e.signal e.clock) at
+    ∙ ap (λ call. goes_out w.kind (acted_on_answer (Some w.kind) S e.thread call (answer_of e)) e.thread w.strand e.reply e.signal e.clock) (call_told S e w (legal_at S e w legal at))
     ∙ ap (λ S'. goes_out w.kind S' e.thread w.strand e.reply e.signal e.clock) (sym effect)
-    ∙ runs_by w.kind (effects w.kind S e.thread w.call (answer_of e)) e.thread w.strand e.reply e.signal e.clock h)
-    ∙ ap (next_at S e) (sym at)
+    ∙ runs_by w.kind (effects_of_answer w.kind S e.thread w.call (answer_of e)) e.thread w.strand e.reply e.signal e.clock h)
+    ∙ ap (next_at_thread S e) (sym at)
 
 -- ---- the parts after a legal entry's event are those of a process
 
-pub process_kept : KeepsModule → MarkLaws → (p q : Parts) (e : Entry) → IsOfModule p → reason (state_of p) e ≡ None → state_of q ≡ next (state_of p) e → q.«module» ≡ p.«module» → Suits q.store → IsOfModule q
+pub process_kept : KeepsModule → MarkLaws → (p q : Parts) (e : Entry) → IsOfModule p → reason (state_of p) e ≡ None → state_of q ≡ next (state_of p) e → q.«module» ≡ p.«module» → SuitsModule q.store → IsOfModule q
 process_kept keeps marks p q e is h state same_module suits = record {
   suits = suits;
   same_module = ap (λ r. module_of r.now) same_module ∙ is.same_module ∙ sym (ap (λ S. S.store.«module») state ∙ next_module keeps (state_of p) e is.sound);
   fits = subst StateFits (sym state) (state_kept keeps marks (state_of p) e is.fits h);
-  sound = subst IsSound (sym state) (sound_kept keeps (state_of p) e is.sound h);
+  sound = subst IsSoundProcess (sym state) (sound_kept keeps (state_of p) e is.sound h);
 }

@@ -10,17 +10,17 @@ use Rattle.wasm_step.specs.After.{Halt, Calls, Ends, Traps, Sticks}
 use Rattle.wasm_step.specs.Burst.{burst}
 use Rattle.wasm_step.specs.Start.{first_store}
 use Rattle.wasm_step.specs.Store.{Store}
-use Rattle.wasm_step.specs.Strand.{answered, first_thread}
+use Rattle.wasm_step.specs.Strand.{answered_strand, first_thread}
 use Rattle.wasm_step.specs.Thread.{Thread}
 use Rattle.wasm_stack.specs.declared.call.CallSite.{CallSite}
 use Rattle.guest_process.specs.declared.end.End.TheVariants.{Finished}
 use Rattle.guest_process.specs.declared.waiting.Waiting.{Waiting}
-use Rattle.guest_process.specs.Answers.{effects}
+use Rattle.guest_process.specs.Answers.{effects_of_answer}
 use Rattle.guest_process.specs.EventCount.{BeginsFresh, CountsEvents, IsFresh}
-use Rattle.guest_process.specs.GoesOn.{after_running, budget, with_event_counted, handler, stopped, stopped_at_call, with_handler_frame}
+use Rattle.guest_process.specs.GoesOn.{after_running, instruction_budget, with_event_counted, handler, stopped_thread, stopped_at_call, with_handler_frame}
 use Rattle.guest_process.specs.Kinds.{ends_process, reply_value}
 use Rattle.guest_process.specs.Legal.{reason_at}
-use Rattle.guest_process.specs.Next.{next_at}
+use Rattle.guest_process.specs.Next.{next_at_thread}
 use Rattle.guest_process.specs.Start.{begun_with}
 use Rattle.guest_process.specs.State.{State, is_running, thread_at}
 use Rattle.guest_process.proofs.FirstFailure.{unless_none}
@@ -38,7 +38,7 @@ begins m who count S h = by_store (first_store m) (first_thread m) h
 
 -- ---- neither an answer nor a burst counts
 
-answer_events : (k : Kind) (S : State) (t : ℕ) (c : Call) (a : Answer) → (effects k S t c a).events ≡ S.events
+answer_events : (k : Kind) (S : State) (t : ℕ) (c : Call) (a : Answer) → (effects_of_answer k S t c a).events ≡ S.events
 answer_events k S t c a =
     effects_has (λ S'. S'.events ≡ S.events) k S t c a (record { locks = λ e free. refl; unlocks = λ e held. refl; handles = λ e h given. refl; spawns = λ e f found thread starts. refl }) refl refl (λ e. refl)
 
@@ -50,7 +50,7 @@ called_events : (S : State) (t : ℕ) (thread : Thread) (site : CallSite) (o : O
 called_events S t thread site (Some kind) = refl
 called_events S t thread site None = refl
 
-stopped_events : (S : State) (t : ℕ) (stop : Halt) → (stopped S t stop).events ≡ S.events
+stopped_events : (S : State) (t : ℕ) (stop : Halt) → (stopped_thread S t stop).events ≡ S.events
 stopped_events S t (Calls thread site) = called_events S t thread site (kind_at S.store.«module» site.func)
 stopped_events S t Ends = settled_events _ _
 stopped_events S t (Traps trap) = refl
@@ -59,7 +59,7 @@ stopped_events S t Sticks = refl
 runs_events : (S : State) (t : ℕ) (o : Option Thread) → (after_running S t o).events ≡ S.events
 runs_events S t None = refl
 runs_events S t (Some thread) =
-    let run = burst budget thread S.store in
+    let run = burst instruction_budget thread S.store in
     stopped_events (record S { store = run.store }) t run.stop
 
 event_events : (b : Bool) (S : State) (t : ℕ) (o : Option Thread) → (cond b S (after_running S t o)).events ≡ S.events
@@ -68,12 +68,12 @@ event_events false S t o = runs_events S t o
 
 -- ---- a legal entry counts once
 
-counts_at : (S : State) (e : Entry) (o : Option Waiting) → reason_at S e o ≡ None → (next_at S e o).events ≡ S.events + 1
+counts_at : (S : State) (e : Entry) (o : Option Waiting) → reason_at S e o ≡ None → (next_at_thread S e o).events ≡ S.events + 1
 counts_at S e None h = cc
 counts_at S e (Some w) h =
     let k = w.kind in
-    let S' = effects k S e.thread w.call (answer_of e) in
-    event_events (ends_process k) (with_event_counted S' e.clock) e.thread (with_handler_frame S'.store.«module» (answered w.strand (reply_value k e.reply)) e.signal (handler S'.handlers e.signal))
+    let S' = effects_of_answer k S e.thread w.call (answer_of e) in
+    event_events (ends_process k) (with_event_counted S' e.clock) e.thread (with_handler_frame S'.store.«module» (answered_strand w.strand (reply_value k e.reply)) e.signal (handler S'.handlers e.signal))
     ∙ ap (λ n. n + 1) (answer_events k S e.thread w.call (answer_of e))
 
 pub counts : CountsEvents

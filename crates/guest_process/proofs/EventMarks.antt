@@ -12,7 +12,7 @@ use Rattle.guest_memory.specs.Laws.{FreshIsUnstamped, NoLaterWhenWritten, Stamps
 use Rattle.guest_memory.specs.Memory.{Memory, is_inside, with_bytes}
 use Rattle.guest_memory.specs.Stamps.{AreWithin}
 use Rattle.lib_calls.specs.Answer.{Answer, answer_of}
-use Rattle.lib_calls.specs.Effects.{is_good, minus_two, put_in, with_received, taken, memory_after_answer as memory_with, sender_of}
+use Rattle.lib_calls.specs.Effects.{is_good, minus_two, put_in_memory, with_received, taken, memory_after_answer as memory_with, sender_of}
 use Rattle.lib_calls.specs.declared.entry.Call.{Call}
 use Rattle.lib_calls.specs.declared.entry.Entry.{Entry}
 use Rattle.wasm_types.specs.Library.{kind_at}
@@ -20,22 +20,22 @@ use Rattle.wasm_types.specs.Modules.{GlobalDef, Module, Segment}
 use Rattle.wasm_types.specs.declared.code.Value.{Value}
 use Rattle.wasm_step.specs.Burst.{burst}
 use Rattle.wasm_step.specs.Laws.{KeepsStamps, TellsMarks}
-use Rattle.wasm_step.specs.Marks.{Marked, MarksFollow, StoreMarksTell, MarksWithin, NothingMarks, WritesMark}
+use Rattle.wasm_step.specs.Marks.{MarkedStore, MarksFollow, StoreMarksTell, MarksWithin, NothingMarks, WritesMark}
 use Rattle.wasm_step.specs.After.{Halt, Calls, Ends, Traps, Sticks}
-use Rattle.wasm_step.specs.Start.{memory_before_segments, first_min, first_most, first_store, initial, initial_globals, offset_in, put_segments, segments_fit, unset}
+use Rattle.wasm_step.specs.Start.{memory_before_segments, first_min, first_most, first_store, initial_value, initial_globals, offset_in, put_segments, segments_fit, unset_globals}
 use Rattle.wasm_step.specs.Store.{Store}
-use Rattle.wasm_step.specs.Strand.{answered}
-use Rattle.wasm_step.specs.Suits.{Suits}
+use Rattle.wasm_step.specs.Strand.{answered_strand}
+use Rattle.wasm_step.specs.Suits.{SuitsModule}
 use Rattle.wasm_step.specs.Thread.{Thread}
 use Rattle.wasm_stack.specs.declared.call.CallSite.{CallSite}
 use Rattle.guest_process.specs.declared.end.End.TheVariants.{Finished}
 use Rattle.guest_process.specs.declared.waiting.Waiting.{Waiting}
-use Rattle.guest_process.specs.Answers.{effects}
+use Rattle.guest_process.specs.Answers.{effects_of_answer}
 use Rattle.guest_process.specs.Fits.{StateFits}
-use Rattle.guest_process.specs.GoesOn.{after_running, budget, with_event_counted, handler, runs_on, stopped, stopped_at_call, with_handler_frame}
+use Rattle.guest_process.specs.GoesOn.{after_running, instruction_budget, with_event_counted, handler, thread_runs_on, stopped_thread, stopped_at_call, with_handler_frame}
 use Rattle.guest_process.specs.Kinds.{ends_process, reply_value}
 use Rattle.guest_process.specs.Marks.{UnmarkedStays}
-use Rattle.guest_process.specs.Next.{next_at}
+use Rattle.guest_process.specs.Next.{next_at_thread}
 use Rattle.guest_process.specs.State.{State, thread_at}
 use Rattle.guest_process.proofs.CallEffects.{effects_has}
 use Rattle.guest_process.proofs.FirstFailure.{kept}
@@ -65,14 +65,14 @@ module _ (writes : NoLaterWhenWritten) where
       then_no_later memory first (put_segments globals ss first) (segment_stamps (is_inside memory (offset_in globals s.offset) (length s.bytes)) memory (offset_in globals s.offset) s.bytes)
       (segments_stamps globals ss first)
 
-  unset_within : (globals : List GlobalDef) → AreWithin 0 (unset globals)
+  unset_within : (globals : List GlobalDef) → AreWithin 0 (unset_globals globals)
   unset_within [] = tt
   unset_within (d ∷ ds) = (omega arith, unset_within ds)
 
-  unset_even : (globals : List GlobalDef) → length (unset globals) ≡ length (map initial globals)
+  unset_even : (globals : List GlobalDef) → length (unset_globals globals) ≡ length (map initial_value globals)
   unset_even globals =
       let nothing : GlobalDef → ℕ = λ d. 0 in
-      length-map globals nothing ∙ sym (length-map globals initial)
+      length-map globals nothing ∙ sym (length-map globals initial_value)
 
   pub first_marks : FreshIsUnstamped → (m : Module) (g : Store) → first_store m ≡ Some g → MarksWithin 0 g
   first_marks unstamped m g h =
@@ -95,34 +95,34 @@ pub record MarkLaws : Type 0 where
   pub follow : MarksFollow
 
 module _ (laws : MarkLaws) where
-  taken_marks : (c : Call) (payload sender : List ℕ) (g : Store) → Marked g (record g { memory = taken c payload sender g.memory })
+  taken_marks : (c : Call) (payload sender : List ℕ) (g : Store) → MarkedStore g (record g { memory = taken c payload sender g.memory })
   taken_marks c payload sender g =
       let middle : Store = record g { memory = with_bytes g.memory c.a0 payload } in
       laws.follow g middle (record g { memory = taken c payload sender g.memory }) (laws.written g c.a0 payload) (laws.written middle c.a2 sender)
 
-  either_marks : (b : Bool) (g : Store) (memory : Memory) → Marked g (record g { memory = memory }) → Marked g (record g { memory = cond b g.memory memory })
+  either_marks : (b : Bool) (g : Store) (memory : Memory) → MarkedStore g (record g { memory = memory }) → MarkedStore g (record g { memory = cond b g.memory memory })
   either_marks true g memory h = laws.nothing g
   either_marks false g memory h = h
 
-  put_marks : (k : Kind) (c : Call) (a : Answer) (g : Store) → Marked g (record g { memory = put_in k c a g.memory })
+  put_marks : (k : Kind) (c : Call) (a : Answer) (g : Store) → MarkedStore g (record g { memory = put_in_memory k c a g.memory })
   put_marks Random c a g = laws.written g c.a0 a.incoming
   put_marks Recv c a g = taken_marks c a.incoming (to_le_bytes w32 (sender_of a.tag)) g
   put_marks TryRecv c a g = either_marks (a.reply == minus_two) g (with_received c a g.memory) (taken_marks c a.incoming (to_le_bytes w32 (sender_of a.tag)) g)
   put_marks _ c a g = laws.nothing g
 
-  written_marks : (c : Call) (a : Answer) (g : Store) → Marked g (record g { memory = memory_with c a g.memory })
+  written_marks : (c : Call) (a : Answer) (g : Store) → MarkedStore g (record g { memory = memory_with c a g.memory })
   unfolding memory_with
   written_marks c a g = by_test (is_good c g.memory) (kind_numbered c.kind)
     where
-      by_test : (b : Bool) (o : Option Kind) → Marked g (record g { memory = cond b (option_map_or (λ kind. put_in kind c a g.memory) o g.memory) g.memory })
+      by_test : (b : Bool) (o : Option Kind) → MarkedStore g (record g { memory = cond b (option_map_or (λ kind. put_in_memory kind c a g.memory) o g.memory) g.memory })
       by_test true None = laws.nothing g
       by_test true (Some k) = put_marks k c a g
       by_test false o = laws.nothing g
 
-  effects_marks : (k : Kind) (S : State) (t : ℕ) (c : Call) (a : Answer) → Marked S.store (effects k S t c a).store
+  effects_marks : (k : Kind) (S : State) (t : ℕ) (c : Call) (a : Answer) → MarkedStore S.store (effects_of_answer k S t c a).store
   effects_marks k S t c a =
       let same = laws.nothing S.store in
-      effects_has (λ S'. Marked S.store S'.store) k S t c a (record { locks = λ e free. same; unlocks = λ e held. same; handles = λ e h given. same; spawns = λ e f found thread starts. same })
+      effects_has (λ S'. MarkedStore S.store S'.store) k S t c a (record { locks = λ e free. same; unlocks = λ e held. same; handles = λ e h given. same; spawns = λ e f found thread starts. same })
       same (written_marks c a S.store) (λ e. same)
 
   settled_store : (S : State) (b : Bool) → (cond b (record S { end = Finished }) S).store ≡ S.store
@@ -133,28 +133,28 @@ module _ (laws : MarkLaws) where
   called_store S t thread site (Some kind) = refl
   called_store S t thread site None = refl
 
-  stopped_store : (S : State) (t : ℕ) (stop : Halt) → (stopped S t stop).store ≡ S.store
+  stopped_store : (S : State) (t : ℕ) (stop : Halt) → (stopped_thread S t stop).store ≡ S.store
   stopped_store S t (Calls thread site) = called_store S t thread site (kind_at S.store.«module» site.func)
   stopped_store S t Ends = settled_store _ _
   stopped_store S t (Traps trap) = refl
   stopped_store S t Sticks = refl
 
-  runs_marks : (S : State) (t : ℕ) (o : Option Thread) → Marked S.store (after_running S t o).store
+  runs_marks : (S : State) (t : ℕ) (o : Option Thread) → MarkedStore S.store (after_running S t o).store
   runs_marks S t None = laws.nothing S.store
   runs_marks S t (Some thread) =
-      let run = burst budget thread S.store in
-      subst (λ g. Marked S.store g) (sym (stopped_store (record S { store = run.store }) t run.stop)) (record { later = laws.keeps budget thread S.store; told = laws.tells budget thread S.store })
+      let run = burst instruction_budget thread S.store in
+      subst (λ g. MarkedStore S.store g) (sym (stopped_store (record S { store = run.store }) t run.stop)) (record { later = laws.keeps instruction_budget thread S.store; told = laws.tells instruction_budget thread S.store })
 
-  event_marks : (b : Bool) (S : State) (t : ℕ) (o : Option Thread) → Marked S.store (cond b S (after_running S t o)).store
+  event_marks : (b : Bool) (S : State) (t : ℕ) (o : Option Thread) → MarkedStore S.store (cond b S (after_running S t o)).store
   event_marks true S t o = laws.nothing S.store
   event_marks false S t o = runs_marks S t o
 
   -- an event of a thread that stands so, as far as the number of the next
-  ran_marks : (S : State) (e : Entry) (w : Waiting) → Marked S.store (runs_on w.kind (effects w.kind S e.thread w.call (answer_of e)) e.thread w.strand e.reply e.signal e.clock).store
+  ran_marks : (S : State) (e : Entry) (w : Waiting) → MarkedStore S.store (thread_runs_on w.kind (effects_of_answer w.kind S e.thread w.call (answer_of e)) e.thread w.strand e.reply e.signal e.clock).store
   ran_marks S e w =
-      let after = effects w.kind S e.thread w.call (answer_of e) in
-      let ran = runs_on w.kind after e.thread w.strand e.reply e.signal e.clock in
-      let thread = with_handler_frame after.store.«module» (answered w.strand (reply_value w.kind e.reply)) e.signal (handler after.handlers e.signal) in
+      let after = effects_of_answer w.kind S e.thread w.call (answer_of e) in
+      let ran = thread_runs_on w.kind after e.thread w.strand e.reply e.signal e.clock in
+      let thread = with_handler_frame after.store.«module» (answered_strand w.strand (reply_value w.kind e.reply)) e.signal (handler after.handlers e.signal) in
       laws.follow S.store after.store ran.store (effects_marks w.kind S e.thread w.call (answer_of e)) (event_marks (ends_process w.kind) (with_event_counted after e.clock) e.thread thread)
 
   more_within : (ss : List ℕ) (n m : ℕ) → n ≤ m → AreWithin n ss → AreWithin m ss
@@ -170,10 +170,10 @@ module _ (laws : MarkLaws) where
   }
 
   -- the marks after it
-  pub next_within : (S : State) (e : Entry) (w : Waiting) → StateFits S → (next_at S e (Some w)).events ≡ S.events + 1
-      → MarksWithin (next_at S e (Some w)).events (next_at S e (Some w)).store
+  pub next_within : (S : State) (e : Entry) (w : Waiting) → StateFits S → (next_at_thread S e (Some w)).events ≡ S.events + 1
+      → MarksWithin (next_at_thread S e (Some w)).events (next_at_thread S e (Some w)).store
   next_within S e w s events =
-      let ran = runs_on w.kind (effects w.kind S e.thread w.call (answer_of e)) e.thread w.strand e.reply e.signal e.clock in
+      let ran = thread_runs_on w.kind (effects_of_answer w.kind S e.thread w.call (answer_of e)) e.thread w.strand e.reply e.signal e.clock in
       let here : MarksWithin S.events S.store = record { stamps = s.stamps; global_stamps = s.global_stamps; size_stamp = s.size_stamp; even = s.even } in
       let before = subst (λ n. MarksWithin n S.store) (sym s.number) (more S.store S.events (S.events + 1) (omega arith) here) in
       let after = subst (λ n. MarksWithin n ran.store) (s.number ∙ sym events) ((ran_marks S e w).later.within before) in
@@ -192,15 +192,15 @@ module _ (laws : MarkLaws) where
     size = t.size;
   }
 
-  told_at : (S : State) (e : Entry) (o : Option Waiting) → StoreMarksTell S.store.memory.number S.store (next_at S e o).store
+  told_at : (S : State) (e : Entry) (o : Option Waiting) → StoreMarksTell S.store.memory.number S.store (next_at_thread S e o).store
   told_at S e None = (laws.nothing S.store).told
   told_at S e (Some w) =
-      let ran = runs_on w.kind (effects w.kind S e.thread w.call (answer_of e)) e.thread w.strand e.reply e.signal e.clock in
+      let ran = thread_runs_on w.kind (effects_of_answer w.kind S e.thread w.call (answer_of e)) e.thread w.strand e.reply e.signal e.clock in
       renumbered S.store.memory.number (ran.events + 1) S.store ran.store (ran_marks S e w).told
 
   pub unmarked : UnmarkedStays
-  unmarked S e s h = subst (λ n. StoreMarksTell n S.store (next_at S e (thread_at S e.thread)).store) s.number (told_at S e (thread_at S e.thread))
+  unmarked S e s h = subst (λ n. StoreMarksTell n S.store (next_at_thread S e (thread_at S e.thread)).store) s.number (told_at S e (thread_at S e.thread))
 
 -- the number of the event that writes is none of what suits a module
-pub numbered_suits : (g : Store) (number : ℕ) → Suits g → Suits (record g { memory = record g.memory { number = number } })
+pub numbered_suits : (g : Store) (number : ℕ) → SuitsModule g → SuitsModule (record g { memory = record g.memory { number = number } })
 numbered_suits g number s = record { most = s.most; places = s.places; globals = s.globals; elements = s.elements }

@@ -3,8 +3,8 @@ use Rattle.std.proofs.Common.{◌≡◌, ℕ, zero, suc, ◌+◌, ◌<◌, Bool,
 use Rattle.std.specs.Prelude.{◌==◌, option_map}
 use Rattle.std.proofs.lemmas.Bool.{eq-eqb}
 use Rattle.guest_process.specs.declared.divergence.Divergence.{Divergence}
-use Rattle.guest_process.specs.Legal.{Checks, first_failing, unless}
-use Rattle.guest_process.specs.Live.{lowest}
+use Rattle.guest_process.specs.Legal.{EntryChecks, first_failing, unless_checked}
+use Rattle.guest_process.specs.Live.{lowest_signal}
 
 pub same : (n : ℕ) → (n == n) ≡ true
 same n = eq-eqb n n refl
@@ -17,7 +17,7 @@ pub mapped : {A B : Type 0} (f : A → B) (o : Option A) (y : B) → option_map 
 mapped f None y h = cc
 mapped f (Some x) y h = (x, refl, cc)
 
-pub record Hold (c : Checks) : Type 0 where
+pub record Hold (c : EntryChecks) : Type 0 where
   pub call : c.call ≡ true
   pub arguments : c.arguments ≡ true
   pub bytes : c.bytes ≡ true
@@ -25,19 +25,19 @@ pub record Hold (c : Checks) : Type 0 where
   pub handler : c.handler ≡ true
   pub clock : c.clock ≡ true
 
-unless_true : (a : Bool) (d : Divergence) (rest : Option Divergence) → a ≡ true → rest ≡ None → unless a d rest ≡ None
+unless_true : (a : Bool) (d : Divergence) (rest : Option Divergence) → a ≡ true → rest ≡ None → unless_checked a d rest ≡ None
 unless_true true d rest e r = r
 unless_true false d rest e r = cc
 
-pub unless_none : (b : Bool) (d : Divergence) (rest : Option Divergence) → unless b d rest ≡ None → (b ≡ true) × (rest ≡ None)
+pub unless_none : (b : Bool) (d : Divergence) (rest : Option Divergence) → unless_checked b d rest ≡ None → (b ≡ true) × (rest ≡ None)
 unless_none true d rest h = (refl, h)
 unless_none false d rest h = cc
 
-pub none_failing : (c : Checks) → Hold c → first_failing c ≡ None
+pub none_failing : (c : EntryChecks) → Hold c → first_failing c ≡ None
 none_failing c h =
     unless_true c.call _ _ h.call (unless_true c.arguments _ _ h.arguments (unless_true c.bytes _ _ h.bytes (unless_true c.reply _ _ h.reply (unless_true c.handler _ _ h.handler (unless_true c.clock _ _ h.clock refl)))))
 
-pub all_hold : (c : Checks) → first_failing c ≡ None → Hold c
+pub all_hold : (c : EntryChecks) → first_failing c ≡ None → Hold c
 all_hold c h =
     let call = unless_none c.call _ _ h in
     let arguments = unless_none c.arguments _ _ call.1 in
@@ -47,13 +47,13 @@ all_hold c h =
     let clock = unless_none c.clock _ _ handler.1 in
     record { call = call.0; arguments = arguments.0; bytes = bytes.0; reply = reply.0; handler = handler.0; clock = clock.0 }
 
-pub lowest_holds : (p : ℕ → Bool) (n s : ℕ) → (lowest p n s ≡ 0) ⊎ ((p (lowest p n s) ≡ true) × (lowest p n s < s + n))
-unfolding lowest
+pub lowest_holds : (p : ℕ → Bool) (n s : ℕ) → (lowest_signal p n s ≡ 0) ⊎ ((p (lowest_signal p n s) ≡ true) × (lowest_signal p n s < s + n))
+unfolding lowest_signal
 lowest_holds p zero s = inl refl
 lowest_holds p (suc n) s =
     lowest_more p n s (p s) refl (lowest_holds p n (s + 1))
   where
-    lowest_more : (p : ℕ → Bool) (n s : ℕ) (b : Bool) → p s ≡ b → ((lowest p n (s + 1) ≡ 0) ⊎ ((p (lowest p n (s + 1)) ≡ true) × (lowest p n (s + 1) < (s + 1) + n))) → ((cond b s (lowest p n (s + 1)) ≡ 0) ⊎ ((p (cond b s (lowest p n (s + 1))) ≡ true) × (cond b s (lowest p n (s + 1)) < s + suc n)))
+    lowest_more : (p : ℕ → Bool) (n s : ℕ) (b : Bool) → p s ≡ b → ((lowest_signal p n (s + 1) ≡ 0) ⊎ ((p (lowest_signal p n (s + 1)) ≡ true) × (lowest_signal p n (s + 1) < (s + 1) + n))) → ((cond b s (lowest_signal p n (s + 1)) ≡ 0) ⊎ ((p (cond b s (lowest_signal p n (s + 1))) ≡ true) × (cond b s (lowest_signal p n (s + 1)) < s + suc n)))
     lowest_more p n s true e h = inr (e, omega arith)
     lowest_more p n s false e (inl h) = inl h
     lowest_more p n s false e (inr h) = inr (h.0, omega (arith, h.1))

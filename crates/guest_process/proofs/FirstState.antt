@@ -10,14 +10,14 @@ use Rattle.wasm_types.specs.Valid.{IsValid}
 use Rattle.wasm_step.specs.Start.{first_store, memory_before_segments, empty_table, initial_globals, is_elem_inside, is_segment_inside}
 use Rattle.wasm_step.specs.Store.{Store}
 use Rattle.wasm_step.specs.Strand.{first_thread}
-use Rattle.wasm_step.specs.Suits.{Suits}
+use Rattle.wasm_step.specs.Suits.{SuitsModule}
 use Rattle.wasm_step.specs.Thread.{Thread}
 use Rattle.signal_points.specs.Signals.{handler_of, no_handlers}
 use Rattle.guest_process.specs.GoesOn.{handler}
 use Rattle.guest_process.specs.Fits.{StateFits}
 use Rattle.guest_process.specs.Seen.{IsOfModule, state_of}
-use Rattle.guest_process.specs.Sound.{IsSound, IsStanding}
-use Rattle.guest_process.specs.Start.{waiting_at, begun, begun_with}
+use Rattle.guest_process.specs.Sound.{IsSoundProcess, IsStandingAtCall}
+use Rattle.guest_process.specs.Start.{waiting_at, begun_process, begun_with}
 use Rattle.guest_process.specs.declared.parts.Parts.{Parts}
 use Rattle.guest_process.specs.OneEvent.{IsStarted}
 use Rattle.guest_process.proofs.FirstFailure.{kept}
@@ -47,11 +47,11 @@ no_handler signal func h = by_test (signal == 0) h
     by_test true h = cc
     by_test false h = let none = none_in 32 signal in cc
 
-begun_holds : NoLaterWhenWritten → FreshIsUnstamped → (m : Module) (who count : ℕ) (g : Store) (thread : Thread) → who < count → count ≤ 16 → first_store m ≡ Some g → IsValid m → StateFits (begun m who count g thread) × IsSound (begun m who count g thread)
+begun_holds : NoLaterWhenWritten → FreshIsUnstamped → (m : Module) (who count : ℕ) (g : Store) (thread : Thread) → who < count → count ≤ 16 → first_store m ≡ Some g → IsValid m → StateFits (begun_process m who count g thread) × IsSoundProcess (begun_process m who count g thread)
 begun_holds writes unstamped m who count g thread low few store valid =
     let same : g.«module» ≡ m = store_module m g store in
     let marks = first_marks writes unstamped m g store in
-    let begin_stands : IsStanding g.«module» (waiting_at m thread) = record { same_module = sym same; stands = refl } in (
+    let begin_stands : IsStandingAtCall g.«module» (waiting_at m thread) = record { same_module = sym same; stands = refl } in (
       record { clock = omega arith; room = omega arith; count = few; who = low; threads = (begin_fits m thread, tt); number = refl; stamps = marks.stamps; global_stamps = marks.global_stamps; size_stamp = marks.size_stamp; even = marks.even },
       record {
         imports = subst (λ m. All (IsOfLibrary m.types) m.imports) (sym same) valid.imports;
@@ -64,22 +64,22 @@ begun_holds writes unstamped m who count g thread low few store valid =
 pub started : NoLaterWhenWritten → FreshIsUnstamped → IsStarted
 started writes unstamped m who count S valid low few h = by_store (first_store m) refl (first_thread m) h
   where
-    by_store : (o : Option Store) → first_store m ≡ o → (thread : Option Thread) → begun_with m who count o thread ≡ Some S → StateFits S × IsSound S
+    by_store : (o : Option Store) → first_store m ≡ o → (thread : Option Thread) → begun_with m who count o thread ≡ Some S → StateFits S × IsSoundProcess S
     by_store None e thread h = cc
     by_store (Some g) e None h = cc
     by_store (Some g) e (Some thread) h =
-        subst (λ S. StateFits S × IsSound S) (same_Some _ _ h) (begun_holds writes unstamped m who count g thread low few e valid)
+        subst (λ S. StateFits S × IsSoundProcess S) (same_Some _ _ h) (begun_holds writes unstamped m who count g thread low few e valid)
 
 -- the parts with which the code begins, over the store g, are those of a process
-pub is_process : NoLaterWhenWritten → FreshIsUnstamped → (p : Parts) (g : Store) (thread : Thread) → p.who < p.count → p.count ≤ 16 → first_store (module_of p.«module».now) ≡ Some g → IsValid (module_of p.«module».now) → Suits g
-    → state_of p ≡ begun (module_of p.«module».now) p.who p.count g thread → IsOfModule p
+pub is_process : NoLaterWhenWritten → FreshIsUnstamped → (p : Parts) (g : Store) (thread : Thread) → p.who < p.count → p.count ≤ 16 → first_store (module_of p.«module».now) ≡ Some g → IsValid (module_of p.«module».now) → SuitsModule g
+    → state_of p ≡ begun_process (module_of p.«module».now) p.who p.count g thread → IsOfModule p
 is_process writes unstamped p g thread low few store valid suits state =
     let m = module_of p.«module».now in
     let holds = begun_holds writes unstamped m p.who p.count g thread low few store valid in
     let same : p.store ≡ record g { memory = record g.memory { number = 1 } } = ap (λ S. S.store) state in
     record {
       same_module = sym (ap (λ g. g.«module») same ∙ store_module m g store);
-      suits = subst Suits (sym same) (numbered_suits g 1 suits);
+      suits = subst SuitsModule (sym same) (numbered_suits g 1 suits);
       fits = subst StateFits (sym state) holds.0;
-      sound = subst IsSound (sym state) holds.1;
+      sound = subst IsSoundProcess (sym state) holds.1;
     }

@@ -13,9 +13,9 @@ use Rattle.wasm_types.specs.declared.code.ValType.{ValType}
 use Rattle.wasm_types.specs.declared.code.ValType.TheVariants as types
 use Rattle.wasm_types.specs.Functions.{type_of}
 use Rattle.wasm_types.specs.Modules.{FuncType, Module}
-use Rattle.wasm_step.specs.Store.{Store, func_in_table, handler_at, handler_in, is_handler, is_number, takes_number}
+use Rattle.wasm_step.specs.Store.{Store, func_in_table, handler_at, handler_in, is_handler, is_number_param, takes_number}
 use Rattle.wasm_step.specs.Strand.{IsHandler}
-use Rattle.guest_process.specs.Answers.{after_need, effects, handled, handler_given, handler_named, handles, narrow, removal}
+use Rattle.guest_process.specs.Answers.{after_need, effects_of_answer, handled, handler_given, handler_named, handles_signal, narrow, handler_removal}
 use Rattle.guest_process.specs.GoesOn.{handler}
 use Rattle.guest_process.specs.State.{State, with_handlers}
 use Rattle.guest_process.proofs.CallEffects.{effects_has}
@@ -23,14 +23,14 @@ use Rattle.guest_process.proofs.CallEffects.{effects_has}
 -- ---- what a call does to the handlers
 
 -- the answer is determined, and so is the state after it
-handles_once : (S S' : State) (signal : ℕ) (o : Option (Option ℕ)) → after_need (handles S signal o) S' ≡ after_need (handles S signal o) S
+handles_once : (S S' : State) (signal : ℕ) (o : Option (Option ℕ)) → after_need (handles_signal S signal o) S' ≡ after_need (handles_signal S signal o) S
 handles_once S S' signal None = refl
 handles_once S S' signal (Some h) = refl
 
 pub handled_once : (S S' : State) (signal number : ℕ) → after_need (handled S signal number) S' ≡ after_need (handled S signal number) S
 handled_once S S' signal number = handles_once S S' signal (handler_given S signal number)
 
-handles_handlers : (S : State) (signal : ℕ) (o : Option (Option ℕ)) → with_handlers S (after_need (handles S signal o) S).handlers ≡ after_need (handles S signal o) S
+handles_handlers : (S : State) (signal : ℕ) (o : Option (Option ℕ)) → with_handlers S (after_need (handles_signal S signal o) S).handlers ≡ after_need (handles_signal S signal o) S
 handles_handlers S signal None = refl
 handles_handlers S signal (Some h) = refl
 
@@ -39,18 +39,18 @@ pub set_handlers : (S : State) (signal number : ℕ) → with_handlers S (after_
 set_handlers S signal number = handles_handlers S signal (handler_given S signal number)
 
 -- no answer to another call changes a handler
-pub same_handlers : (k : Kind) (S : State) (t : ℕ) (c : Call) (a : Answer) → (k ≡ OnSignal → ⊥) → (effects k S t c a).handlers ≡ S.handlers
+pub same_handlers : (k : Kind) (S : State) (t : ℕ) (c : Call) (a : Answer) → (k ≡ OnSignal → ⊥) → (effects_of_answer k S t c a).handlers ≡ S.handlers
 same_handlers k S t c a other =
     effects_has (λ S'. S'.handlers ≡ S.handlers) k S t c a
     (record { locks = λ e free. refl; unlocks = λ e held. refl; handles = λ e h given. absurd (other e); spawns = λ e f found thread starts. refl })
     refl refl (λ e. refl)
 
-pub given_handlers : (S : State) (t : ℕ) (c : Call) (a : Answer) → (after_need (handled S (narrow c.a0) (narrow c.a1)) S).handlers ≡ (effects OnSignal S t c a).handlers
+pub given_handlers : (S : State) (t : ℕ) (c : Call) (a : Answer) → (after_need (handled S (narrow c.a0) (narrow c.a1)) S).handlers ≡ (effects_of_answer OnSignal S t c a).handlers
 given_handlers S t c a = ap (λ S'. S'.handlers) (sym (handled_once S _ (narrow c.a0) (narrow c.a1)))
 
 -- ---- each handler is a function that the module itself defines, with one parameter and no result
 
-one_number : (params : List ValType) → is_number params ≡ true → params ≡ types.I32 ∷ []
+one_number : (params : List ValType) → is_number_param params ≡ true → params ≡ types.I32 ∷ []
 one_number (types.I32 ∷ []) h = refl
 one_number [] h = cc
 one_number (types.I32 ∷ _ ∷ _) h = cc
@@ -62,7 +62,7 @@ none_there (type ∷ more) h = absurd (omega (arith, leb-true _ 0 h))
 
 number_type : (type : FuncType) → takes_number type ≡ true → type ≡ record { params = types.I32 ∷ []; results = [] }
 number_type type h =
-    let parts = and_parts (is_number type.params) (nat_le (length type.results) 0) h in
+    let parts = and_parts (is_number_param type.params) (nat_le (length type.results) 0) h in
     ap {B = FuncType} (λ params. record { params = params; results = type.results }) (one_number type.params parts.0)
     ∙ ap {B = FuncType} (λ results. record { params = types.I32 ∷ []; results = results }) (none_there type.results parts.1)
 
@@ -91,7 +91,7 @@ abbrev pub AreHandlers : Module → List (Option ℕ) → Type 0
 AreHandlers m handlers = (signal func : ℕ) → handler handlers signal ≡ Some func → IsHandler m func
 
 named_is : (store : Store) (number f : ℕ) → handler_named store number ≡ Some (Some f) → IsHandler store.«module» f
-named_is store number f h = by_test (number == removal) h
+named_is store number f h = by_test (number == handler_removal) h
   where
     by_found : (o : Option ℕ) → handler_at store number ≡ o → option_map (λ func. Some func) o ≡ Some (Some f) → IsHandler store.«module» f
     by_found None e h = cc

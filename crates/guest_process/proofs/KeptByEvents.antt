@@ -11,7 +11,7 @@ use Rattle.wasm_types.specs.Modules.{Module}
 use Rattle.wasm_step.specs.Burst.{BurstResult, burst}
 use Rattle.wasm_step.specs.Laws.{KeepsModule}
 use Rattle.wasm_step.specs.After.{Halt, Calls, Ends, Traps, Sticks}
-use Rattle.wasm_step.specs.Strand.{answered}
+use Rattle.wasm_step.specs.Strand.{answered_strand}
 use Rattle.wasm_step.specs.Thread.{Thread}
 use Rattle.wasm_stack.specs.declared.call.CallSite.{CallSite}
 use Rattle.guest_process.specs.declared.end.End.{End}
@@ -19,9 +19,9 @@ use Rattle.guest_process.specs.declared.end.End.TheVariants.{Finished}
 use Rattle.call_table.specs.declared.kind.Kind.{Kind}
 use Rattle.guest_process.specs.declared.waiting.Waiting.{Waiting}
 use Rattle.lib_calls.specs.Answer.{Answer}
-use Rattle.guest_process.specs.Answers.{effects, narrow}
-use Rattle.guest_process.specs.Fits.{Each, Slotted}
-use Rattle.guest_process.specs.GoesOn.{process_after_burst, after_running, all_over, budget, with_event_counted, goes_on, handler, runs_on, stands, stopped, stopped_at_call, with_handler_frame}
+use Rattle.guest_process.specs.Answers.{effects_of_answer, narrow}
+use Rattle.guest_process.specs.Fits.{Each, HoldsOfSlot}
+use Rattle.guest_process.specs.GoesOn.{process_after_burst, after_running, all_over, instruction_budget, with_event_counted, thread_goes_on, handler, thread_runs_on, stands, stopped_thread, stopped_at_call, with_handler_frame}
 use Rattle.guest_process.specs.Kinds.{ends_process, reply_value}
 use Rattle.guest_process.specs.Start.{waiting_at}
 use Rattle.guest_process.specs.State.{State, awaits_event, with_new_thread, with_thread}
@@ -82,12 +82,12 @@ module _ (P : Waiting → Type 0) where
     events = l.events ∙ k.events;
   }
 
-  set_each : (slots : List (Slot Waiting)) (t : ℕ) (slot : Slot Waiting) → Each P slots → Slotted P slot → Each P (slice_set slots t slot)
+  set_each : (slots : List (Slot Waiting)) (t : ℕ) (slot : Slot Waiting) → Each P slots → HoldsOfSlot P slot → Each P (slice_set slots t slot)
   set_each [] t slot f g = f
   set_each (first ∷ rest) zero slot f g = (g, f.1)
   set_each (first ∷ rest) (suc t) slot f g = (f.0, set_each rest t slot f.1 g)
 
-  set_kept : (S : State) (t : ℕ) (slot : Slot Waiting) (end : End) → Each P S.crew.threads → Slotted P slot → Keeps P t S (record (with_thread S t slot) { end = end })
+  set_kept : (S : State) (t : ℕ) (slot : Slot Waiting) (end : End) → Each P S.crew.threads → HoldsOfSlot P slot → Keeps P t S (record (with_thread S t slot) { end = end })
   set_kept S t slot end f g = record {
     who = refl;
     count = refl;
@@ -113,7 +113,7 @@ module _ (P : Waiting → Type 0) where
   called_kept S t thread site f g (Some kind) e = set_kept S t (Kept (stands S thread site kind)) S.end f (g S thread site kind refl e)
   called_kept S t thread site f g None e = set_kept S t Over _ f tt
 
-  stopped_kept : (S : State) (t : ℕ) (stop : Halt) → Each P S.crew.threads → Stand S.store.«module» → Keeps P t S (stopped S t stop)
+  stopped_kept : (S : State) (t : ℕ) (stop : Halt) → Each P S.crew.threads → Stand S.store.«module» → Keeps P t S (stopped_thread S t stop)
   stopped_kept S t (Calls thread site) f g = called_kept S t thread site f g (kind_at S.store.«module» site.func) refl
   stopped_kept S t Ends f g = settled_kept t S (with_thread S t Over) (all_over (with_thread S t Over).crew.threads) (set_kept S t Over S.end f tt)
   stopped_kept S t (Traps trap) f g = set_kept S t Over _ f tt
@@ -127,7 +127,7 @@ module _ (P : Waiting → Type 0) where
 
   runs_kept : KeepsModule → (S : State) (t : ℕ) (o : Option Thread) → Each P S.crew.threads → Stand S.store.«module» → Keeps P t S (after_running S t o)
   runs_kept keeps S t None f g = set_kept S t Over _ f tt
-  runs_kept keeps S t (Some thread) f g = burst_kept S t (burst budget thread S.store) (keeps budget thread S.store) f g
+  runs_kept keeps S t (Some thread) f g = burst_kept S t (burst instruction_budget thread S.store) (keeps instruction_budget thread S.store) f g
 
   event_kept : KeepsModule → (b : Bool) (S : State) (t : ℕ) (o : Option Thread) → Each P S.crew.threads → Stand S.store.«module» → Keeps P t S (cond b S (after_running S t o))
   event_kept keeps true S t o f g = kept_same t S f
@@ -137,10 +137,10 @@ module _ (P : Waiting → Type 0) where
   awaits_kept t S S' k = record { who = k.who; count = k.count; «module» = k.«module»; room = k.room; threads = k.threads; others = k.others; holders = k.holders; handlers = k.handlers; clock = k.clock; events = k.events }
 
   -- as it goes on after the answer
-  pub went_on : KeepsModule → (k : Kind) (S : State) (t : ℕ) (w : Waiting) (reply signal clock : ℕ) → Each P S.crew.threads → Stand S.store.«module» → Keeps P t (with_event_counted S clock) (goes_on k S t w.strand reply signal clock)
+  pub went_on : KeepsModule → (k : Kind) (S : State) (t : ℕ) (w : Waiting) (reply signal clock : ℕ) → Each P S.crew.threads → Stand S.store.«module» → Keeps P t (with_event_counted S clock) (thread_goes_on k S t w.strand reply signal clock)
   went_on keeps k S t w reply signal clock f g =
-      awaits_kept t (with_event_counted S clock) (runs_on k S t w.strand reply signal clock)
-      (event_kept keeps (ends_process k) (with_event_counted S clock) t (with_handler_frame S.store.«module» (answered w.strand (reply_value k reply)) signal (handler S.handlers signal)) f g)
+      awaits_kept t (with_event_counted S clock) (thread_runs_on k S t w.strand reply signal clock)
+      (event_kept keeps (ends_process k) (with_event_counted S clock) t (with_handler_frame S.store.«module» (answered_strand w.strand (reply_value k reply)) signal (handler S.handlers signal)) f g)
 
   -- ---- the answer
 
@@ -166,7 +166,7 @@ module _ (P : Waiting → Type 0) where
     events = refl;
   }
 
-  pub affected : (k : Kind) (S : State) (t : ℕ) (c : Call) (a : Answer) → Each P S.crew.threads → Begins S.store.«module» → Affects P S (effects k S t c a)
+  pub affected : (k : Kind) (S : State) (t : ℕ) (c : Call) (a : Answer) → Each P S.crew.threads → Begins S.store.«module» → Affects P S (effects_of_answer k S t c a)
   affected k S t c a f b =
       effects_has (Affects P S) k S t c a
       (record {
@@ -180,10 +180,10 @@ module _ (P : Waiting → Type 0) where
       (λ e. let over = set_kept S t Over S.end f tt in record { who = refl; count = refl; «module» = refl; room = λ few. omega (arith, over.room, few); threads = over.threads; clock = refl; events = refl })
 
   -- all of an event, from its clock on
-  pub event_affects : KeepsModule → (k : Kind) (S : State) (t : ℕ) (c : Call) (a : Answer) (w : Waiting) (signal clock : ℕ) → Each P S.crew.threads → Begins S.store.«module» → Stand S.store.«module» → Affects P (with_event_counted S clock) (goes_on k (effects k S t c a) t w.strand a.reply signal clock)
+  pub event_affects : KeepsModule → (k : Kind) (S : State) (t : ℕ) (c : Call) (a : Answer) (w : Waiting) (signal clock : ℕ) → Each P S.crew.threads → Begins S.store.«module» → Stand S.store.«module» → Affects P (with_event_counted S clock) (thread_goes_on k (effects_of_answer k S t c a) t w.strand a.reply signal clock)
   event_affects keeps k S t c a w signal clock f b g =
       let n = affected k S t c a f b in
-      let l = went_on keeps k (effects k S t c a) t w a.reply signal clock n.threads (subst Stand (sym n.«module») g) in
+      let l = went_on keeps k (effects_of_answer k S t c a) t w a.reply signal clock n.threads (subst Stand (sym n.«module») g) in
       record {
         who = l.who ∙ n.who;
         count = l.count ∙ n.count;

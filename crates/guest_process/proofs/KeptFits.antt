@@ -21,9 +21,9 @@ use Rattle.guest_process.specs.declared.waiting.Waiting.{Waiting}
 use Rattle.guest_process.specs.Answers.{need}
 use Rattle.guest_process.specs.Fits.{StateFits, WaitingFits}
 use Rattle.guest_process.specs.GoesOn.{argument, with_event_counted as counted_at, stands}
-use Rattle.guest_process.specs.Legal.{checks, reason_at}
-use Rattle.guest_process.specs.Next.{next_at}
-use Rattle.guest_process.specs.OneEvent.{IsKept, Rises, RisesTo}
+use Rattle.guest_process.specs.Legal.{entry_checks, reason_at}
+use Rattle.guest_process.specs.Next.{next_at_thread}
+use Rattle.guest_process.specs.OneEvent.{IsKeptByEvents, Rises, RisesTo}
 use Rattle.guest_process.specs.Start.{waiting_at}
 use Rattle.guest_process.specs.State.{State, is_running, thread_at}
 use Rattle.guest_process.proofs.EachKind.{answer_clock}
@@ -62,7 +62,7 @@ pub begin_fits : (m : Module) (thread : Thread) → WaitingFits (waiting_at m th
 begin_fits m thread = record { kind = numbered Begin; arguments = record { first = zero_fits _; second = zero_fits _; third = zero_fits _ } }
 
 -- what an event of a thread that stands so changes
-event_keeps : KeepsModule → (S : State) (e : Entry) → StateFits S → (w : Waiting) → Affects WaitingFits (counted_at S e.clock) (next_at S e (Some w))
+event_keeps : KeepsModule → (S : State) (e : Entry) → StateFits S → (w : Waiting) → Affects WaitingFits (counted_at S e.clock) (next_at_thread S e (Some w))
 event_keeps keeps S e s w = event_affects WaitingFits keeps w.kind S e.thread w.call (answer_of e) w e.signal e.clock s.threads (begin_fits S.store.«module») (stand_fits S.store.«module»)
 
 -- its clock is the next one, and no tag bears one past 2 ^ 62
@@ -72,13 +72,13 @@ record NextClock (S : State) (e : Entry) : Type 0 where
 
 next_clock : (S : State) (e : Entry) (w : Waiting) → reason_at S e (Some w) ≡ None → NextClock S e
 next_clock S e w h =
-    let holds = all_hold (checks S e w) h in
+    let holds = all_hold (entry_checks S e w) h in
     record {
       tag = answer_clock w.kind S w.call (need w.kind S e.thread w.call) (answer_of e) holds.reply;
       clock = eqb-true e.clock (next_clock_of S.clock e.tag) holds.clock;
     }
 
-fits_at : KeepsModule → MarkLaws → (S : State) (e : Entry) → StateFits S → (o : Option Waiting) → reason_at S e o ≡ None → StateFits (next_at S e o)
+fits_at : KeepsModule → MarkLaws → (S : State) (e : Entry) → StateFits S → (o : Option Waiting) → reason_at S e o ≡ None → StateFits (next_at_thread S e o)
 fits_at keeps marks S e s None h = cc
 fits_at keeps marks S e s (Some w) h =
     let told = next_clock S e w h in
@@ -97,10 +97,10 @@ fits_at keeps marks S e s (Some w) h =
       even = within.even;
     }
 
-pub state_kept : KeepsModule → MarkLaws → IsKept
+pub state_kept : KeepsModule → MarkLaws → IsKeptByEvents
 state_kept keeps marks S e s h = fits_at keeps marks S e s (thread_at S e.thread) (unless_none (is_running S) _ _ h).1
 
-rises_at : KeepsModule → (S : State) (e : Entry) → StateFits S → (o : Option Waiting) → reason_at S e o ≡ None → RisesTo S e (next_at S e o)
+rises_at : KeepsModule → (S : State) (e : Entry) → StateFits S → (o : Option Waiting) → reason_at S e o ≡ None → RisesTo S e (next_at_thread S e o)
 rises_at keeps S e s None h = cc
 rises_at keeps S e s (Some w) h =
     let told = next_clock S e w h in

@@ -14,20 +14,20 @@ use Rattle.wasm_types.specs.declared.code.ValType.TheVariants.{I32, I64}
 use Rattle.wasm_types.specs.declared.code.Value.TheVariants as values
 use Rattle.wasm_types.specs.Library.{IsOfLibrary, importable, imported_type_index, kind_at, signature_type, unless_begin}
 use Rattle.wasm_types.specs.Modules.{Module, Import, FuncType}
-use Rattle.wasm_types.specs.Functions.{described, imported_type}
+use Rattle.wasm_types.specs.Functions.{described_type, imported_type}
 use Rattle.wasm_step.specs.Laws.{KeepsModule}
 use Rattle.wasm_step.specs.Strand.{IsHandler, IsResult, first_result, library_result}
 use Rattle.wasm_step.specs.Thread.{Thread}
 use Rattle.wasm_stack.specs.declared.call.CallSite.{CallSite}
 use Rattle.guest_process.specs.declared.waiting.Waiting.{Waiting}
-use Rattle.guest_process.specs.Answers.{effects, narrow}
+use Rattle.guest_process.specs.Answers.{effects_of_answer, narrow}
 use Rattle.guest_process.specs.Fits.{Each}
 use Rattle.guest_process.specs.GoesOn.{handler, stands}
 use Rattle.guest_process.specs.Kinds.{reply_value}
 use Rattle.guest_process.specs.Legal.{reason_at}
-use Rattle.guest_process.specs.Next.{next, next_at}
+use Rattle.guest_process.specs.Next.{next, next_at_thread}
 use Rattle.guest_process.specs.OneEvent.{IsKeptSound}
-use Rattle.guest_process.specs.Sound.{IsSound, IsStanding, StandsAtKind}
+use Rattle.guest_process.specs.Sound.{IsSoundProcess, IsStandingAtCall, StandsAtKind}
 use Rattle.guest_process.specs.Start.{waiting_at}
 use Rattle.guest_process.specs.State.{State, is_running, thread_at}
 use Rattle.guest_process.proofs.KeptByEvents.{Stand, affected, event_affects, went_on}
@@ -63,7 +63,7 @@ got (first ∷ rest) (suc f) import h = let later = got rest f import h in (omeg
 imported : (types : List FuncType) (imports : List Import) (f : ℕ) → All (IsOfLibrary types) imports → (import : Import) → slice_get imports f ≡ Some import → IsOfLibrary types import
 imported types imports f all import h = let at = got imports f import h in subst (IsOfLibrary types) at.1 (all f import at.0)
 
-described_as : (m : Module) (desc : ImportDesc) (index : ℕ) (type : FuncType) → imported_type_index desc ≡ Some index → slice_get m.types index ≡ Some type → described m desc ≡ Some type
+described_as : (m : Module) (desc : ImportDesc) (index : ℕ) (type : FuncType) → imported_type_index desc ≡ Some index → slice_get m.types index ≡ Some type → described_type m desc ≡ Some type
 described_as m (desc.Func t) index type e h = ap (slice_get m.types) (same_Some t index e) ∙ h
 described_as m (desc.Table limits) index type e h = cc
 described_as m (desc.Memory limits) index type e h = cc
@@ -83,16 +83,16 @@ stand_at m w func kind all c (Some import) at h =
     let results = result ∙ ap (λ (kind : Kind). slice_get (signature_type (row kind).signature).results 0) same in
     stand_by m w func kind (λ begin. not_begin import.name (h ∙ ap Some begin)) c (λ reply. rw results (value_fits kind reply))
 
-stand_sound : (m : Module) → All (IsOfLibrary m.types) m.imports → (S : State) (thread : Thread) (site : CallSite) (kind : Kind) → S.store.«module» ≡ m → kind_at m site.func ≡ Some kind → IsStanding m (stands S thread site kind)
+stand_sound : (m : Module) → All (IsOfLibrary m.types) m.imports → (S : State) (thread : Thread) (site : CallSite) (kind : Kind) → S.store.«module» ≡ m → kind_at m site.func ≡ Some kind → IsStandingAtCall m (stands S thread site kind)
 stand_sound m all S thread site kind e h = record {
   same_module = e;
   stands = stand_at m (stands S thread site kind) site.func kind all refl (slice_get m.imports site.func) refl h;
 }
 
-begin_stands : (m : Module) (thread : Thread) → IsStanding m (waiting_at m thread)
+begin_stands : (m : Module) (thread : Thread) → IsStandingAtCall m (waiting_at m thread)
 begin_stands m thread = record { same_module = refl; stands = refl }
 
-pub handlers_sound : (k : Kind) (S : State) (t : ℕ) (c : Call) (a : Answer) → AreHandlers S.store.«module» S.handlers → AreHandlers S.store.«module» (effects k S t c a).handlers
+pub handlers_sound : (k : Kind) (S : State) (t : ℕ) (c : Call) (a : Answer) → AreHandlers S.store.«module» S.handlers → AreHandlers S.store.«module» (effects_of_answer k S t c a).handlers
 handlers_sound k S t c a sound =
     effects_has (λ S'. AreHandlers S.store.«module» S'.handlers) k S t c a
     (record {
@@ -104,21 +104,21 @@ handlers_sound k S t c a sound =
     sound sound (λ e. sound)
 
 -- what an answer leaves of the handlers is of the module, and so they stay as the thread goes on
-sound_at : KeepsModule → (S : State) (e : Entry) → IsSound S → (o : Option Waiting) → reason_at S e o ≡ None → IsSound (next_at S e o)
+sound_at : KeepsModule → (S : State) (e : Entry) → IsSoundProcess S → (o : Option Waiting) → reason_at S e o ≡ None → IsSoundProcess (next_at_thread S e o)
 sound_at keeps S e s None h = cc
 sound_at keeps S e s (Some w) h =
     let k = w.kind in
     let m = S.store.«module» in
     let a = answer_of e in
-    let S' = effects k S e.thread w.call a in
-    let n = affected (IsStanding m) k S e.thread w.call a s.threads (begin_stands m) in
+    let S' = effects_of_answer k S e.thread w.call a in
+    let n = affected (IsStandingAtCall m) k S e.thread w.call a s.threads (begin_stands m) in
     let stand = stand_sound m s.imports in
-    let kept = went_on (IsStanding m) keeps k S' e.thread w e.reply e.signal e.clock n.threads (subst (Stand (IsStanding m)) (sym n.«module») stand) in
+    let kept = went_on (IsStandingAtCall m) keeps k S' e.thread w e.reply e.signal e.clock n.threads (subst (Stand (IsStandingAtCall m)) (sym n.«module») stand) in
     let same = kept.«module» ∙ n.«module» in
-    let S'' = next_at S e (Some w) in
+    let S'' = next_at_thread S e (Some w) in
     record {
       imports = subst (λ m. All (IsOfLibrary m.types) m.imports) (sym same) s.imports;
-      threads = subst (λ m. Each (IsStanding m) S''.crew.threads) (sym same) kept.threads;
+      threads = subst (λ m. Each (IsStandingAtCall m) S''.crew.threads) (sym same) kept.threads;
       handlers = λ signal func h.
           subst (λ m. IsHandler m func) (sym same) (handlers_sound k S e.thread w.call a s.handlers signal func (ap (λ hs. handler hs signal) (sym kept.handlers) ∙ h));
     }
@@ -126,11 +126,11 @@ sound_at keeps S e s (Some w) h =
 pub sound_kept : KeepsModule → IsKeptSound
 sound_kept keeps S e s h = sound_at keeps S e s (thread_at S e.thread) (unless_none (is_running S) _ _ h).1
 
-module_at : KeepsModule → (S : State) (e : Entry) → IsSound S → (o : Option Waiting) → (next_at S e o).store.«module» ≡ S.store.«module»
+module_at : KeepsModule → (S : State) (e : Entry) → IsSoundProcess S → (o : Option Waiting) → (next_at_thread S e o).store.«module» ≡ S.store.«module»
 module_at keeps S e s None = refl
 module_at keeps S e s (Some w) =
-    (event_affects (IsStanding S.store.«module») keeps w.kind S e.thread w.call (answer_of e) w e.signal e.clock s.threads (begin_stands S.store.«module») (stand_sound S.store.«module» s.imports)).«module»
+    (event_affects (IsStandingAtCall S.store.«module») keeps w.kind S e.thread w.call (answer_of e) w e.signal e.clock s.threads (begin_stands S.store.«module») (stand_sound S.store.«module» s.imports)).«module»
 
 -- an event leaves the module as it is
-pub next_module : KeepsModule → (S : State) (e : Entry) → IsSound S → (next S e).store.«module» ≡ S.store.«module»
+pub next_module : KeepsModule → (S : State) (e : Entry) → IsSoundProcess S → (next S e).store.«module» ≡ S.store.«module»
 next_module keeps S e s = module_at keeps S e s (thread_at S e.thread)

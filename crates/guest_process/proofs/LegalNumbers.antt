@@ -18,12 +18,12 @@ use Rattle.lib_calls.specs.Effects.{is_good, minus_one, minus_two, outgoing_of, 
 use Rattle.lib_calls.specs.Traffic.{is_taken, takes_as}
 use Rattle.signal_points.specs.Signals.{most_signal}
 use Rattle.guest_process.specs.declared.waiting.Waiting.{Waiting}
-use Rattle.guest_process.specs.Answers.{Need, Fixed, Blocked, World, need_of_world, brings_nothing, effects, is_drawn, is_due, is_empty, is_payload, is_possible, need, takes_datagram}
+use Rattle.guest_process.specs.Answers.{Need, Fixed, Blocked, World, need_of_world, brings_nothing, effects_of_answer, is_drawn, is_due, is_empty, is_payload, is_possible, need, takes_datagram}
 use Rattle.guest_process.specs.Fits.{StateFits}
 use Rattle.guest_process.specs.GoesOn.{handler}
 use Rattle.guest_process.specs.Kinds.{ends_process}
-use Rattle.guest_process.specs.Legal.{checks, gives_answer, is_handled, reason_at}
-use Rattle.guest_process.specs.Numbers.{HasNumbers, LegalNumbers}
+use Rattle.guest_process.specs.Legal.{entry_checks, need_gives_answer, is_handled, reason_at}
+use Rattle.guest_process.specs.Numbers.{HasLegalNumbers, LegalNumbers}
 use Rattle.guest_process.specs.State.{State, is_running, thread_at}
 use Rattle.guest_process.proofs.EachKind.{drawn_tag, plain_tag}
 use Rattle.guest_process.proofs.FirstFailure.{all_hold, unless_none}
@@ -103,7 +103,7 @@ datagram S k c e room taken h =
 -- ---- what comes in, kind by kind
 
 -- where the world brings nothing, no answer does
-plain_need : (n : Need) (a : Answer) (possible : Bool) → (possible ≡ true → brings_nothing a.tag a.incoming ≡ true) → gives_answer n a possible ≡ true → brings_nothing a.tag a.incoming ≡ true
+plain_need : (n : Need) (a : Answer) (possible : Bool) → (possible ≡ true → brings_nothing a.tag a.incoming ≡ true) → need_gives_answer n a possible ≡ true → brings_nothing a.tag a.incoming ≡ true
 plain_need (Fixed r S) a possible plain h = (and_parts (a.reply == r) (brings_nothing a.tag a.incoming) h).1
 plain_need Blocked a possible plain h = cc
 plain_need World a possible plain h = plain h
@@ -113,16 +113,16 @@ record IsBad (a : Answer) : Type 0 where
   reply : a.reply ≡ minus_one
   plain : brings_nothing a.tag a.incoming ≡ true
 
-asked_cases : (S : State) (c : Call) (a : Answer) (possible : Bool) → gives_answer (need_of_world S c) a possible ≡ true → ((is_good c S.store.memory ≡ true) × (possible ≡ true)) ⊎ IsBad a
+asked_cases : (S : State) (c : Call) (a : Answer) (possible : Bool) → need_gives_answer (need_of_world S c) a possible ≡ true → ((is_good c S.store.memory ≡ true) × (possible ≡ true)) ⊎ IsBad a
 asked_cases S c a possible h = by_test (is_good c S.store.memory) h
   where
-    by_test : (b : Bool) → gives_answer (cond b World (Fixed minus_one S)) a possible ≡ true → ((b ≡ true) × (possible ≡ true)) ⊎ IsBad a
+    by_test : (b : Bool) → need_gives_answer (cond b World (Fixed minus_one S)) a possible ≡ true → ((b ≡ true) × (possible ≡ true)) ⊎ IsBad a
     by_test true h = inl (refl, h)
     by_test false h =
         let parts = and_parts (a.reply == minus_one) (brings_nothing a.tag a.incoming) h in
         inr (record { reply = eqb-true a.reply minus_one parts.0; plain = parts.1 })
 
-random_brought : (S : State) (c : Call) (e : Entry) → kind_numbered c.kind ≡ Some Random → gives_answer (need_of_world S c) (answer_of e) (is_drawn c (answer_of e)) ≡ true → HasBrought S Random e
+random_brought : (S : State) (c : Call) (e : Entry) → kind_numbered c.kind ≡ Some Random → need_gives_answer (need_of_world S c) (answer_of e) (is_drawn c (answer_of e)) ≡ true → HasBrought S Random e
 random_brought S c e is h = elim (asked_cases S c (answer_of e) (is_drawn c (answer_of e)) h) [
   | inl good ↦
       let parts = and_parts (e.reply == c.a1) (length e.incoming == c.a1 && not (is_some e.tag)) good.1 in
@@ -131,7 +131,7 @@ random_brought S c e is h = elim (asked_cases S c (answer_of e) (is_drawn c (ans
   | inr bad ↦ nothing S Random e bad.plain refl
 ]
 
-recv_brought : (S : State) (c : Call) (e : Entry) → kind_numbered c.kind ≡ Some Recv → gives_answer (need_of_world S c) (answer_of e) (takes_datagram S.count c (answer_of e)) ≡ true → HasBrought S Recv e
+recv_brought : (S : State) (c : Call) (e : Entry) → kind_numbered c.kind ≡ Some Recv → need_gives_answer (need_of_world S c) (answer_of e) (takes_datagram S.count c (answer_of e)) ≡ true → HasBrought S Recv e
 recv_brought S c e is h = elim (asked_cases S c (answer_of e) (takes_datagram S.count c (answer_of e)) h) [
   | inl good ↦ datagram S Recv c e (recv_short S c is good.0) (not_minus_one e.reply) good.1
   | inr bad ↦ nothing S Recv e bad.plain (ap (λ reply. not (reply == minus_one)) bad.reply)
@@ -140,7 +140,7 @@ recv_brought S c e is h = elim (asked_cases S c (answer_of e) (takes_datagram S.
 try_taken : (e : Entry) → e.reply ≤ 60000 → takes_as (Some TryRecv) e ≡ true
 try_taken e low = rw (not_minus_one e.reply low, not_minus_two e.reply low) refl
 
-try_recv_brought : (S : State) (c : Call) (e : Entry) → kind_numbered c.kind ≡ Some TryRecv → gives_answer (need_of_world S c) (answer_of e) (takes_datagram S.count c (answer_of e) || is_empty (answer_of e)) ≡ true → HasBrought S TryRecv e
+try_recv_brought : (S : State) (c : Call) (e : Entry) → kind_numbered c.kind ≡ Some TryRecv → need_gives_answer (need_of_world S c) (answer_of e) (takes_datagram S.count c (answer_of e) || is_empty (answer_of e)) ≡ true → HasBrought S TryRecv e
 try_recv_brought S c e is h = elim (asked_cases S c (answer_of e) (takes_datagram S.count c (answer_of e) || is_empty (answer_of e)) h) [
   | inl good ↦ elim (or_cases (takes_datagram S.count c (answer_of e)) (is_empty (answer_of e)) good.1) [
     | inl taken ↦ datagram S TryRecv c e (try_recv_short S c is good.0) (try_taken e) taken
@@ -151,7 +151,7 @@ try_recv_brought S c e is h = elim (asked_cases S c (answer_of e) (takes_datagra
   | inr bad ↦ nothing S TryRecv e bad.plain (ap (λ reply. not (reply == minus_one) && not (reply == minus_two)) bad.reply)
 ]
 
-brought : (k : Kind) (S : State) (t : ℕ) (c : Call) (e : Entry) → kind_numbered c.kind ≡ Some k → gives_answer (need k S t c) (answer_of e) (is_possible k S c (answer_of e)) ≡ true → HasBrought S k e
+brought : (k : Kind) (S : State) (t : ℕ) (c : Call) (e : Entry) → kind_numbered c.kind ≡ Some k → need_gives_answer (need k S t c) (answer_of e) (is_possible k S c (answer_of e)) ≡ true → HasBrought S k e
 brought Random S t c e is h = random_brought S c e is h
 brought Recv S t c e is h = recv_brought S c e is h
 brought TryRecv S t c e is h = try_recv_brought S c e is h
@@ -167,9 +167,9 @@ taken_is : (k : Kind) (e : Entry) → kind_numbered e.call.kind ≡ Some k → i
 unfolding is_taken
 taken_is k e is = ap (λ o. takes_as o e) is
 
-numbers_at : (S : State) (e : Entry) → StateFits S → (w : Waiting) → thread_at S e.thread ≡ Some w → reason_at S e (Some w) ≡ None → HasNumbers S e
+numbers_at : (S : State) (e : Entry) → StateFits S → (w : Waiting) → thread_at S e.thread ≡ Some w → reason_at S e (Some w) ≡ None → HasLegalNumbers S e
 numbers_at S e s w at h =
-    let holds = all_hold (checks S e w) h in
+    let holds = all_hold (entry_checks S e w) h in
     let fits = fits_at S e.thread w s at in
     let out = outgoing_of w.call S.store.memory in
     let sent : e.outgoing ≡ out = (bytes_eq-Decides e.outgoing out).0 holds.bytes in
@@ -177,7 +177,7 @@ numbers_at S e s w at h =
     let taken = taken_is w.kind e (ap (λ (call : Call). kind_numbered call.kind) (call_told S e w holds) ∙ fits.kind) in
     record {
       thread = omega (arith, live_made S.crew.threads e.thread w at, s.room);
-      signal = handled_low w.kind (effects w.kind S e.thread w.call (answer_of e)).handlers e.signal holds.handler;
+      signal = handled_low w.kind (effects_of_answer w.kind S e.thread w.call (answer_of e)).handlers e.signal holds.handler;
       outgoing = omega (arith, ap length sent, outgoing_short w.call S.store.memory);
       incoming = brings.incoming;
       clock = eqb-true e.clock (next_clock_of S.clock e.tag) holds.clock;
@@ -186,7 +186,7 @@ numbers_at S e s w at h =
       counted = λ is. brings.counted (sym taken ∙ is);
     }
 
-numbers_of : (S : State) (e : Entry) → StateFits S → (o : Option Waiting) → thread_at S e.thread ≡ o → reason_at S e o ≡ None → HasNumbers S e
+numbers_of : (S : State) (e : Entry) → StateFits S → (o : Option Waiting) → thread_at S e.thread ≡ o → reason_at S e o ≡ None → HasLegalNumbers S e
 numbers_of S e s None at h = cc
 numbers_of S e s (Some w) at h = numbers_at S e s w at h
 

@@ -12,9 +12,9 @@ use Rattle.wasm_types.specs.declared.code.ValType.TheVariants as types
 use Rattle.wasm_types.specs.declared.code.Value.TheVariants.{I32}
 use Rattle.lib_calls.specs.Effects.{minus_one}
 use Rattle.guest_process.specs.declared.need.Need.TheVariants as plainly
-use Rattle.guest_process.specs.Answers.{Fixed, after_need, spawnable, spawned, spawned_at, spawns}
-use Rattle.guest_process.specs.Seen.{plain}
-use Rattle.guest_process.specs.Start.{waits}
+use Rattle.guest_process.specs.Answers.{Fixed, after_need, spawnable, spawned, spawned_at_index, spawns_thread}
+use Rattle.guest_process.specs.Seen.{plain_need}
+use Rattle.guest_process.specs.Start.{waits_at_begin}
 use Rattle.guest_process.specs.State.{State, with_new_thread}
 use Rattle.guest_process.proofs.HandlerCalls.{found_is}
 
@@ -57,27 +57,27 @@ begins m f arg is = let own = own_is m f is in (_, ap (λ o. started_above o [] 
 
 -- ---- the reply
 
-pub spawned_reply : (S : State) (index arg f : ℕ) → spawnable S index ≡ Some f → plainly.Fixed (length S.crew.threads) ≡ plain (spawned S index arg)
+pub spawned_reply : (S : State) (index arg f : ℕ) → spawnable S index ≡ Some f → plainly.Fixed (length S.crew.threads) ≡ plain_need (spawned S index arg)
 spawned_reply S index arg f h =
     let new = begins S.store.«module» f arg (found_handler S index f h) in
-    ap (λ thread. plain (spawns S thread)) (sym new.1) ∙ ap (λ o. plain (spawned_at S arg o)) (sym h)
+    ap (λ thread. plain_need (spawns_thread S thread)) (sym new.1) ∙ ap (λ o. plain_need (spawned_at_index S arg o)) (sym h)
 
 pub not_spawned : (S : State) (index arg : ℕ) → spawnable S index ≡ None → spawned S index arg ≡ Fixed minus_one S
-not_spawned S index arg h = ap (spawned_at S arg) h
+not_spawned S index arg h = ap (spawned_at_index S arg) h
 
 -- ---- the state
 
-pub spawned_so : (S : State) (index arg f : ℕ) → spawnable S index ≡ Some f → after_need (spawned_at S arg (Some f)) S ≡ after_need (spawned S index arg) S
-spawned_so S index arg f h = ap (λ o. after_need (spawned_at S arg o) S) (sym h)
+pub spawned_so : (S : State) (index arg f : ℕ) → spawnable S index ≡ Some f → after_need (spawned_at_index S arg (Some f)) S ≡ after_need (spawned S index arg) S
+spawned_so S index arg f h = ap (λ o. after_need (spawned_at_index S arg o) S) (sym h)
 
 pub none_made : (S : State) (index arg : ℕ) → spawnable S index ≡ None → S ≡ after_need (spawned S index arg) S
-none_made S index arg h = ap (λ o. after_need (spawned_at S arg o) S) (sym h)
+none_made S index arg h = ap (λ o. after_need (spawned_at_index S arg o) S) (sym h)
 
 -- a strand at the function's start is that of the new thread
-pub begun : (S : State) (m : Module) (f arg : ℕ) (s : Strand) → m ≡ S.store.«module» → s.«module» ≡ m → s.call ≡ None → new_thread m f arg ≡ Some s.thread → with_new_thread S (waits s) ≡ after_need (spawned_at S arg (Some f)) S
+pub begun : (S : State) (m : Module) (f arg : ℕ) (s : Strand) → m ≡ S.store.«module» → s.«module» ≡ m → s.call ≡ None → new_thread m f arg ≡ Some s.thread → with_new_thread S (waits_at_begin s) ≡ after_need (spawned_at_index S arg (Some f)) S
 begun S m f arg s same same_module call thread =
-    ap (λ s. with_new_thread S (waits s)) (same_strand s (same_module ∙ same) call)
-    ∙ ap (λ o. after_need (spawns S o) S) (sym thread ∙ ap (λ m. new_thread m f arg) same)
+    ap (λ s. with_new_thread S (waits_at_begin s)) (same_strand s (same_module ∙ same) call)
+    ∙ ap (λ o. after_need (spawns_thread S o) S) (sym thread ∙ ap (λ m. new_thread m f arg) same)
   where
     same_strand : (s : Strand) → s.«module» ≡ S.store.«module» → s.call ≡ None → s ≡ record { «module» = S.store.«module»; thread = s.thread; call = None }
     same_strand s p c = ap {B = Strand} (λ m. record { «module» = m; thread = s.thread; call = s.call }) p ∙ ap {B = Strand} (λ o. record { «module» = S.store.«module»; thread = s.thread; call = o }) c

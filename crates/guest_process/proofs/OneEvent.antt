@@ -19,13 +19,13 @@ use Rattle.lib_calls.specs.Kinds.{has_incoming, has_tag}
 use Rattle.call_table.specs.declared.kind.Kind.{Kind}
 use Rattle.signal_points.specs.Signals.{most_signal}
 use Rattle.guest_process.specs.declared.waiting.Waiting.{Waiting}
-use Rattle.guest_process.specs.Answers.{Need, Fixed, Blocked, World, need, is_possible, with_answer, after_need, effects}
+use Rattle.guest_process.specs.Answers.{Need, Fixed, Blocked, World, need, is_possible, with_answer, after_need, effects_of_answer}
 use Rattle.guest_process.specs.Fits.{EnvFits, StateFits, WaitingFits, live_has}
-use Rattle.guest_process.specs.GoesOn.{goes_on, handler}
+use Rattle.guest_process.specs.GoesOn.{thread_goes_on, handler}
 use Rattle.guest_process.specs.Kinds.{ends_process}
-use Rattle.guest_process.specs.Legal.{checks, gives_answer, is_handled}
-use Rattle.guest_process.specs.Live.{Env, Event, Answered, answered_now, as_given, chosen_signal, event, from_world, event_of_waiting, lowest, world_answer}
-use Rattle.guest_process.specs.OneEvent.{Agrees, OneEvent}
+use Rattle.guest_process.specs.Legal.{entry_checks, need_gives_answer, is_handled}
+use Rattle.guest_process.specs.Live.{Env, Event, AnsweredCall, answered_now, as_given, chosen_signal, event, from_world, event_of_waiting, lowest_signal, world_answer}
+use Rattle.guest_process.specs.OneEvent.{AgreesWithEvent, OneEvent}
 use Rattle.guest_process.specs.State.{State, is_running, thread_at}
 use Rattle.guest_process.proofs.FirstFailure.{same, kept, mapped, none_failing, lowest_holds}
 use Rattle.guest_process.proofs.Outgoing.{outgoing_fits}
@@ -38,15 +38,15 @@ live_low (slot ∷ slots) zero w h = omega arith
 live_low (slot ∷ slots) (suc t) w h = omega (arith, live_low slots t w h)
 
 -- what the laws of the kinds say together
-record Answers (k : Kind) (S : State) (c : Call) (n : Need) (a : Answered) : Type 0 where
-  pub possible : gives_answer n a.answer (is_possible k S c a.answer) ≡ true
+record Answers (k : Kind) (S : State) (c : Call) (n : Need) (a : AnsweredCall) : Type 0 where
+  pub possible : need_gives_answer n a.answer (is_possible k S c a.answer) ≡ true
   pub same : after_need n (with_answer S c a.answer) ≡ a.after
   pub reply : a.answer.reply < 2 ^ 64
   pub incoming : IsStringIf (row k).entry.incoming a.answer.incoming
   pub tag : IsTagIf (row k).entry.tag a.answer.tag
   pub clock : clock_of a.answer.tag ≤ 2 ^ 62
 
-answered_holds : StaysUntagged → IsFromGroup → (k : Kind) (S : State) (t : ℕ) (c : Call) (env : Env) → S.count ≤ 16 → EnvFits env → kind_numbered c.kind ≡ Some k → (n : Need) → need k S t c ≡ n → ReplyFits n → (a : Answered) → answered_now n (from_world k S c env) ≡ Some a → Answers k S c n a
+answered_holds : StaysUntagged → IsFromGroup → (k : Kind) (S : State) (t : ℕ) (c : Call) (env : Env) → S.count ≤ 16 → EnvFits env → kind_numbered c.kind ≡ Some k → (n : Need) → need k S t c ≡ n → ReplyFits n → (a : AnsweredCall) → answered_now n (from_world k S c env) ≡ Some a → Answers k S c n a
 answered_holds stays sent k S t c env few e is (Fixed r S') need_is fits a h =
     subst (Answers k S c (Fixed r S')) (same_Some _ _ h) (record {
       possible = and_from _ _ (same r) refl;
@@ -72,16 +72,16 @@ answered_holds stays sent k S t c env few e is World need_is fits a h =
 handled_at : (p : ℕ → Bool) (pending : Bool) (s : ℕ) → (pending && p s) ≡ true → s < 1 + most_signal → ((s == 0) || (true && (nat_le s most_signal && p s))) ≡ true
 handled_at p pending s h low = or_right _ _ (and_from _ _ (le-leb' s most_signal (omega arith)) (and_parts _ _ h).1)
 
-handled_by : (p q : ℕ → Bool) (b : Bool) (n : ℕ) → n ≡ cond b 0 (lowest (λ s. q s && p s) most_signal 1) → ((n == 0) || (not b && (nat_le n most_signal && p n))) ≡ true
+handled_by : (p q : ℕ → Bool) (b : Bool) (n : ℕ) → n ≡ cond b 0 (lowest_signal (λ s. q s && p s) most_signal 1) → ((n == 0) || (not b && (nat_le n most_signal && p n))) ≡ true
 handled_by p q true n is = rw is refl
 handled_by p q false n is =
-    rw is (elim (lowest_holds (λ s. q s && p s) most_signal 1) [ inl h ↦ rw h refl | inr h ↦ handled_at p (q (lowest (λ s. q s && p s) most_signal 1)) (lowest (λ s. q s && p s) most_signal 1) h.0 h.1 ])
+    rw is (elim (lowest_holds (λ s. q s && p s) most_signal 1) [ inl h ↦ rw h refl | inr h ↦ handled_at p (q (lowest_signal (λ s. q s && p s) most_signal 1)) (lowest_signal (λ s. q s && p s) most_signal 1) h.0 h.1 ])
 
 chosen_handled : (k : Kind) (handlers : List (Option ℕ)) (pending : ℕ → Bool) → is_handled k handlers (chosen_signal k handlers pending) ≡ true
 chosen_handled k handlers pending =
     handled_by (λ s. is_some (handler handlers s)) pending (ends_process k) (chosen_signal k handlers pending) refl
 
-chosen_low : (p : ℕ → Bool) (b : Bool) → cond b 0 (lowest p most_signal 1) < 2 ^ 8
+chosen_low : (p : ℕ → Bool) (b : Bool) → cond b 0 (lowest_signal p most_signal 1) < 2 ^ 8
 chosen_low p true = omega arith
 chosen_low p false = elim (lowest_holds p most_signal 1) [ inl h ↦ omega arith | inr h ↦ omega (arith, h.1) ]
 
@@ -96,12 +96,12 @@ unfolding has_tag
 tag_fits number k tag e h =
     subst (λ (o : Option Kind). IsTagIf (option_map_or (λ kind. (row kind).entry.tag) o false) tag) (sym e) h
 
-event_agrees : (S : State) (t : ℕ) (w : Waiting) (env : Env) → StateFits S → S.events < 2 ^ 61 → is_running S ≡ true → thread_at S t ≡ Some w → WaitingFits w → (a : Answered) → Answers w.kind S w.call (need w.kind S t w.call) a → Agrees S (event S t env w a)
+event_agrees : (S : State) (t : ℕ) (w : Waiting) (env : Env) → StateFits S → S.events < 2 ^ 61 → is_running S ≡ true → thread_at S t ≡ Some w → WaitingFits w → (a : AnsweredCall) → Answers w.kind S w.call (need w.kind S t w.call) a → AgreesWithEvent S (event S t env w a)
 event_agrees S t w env s few running stands fits a m =
     let k = w.kind in
     let now = event S t env w a in
-    let effect : effects k S t w.call a.answer ≡ a.after = m.same in
-    let handled : is_handled k (effects k S t w.call a.answer).handlers now.entry.signal ≡ true = rw effect (chosen_handled k a.after.handlers env.pending) in
+    let effect : effects_of_answer k S t w.call a.answer ≡ a.after = m.same in
+    let handled : is_handled k (effects_of_answer k S t w.call a.answer).handlers now.entry.signal ≡ true = rw effect (chosen_handled k a.after.handlers env.pending) in
     record {
       shape = record {
         kind = number_within w.call.kind w.kind fits.kind;
@@ -114,7 +114,7 @@ event_agrees S t w env s few running stands fits a m =
         incoming = incoming_fits w.call.kind k _ fits.kind m.incoming;
         tag = tag_fits w.call.kind k _ fits.kind m.tag;
       };
-      legal = rw (running, stands) (none_failing (checks S now.entry w) (record {
+      legal = rw (running, stands) (none_failing (entry_checks S now.entry w) (record {
         call = same w.call.kind;
         arguments = and_from _ _ (same w.call.a0) (and_from _ _ (same w.call.a1) (same w.call.a2));
         bytes = (bytes_eq-Decides (outgoing_of w.call S.store.memory) (outgoing_of w.call S.store.memory)).1 refl;
@@ -122,10 +122,10 @@ event_agrees S t w env s few running stands fits a m =
         handler = handled;
         clock = same (next_clock_of S.clock a.answer.tag);
       }));
-      same = rw stands (ap (λ S'. goes_on k S' t w.strand a.answer.reply now.entry.signal now.entry.clock) effect);
+      same = rw stands (ap (λ S'. thread_goes_on k S' t w.strand a.answer.reply now.entry.signal now.entry.clock) effect);
     }
 
-one_at : StaysUntagged → IsFromGroup → (S : State) (t : ℕ) (env : Env) → StateFits S → S.events < 2 ^ 61 → EnvFits env → is_running S ≡ true → (o : Option Waiting) → thread_at S t ≡ o → (e : Event) → event_of_waiting S t env o ≡ Some e → Agrees S e
+one_at : StaysUntagged → IsFromGroup → (S : State) (t : ℕ) (env : Env) → StateFits S → S.events < 2 ^ 61 → EnvFits env → is_running S ≡ true → (o : Option Waiting) → thread_at S t ≡ o → (e : Event) → event_of_waiting S t env o ≡ Some e → AgreesWithEvent S e
 one_at stays sent S t env s few f running None stands e h = cc
 one_at stays sent S t env s few f running (Some w) stands e h =
     let k = w.kind in
@@ -134,7 +134,7 @@ one_at stays sent S t env s few f running (Some w) stands e h =
     let low : t < most_threads = omega (arith, live_low S.crew.threads t w stands, s.room) in
     let n = need k S t w.call in
     let holds = answered_holds stays sent k S t w.call env s.count f fits.kind n refl (reply_fits k S t w.call s low fits.arguments) m.0 m.1 in
-    subst (Agrees S) m.2 (event_agrees S t w env s few running stands fits m.0 holds)
+    subst (AgreesWithEvent S) m.2 (event_agrees S t w env s few running stands fits m.0 holds)
 
 pub one_event : StaysUntagged → IsFromGroup → OneEvent
 one_event stays sent S t env s few f e h =

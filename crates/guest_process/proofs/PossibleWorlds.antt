@@ -17,13 +17,13 @@ use Rattle.lib_calls.specs.Answer.{Answer, answer_of}
 use Rattle.lib_calls.specs.Effects.{is_good, minus_one, minus_two, outgoing_of, takes_counted}
 use Rattle.signal_points.specs.Signals.{most_signal}
 use Rattle.guest_process.specs.declared.waiting.Waiting.{Waiting}
-use Rattle.guest_process.specs.Answers.{Need, Fixed, Blocked, World, after_need, effects, is_drawn, is_due, is_empty, is_payload, brings_nothing, is_possible, takes_datagram, need, replies, with_answer}
-use Rattle.guest_process.specs.GoesOn.{goes_on, handler}
+use Rattle.guest_process.specs.Answers.{Need, Fixed, Blocked, World, after_need, effects_of_answer, is_drawn, is_due, is_empty, is_payload, brings_nothing, is_possible, takes_datagram, need, replies_with, with_answer}
+use Rattle.guest_process.specs.GoesOn.{thread_goes_on, handler}
 use Rattle.guest_process.specs.Kinds.{ends_process}
-use Rattle.guest_process.specs.Legal.{checks, gives_answer, is_handled, reason_at}
-use Rattle.guest_process.specs.Live.{Env, Event, Answered, answered_now, as_given, chosen_signal, cut_datagram, drawn_of, event, event_of_waiting, from_world, is_ready, lowest, random_answer, taken_of, waking_at, world_answer}
-use Rattle.guest_process.specs.Next.{next_at}
-use Rattle.guest_process.specs.OneEvent.{Brings, IsThere, Possible, StandsFirst, Supplies, Unless, WorldIsThere, datagram_as, mailbox_for}
+use Rattle.guest_process.specs.Legal.{entry_checks, need_gives_answer, is_handled, reason_at}
+use Rattle.guest_process.specs.Live.{Env, Event, AnsweredCall, answered_now, as_given, chosen_signal, cut_datagram, drawn_of, event, event_of_waiting, from_world, is_ready_signal, lowest_signal, random_answer, taken_of, wall_time_at_waking, world_answer}
+use Rattle.guest_process.specs.Next.{next_at_thread}
+use Rattle.guest_process.specs.OneEvent.{WorldBrings, IsThereToTake, Possible, StandsFirst, WorldSupplies, HoldsUnless, WorldIsThere, datagram_as, mailbox_for}
 use Rattle.guest_process.specs.State.{State, is_running, thread_at}
 use Rattle.guest_process.specs.Fits.{StateFits}
 use Rattle.guest_process.proofs.FirstFailure.{all_hold, unless_none}
@@ -33,15 +33,15 @@ use Rattle.guest_process.proofs.AnswerWrites.{asked_good, given_written, not_min
 not_minus_one : (reply : ℕ) → reply ≤ 60000 → (reply == minus_one) ≡ false
 not_minus_one reply low = ne_eqb reply minus_one (λ is. omega (arith, low, is))
 
-here : {P : Type 0} (test : Bool) → test ≡ false → Unless test P → P
+here : {P : Type 0} (test : Bool) → test ≡ false → HoldsUnless test P → P
 here true is h = cc
 here false is h = h
 
-there : (test : Bool) (a : Answer) (box : List (List ℕ)) → test ≡ false → IsThere test a box → StandsFirst a box
+there : (test : Bool) (a : Answer) (box : List (List ℕ)) → test ≡ false → IsThereToTake test a box → StandsFirst a box
 there true a box is h = cc
 there false a box is h = h
 
-not_there : (test : Bool) (a : Answer) (box : List (List ℕ)) → test ≡ true → IsThere test a box → box ≡ []
+not_there : (test : Bool) (a : Answer) (box : List (List ℕ)) → test ≡ true → IsThereToTake test a box → box ≡ []
 not_there true a box is h = h
 not_there false a box is h = cc
 
@@ -51,16 +51,16 @@ found : {A : Type 0} (b : Bool) (x y : A) → b ≡ true → cond b x y ≡ x
 found true x y h = refl
 found false x y h = cc
 
-plain_is : (a : Answer) → brings_nothing a.tag a.incoming ≡ true → replies a.reply ≡ a
+plain_is : (a : Answer) → brings_nothing a.tag a.incoming ≡ true → replies_with a.reply ≡ a
 plain_is a h = by_parts a.incoming a.tag h
   where
-    by_parts : (incoming : List ℕ) (tag : Option Tag) → brings_nothing tag incoming ≡ true → replies a.reply ≡ record { reply = a.reply; incoming = incoming; tag = tag }
+    by_parts : (incoming : List ℕ) (tag : Option Tag) → brings_nothing tag incoming ≡ true → replies_with a.reply ≡ record { reply = a.reply; incoming = incoming; tag = tag }
     by_parts [] None h = refl
     by_parts (_ ∷ _) None h = cc
     by_parts incoming (Some t) h = cc
 
 -- the answer to a call, with this state after it
-abbrev gives : State → Answer → Option Answered
+abbrev gives : State → Answer → Option AnsweredCall
 gives S a = Some (record { answer = a; after = S })
 
 -- ---- random bytes
@@ -118,32 +118,32 @@ module _ (again : IsReadBack) where
   first_given : (count : ℕ) (c : Call) (a : Answer) (box : List (List ℕ)) → count ≤ 16 → takes_datagram count c a ≡ true → StandsFirst a box → taken_of count c.a1 box ≡ Some a
   first_given count c a box few h first = ap (taken_of count c.a1) first.1 ∙ ap Some (cut_is count c a few h)
 
-  recv_gives : (S : State) (c : Call) (a : Answer) (box : List (List ℕ)) → S.count ≤ 16 → kind_numbered c.kind ≡ Some Recv → is_good c S.store.memory ≡ true → takes_datagram S.count c a ≡ true → Unless (a.reply == minus_one) (StandsFirst a box) → taken_of S.count c.a1 box ≡ Some a
+  recv_gives : (S : State) (c : Call) (a : Answer) (box : List (List ℕ)) → S.count ≤ 16 → kind_numbered c.kind ≡ Some Recv → is_good c S.store.memory ≡ true → takes_datagram S.count c a ≡ true → HoldsUnless (a.reply == minus_one) (StandsFirst a box) → taken_of S.count c.a1 box ≡ Some a
   recv_gives S c a box few e good h first =
       let low = taken_low S c a h (recv_short S c e good) in
       first_given S.count c a box few h (here (a.reply == minus_one) (not_minus_one a.reply low) first)
 
-  taken_gives : (S : State) (c : Call) (a : Answer) (box : List (List ℕ)) → S.count ≤ 16 → kind_numbered c.kind ≡ Some TryRecv → is_good c S.store.memory ≡ true → takes_datagram S.count c a ≡ true → Unless (a.reply == minus_one) (IsThere (a.reply == minus_two) a box) → unwrap_or (taken_of S.count c.a1 box) (replies minus_two) ≡ a
+  taken_gives : (S : State) (c : Call) (a : Answer) (box : List (List ℕ)) → S.count ≤ 16 → kind_numbered c.kind ≡ Some TryRecv → is_good c S.store.memory ≡ true → takes_datagram S.count c a ≡ true → HoldsUnless (a.reply == minus_one) (IsThereToTake (a.reply == minus_two) a box) → unwrap_or (taken_of S.count c.a1 box) (replies_with minus_two) ≡ a
   taken_gives S c a box few e good h first =
       let low = taken_low S c a h (try_recv_short S c e good) in
-      ap (λ taken. unwrap_or taken (replies minus_two))
+      ap (λ taken. unwrap_or taken (replies_with minus_two))
       (first_given S.count c a box few h (there (a.reply == minus_two) a box (not_minus_two a.reply low) (here (a.reply == minus_one) (not_minus_one a.reply low) first)))
 
-  empty_gives : (S : State) (c : Call) (a : Answer) (box : List (List ℕ)) → is_empty a ≡ true → Unless (a.reply == minus_one) (IsThere (a.reply == minus_two) a box) → unwrap_or (taken_of S.count c.a1 box) (replies minus_two) ≡ a
+  empty_gives : (S : State) (c : Call) (a : Answer) (box : List (List ℕ)) → is_empty a ≡ true → HoldsUnless (a.reply == minus_one) (IsThereToTake (a.reply == minus_two) a box) → unwrap_or (taken_of S.count c.a1 box) (replies_with minus_two) ≡ a
   empty_gives S c a box h first =
       let parts = and_parts (a.reply == minus_two) (brings_nothing a.tag a.incoming) h in
       let is = eqb-true a.reply minus_two parts.0 in
-      ap (λ box. unwrap_or (taken_of S.count c.a1 box) (replies minus_two)) (not_there (a.reply == minus_two) a box parts.0 (here (a.reply == minus_one) (ne_eqb a.reply minus_one (λ one. omega (arith, is, one))) first))
-      ∙ ap replies (sym is)
+      ap (λ box. unwrap_or (taken_of S.count c.a1 box) (replies_with minus_two)) (not_there (a.reply == minus_two) a box parts.0 (here (a.reply == minus_one) (ne_eqb a.reply minus_one (λ one. omega (arith, is, one))) first))
+      ∙ ap replies_with (sym is)
       ∙ plain_is a parts.1
 
   -- ---- an answer of the world
 
-  world_gives : (k : Kind) (S : State) (t : ℕ) (c : Call) (a : Answer) (env : Env) → S.count ≤ 16 → kind_numbered c.kind ≡ Some k → need k S t c ≡ World → is_possible k S c a ≡ true → Brings (Some k) a env → world_answer k c S.count env ≡ Some a
-  world_gives Now S t c a env few e w h has = ap (λ n. Some (replies n)) has ∙ ap Some (plain_is a h)
+  world_gives : (k : Kind) (S : State) (t : ℕ) (c : Call) (a : Answer) (env : Env) → S.count ≤ 16 → kind_numbered c.kind ≡ Some k → need k S t c ≡ World → is_possible k S c a ≡ true → WorldBrings (Some k) a env → world_answer k c S.count env ≡ Some a
+  world_gives Now S t c a env few e w h has = ap (λ n. Some (replies_with n)) has ∙ ap Some (plain_is a h)
   world_gives SleepUntil S t c a env few e w h has =
       let parts = and_parts (is_due c.a0 a.reply) (brings_nothing a.tag a.incoming) h in
-      ap (waking_at c.a0) has ∙ found (is_due c.a0 a.reply) _ _ parts.0 ∙ ap Some (plain_is a parts.1)
+      ap (wall_time_at_waking c.a0) has ∙ found (is_due c.a0 a.reply) _ _ parts.0 ∙ ap Some (plain_is a parts.1)
   world_gives Random S t c a env few e w h has =
       let good = asked_good S c w in
       let reply = eqb-true a.reply c.a1 (and_parts (a.reply == c.a1) _ h).0 in
@@ -156,10 +156,10 @@ module _ (again : IsReadBack) where
   ])
   world_gives _ S t c a env few e w h has = cc
 
-  answer_given : (k : Kind) (S : State) (t : ℕ) (c : Call) (a : Answer) (env : Env) → S.count ≤ 16 → kind_numbered c.kind ≡ Some k → Brings (Some k) a env → (n : Need) → need k S t c ≡ n → gives_answer n a (is_possible k S c a) ≡ true → answered_now n (from_world k S c env) ≡ gives (after_need n (with_answer S c a)) a
+  answer_given : (k : Kind) (S : State) (t : ℕ) (c : Call) (a : Answer) (env : Env) → S.count ≤ 16 → kind_numbered c.kind ≡ Some k → WorldBrings (Some k) a env → (n : Need) → need k S t c ≡ n → need_gives_answer n a (is_possible k S c a) ≡ true → answered_now n (from_world k S c env) ≡ gives (after_need n (with_answer S c a)) a
   answer_given k S t c a env few e has (Fixed reply S') w h =
       let parts = and_parts (a.reply == reply) (brings_nothing a.tag a.incoming) h in
-      ap (gives S') (ap replies (sym (eqb-true a.reply reply parts.0)) ∙ plain_is a parts.1)
+      ap (gives S') (ap replies_with (sym (eqb-true a.reply reply parts.0)) ∙ plain_is a parts.1)
   answer_given k S t c a env few e has Blocked w h = cc
   answer_given k S t c a env few e has World w h =
       ap (option_map (as_given k S c)) (world_gives k S t c a env few e w h has) ∙ ap (λ S'. gives S' a) (sym (given_written k S t c a e w))
@@ -170,28 +170,28 @@ module _ (again : IsReadBack) where
 abbrev only : ℕ → (ℕ → Bool) → ℕ → Bool
 only signal q s = (s == signal) && q s
 
-lowest_past : (q : ℕ → Bool) (signal n s : ℕ) → signal < s → lowest (only signal q) n s ≡ 0
-unfolding lowest
+lowest_past : (q : ℕ → Bool) (signal n s : ℕ) → signal < s → lowest_signal (only signal q) n s ≡ 0
+unfolding lowest_signal
 lowest_past q signal zero s low = refl
 lowest_past q signal (suc n) s low = by_test (s == signal) refl (lowest_past q signal n (s + 1) (omega arith))
   where
-    by_test : (b : Bool) → (s == signal) ≡ b → lowest (only signal q) n (s + 1) ≡ 0 → cond (b && q s) s (lowest (only signal q) n (s + 1)) ≡ 0
+    by_test : (b : Bool) → (s == signal) ≡ b → lowest_signal (only signal q) n (s + 1) ≡ 0 → cond (b && q s) s (lowest_signal (only signal q) n (s + 1)) ≡ 0
     by_test true e rest = absurd (omega (arith, low, eqb-true s signal e))
     by_test false e rest = rest
 
-lowest_is : (q : ℕ → Bool) (signal n s : ℕ) → s ≤ signal → signal < s + n → q signal ≡ true → lowest (only signal q) n s ≡ signal
-unfolding lowest
+lowest_is : (q : ℕ → Bool) (signal n s : ℕ) → s ≤ signal → signal < s + n → q signal ≡ true → lowest_signal (only signal q) n s ≡ signal
+unfolding lowest_signal
 lowest_is q signal zero s low high is = absurd (omega arith)
 lowest_is q signal (suc n) s low high is = by_test (s == signal) refl (λ more. lowest_is q signal n (s + 1) more (omega arith) is)
   where
-    by_test : (b : Bool) → (s == signal) ≡ b → (s + 1 ≤ signal → lowest (only signal q) n (s + 1) ≡ signal) → cond (b && q s) s (lowest (only signal q) n (s + 1)) ≡ signal
+    by_test : (b : Bool) → (s == signal) ≡ b → (s + 1 ≤ signal → lowest_signal (only signal q) n (s + 1) ≡ signal) → cond (b && q s) s (lowest_signal (only signal q) n (s + 1)) ≡ signal
     by_test true e rest = let same = eqb-true s signal e in found (q s) _ _ (ap q same ∙ is) ∙ same
     by_test false e rest = rest (omega (arith, low, eqb-false s signal e))
 
-chosen_by : (p : ℕ → Bool) (signal : ℕ) (ends : Bool) → ((signal == 0) || (not ends && (nat_le signal most_signal && p signal))) ≡ true → cond ends 0 (lowest (only signal p) most_signal 1) ≡ signal
+chosen_by : (p : ℕ → Bool) (signal : ℕ) (ends : Bool) → ((signal == 0) || (not ends && (nat_le signal most_signal && p signal))) ≡ true → cond ends 0 (lowest_signal (only signal p) most_signal 1) ≡ signal
 chosen_by p signal ends h = by_test ends (signal == 0) refl h
   where
-    by_test : (ends none : Bool) → (signal == 0) ≡ none → (none || (not ends && (nat_le signal most_signal && p signal))) ≡ true → cond ends 0 (lowest (only signal p) most_signal 1) ≡ signal
+    by_test : (ends none : Bool) → (signal == 0) ≡ none → (none || (not ends && (nat_le signal most_signal && p signal))) ≡ true → cond ends 0 (lowest_signal (only signal p) most_signal 1) ≡ signal
     by_test true true e h = sym (eqb-true signal 0 e)
     by_test true false e h = cc
     by_test false true e h = let is = eqb-true signal 0 e in lowest_past p signal most_signal 1 (omega (arith, is)) ∙ sym is
@@ -199,17 +199,17 @@ chosen_by p signal ends h = by_test ends (signal == 0) refl h
         let parts = and_parts (nat_le signal most_signal) (p signal) h in
         lowest_is p signal most_signal 1 (omega (arith, eqb-false signal 0 e)) (omega (arith, leb-true signal most_signal parts.0)) parts.1
 
-lowest_same : (p q : ℕ → Bool) (n s : ℕ) → ((r : ℕ) → s ≤ r → r < s + n → p r ≡ q r) → lowest p n s ≡ lowest q n s
-unfolding lowest
+lowest_same : (p q : ℕ → Bool) (n s : ℕ) → ((r : ℕ) → s ≤ r → r < s + n → p r ≡ q r) → lowest_signal p n s ≡ lowest_signal q n s
+unfolding lowest_signal
 lowest_same p q zero s same = refl
 lowest_same p q (suc n) s same =
-    ap (λ b. cond b s (lowest p n (s + 1))) (same s (omega arith) (omega arith))
+    ap (λ b. cond b s (lowest_signal p n (s + 1))) (same s (omega arith) (omega arith))
     ∙ ap (λ m. cond (q s) s m) (lowest_same p q n (s + 1) (λ r low high. same r (omega (arith, low)) (omega (arith, high))))
 
 chosen_is : (k : Kind) (handlers : List (Option ℕ)) (signal : ℕ) (pending : ℕ → Bool) → ((s : ℕ) → 1 ≤ s → s < 1 + most_signal → pending s ≡ (s == signal)) → is_handled k handlers signal ≡ true → chosen_signal k handlers pending ≡ signal
 chosen_is k handlers signal pending only_it h =
     let q : ℕ → Bool = λ s. is_some (handler handlers s) in
-    ap (λ n. cond (ends_process k) 0 n) (lowest_same (is_ready handlers pending) (only signal q) most_signal 1 (λ s low high. ap (λ b. b && q s) (only_it s low high)))
+    ap (λ n. cond (ends_process k) 0 n) (lowest_same (is_ready_signal handlers pending) (only signal q) most_signal 1 (λ s low high. ap (λ b. b && q s) (only_it s low high)))
     ∙ chosen_by q signal (ends_process k) h
 
 -- ---- the event
@@ -217,7 +217,7 @@ chosen_is k handlers signal pending only_it h =
 -- the event of a thread that stands so, told by these parts of its entry
 abbrev told : State → Entry → Waiting → ℕ → ℕ → Call → List ℕ → Event
 told S' e w signal clock call outgoing = record {
-  state = goes_on w.kind S' e.thread w.strand e.reply signal clock;
+  state = thread_goes_on w.kind S' e.thread w.strand e.reply signal clock;
   entry = record {
     clock = clock;
     thread = e.thread;
@@ -238,16 +238,16 @@ same_told S' e w signal clock call outgoing signals clocks calls bytes =
     ∙ ap (λ c. told S' e w e.signal e.clock c outgoing) calls
     ∙ ap (λ bytes. told S' e w e.signal e.clock e.call bytes) bytes
 
-lived : IsReadBack → (S : State) (e : Entry) (env : Env) → StateFits S → Supplies e env → (o : Option Waiting) → thread_at S e.thread ≡ o → reason_at S e o ≡ None → event_of_waiting S e.thread env o ≡ Some (record { state = next_at S e o; entry = e })
+lived : IsReadBack → (S : State) (e : Entry) (env : Env) → StateFits S → WorldSupplies e env → (o : Option Waiting) → thread_at S e.thread ≡ o → reason_at S e o ≡ None → event_of_waiting S e.thread env o ≡ Some (record { state = next_at_thread S e o; entry = e })
 lived again S e env s has None at h = cc
 lived again S e env s has (Some w) at h =
     let k = w.kind in
     let a = answer_of e in
-    let S' = effects k S e.thread w.call a in
-    let holds = all_hold (checks S e w) h in
+    let S' = effects_of_answer k S e.thread w.call a in
+    let holds = all_hold (entry_checks S e w) h in
     let fits = fits_at S e.thread w s at in
     let of_kind : kind_numbered e.call.kind ≡ Some k = ap (λ (c : Call). kind_numbered c.kind) (call_told S e w holds) ∙ fits.kind in
-    let brings : Brings (Some k) a env = subst (λ (o : Option Kind). Brings o a env) of_kind has.brings in
+    let brings : WorldBrings (Some k) a env = subst (λ (o : Option Kind). WorldBrings o a env) of_kind has.brings in
     let given = answer_given again k S e.thread w.call a env s.count fits.kind brings (need k S e.thread w.call) refl holds.reply in
     let sent = outgoing_of w.call S.store.memory in
     ap (option_map (event S e.thread env w)) given
@@ -265,15 +265,15 @@ possible again S e s h env has =
 
 -- ---- the world in which an entry comes about
 
-unless_any : {P : Type 0} (test : Bool) → P → Unless test P
+unless_any : {P : Type 0} (test : Bool) → P → HoldsUnless test P
 unless_any true h = tt
 unless_any false h = h
 
-in_mailbox : (test : Bool) (a : Answer) → IsThere test a (if test then [] else datagram_as a.tag a.incoming ∷ [])
+in_mailbox : (test : Bool) (a : Answer) → IsThereToTake test a (if test then [] else datagram_as a.tag a.incoming ∷ [])
 in_mailbox true a = refl
 in_mailbox false a = ([], refl)
 
-brought : (o : Option Kind) (a : Answer) (signal : ℕ) → Brings o a (record { mailbox = mailbox_for o a; pool = a.incoming; time = a.reply; pending = λ s. s == signal; killed = false })
+brought : (o : Option Kind) (a : Answer) (signal : ℕ) → WorldBrings o a (record { mailbox = mailbox_for o a; pool = a.incoming; time = a.reply; pending = λ s. s == signal; killed = false })
 brought (Some Now) a signal = refl
 brought (Some SleepUntil) a signal = refl
 brought (Some Random) a signal = unless_any (a.reply == minus_one) (take_all (length a.incoming) a.incoming (omega arith))

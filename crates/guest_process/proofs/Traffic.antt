@@ -13,7 +13,7 @@ use Rattle.lib_calls.specs.Traffic.{drawn, draws_as, is_sent, is_taken, sends_as
 use Rattle.guest_process.specs.declared.waiting.Waiting.{Waiting}
 use Rattle.guest_process.specs.Answers.{Fixed, World, need_of_world, brings_nothing, is_drawn, is_empty, is_payload, is_possible, need, replied, takes_datagram}
 use Rattle.guest_process.specs.Fits.{StateFits}
-use Rattle.guest_process.specs.Legal.{checks, gives_answer, reason_at}
+use Rattle.guest_process.specs.Legal.{entry_checks, need_gives_answer, reason_at}
 use Rattle.guest_process.specs.Numbers.{CallsWell, HasTraffic, LegalTraffic}
 use Rattle.guest_process.specs.State.{State, is_running, thread_at}
 use Rattle.guest_process.proofs.FirstFailure.{all_hold, unless_none}
@@ -25,21 +25,21 @@ use Rattle.guest_process.proofs.AnswerWrites.{not_minus_one, random_short, recv_
 abbrev AnsweredWell : State → Call → Answer → Type 0
 AnsweredWell S c a = not (a.reply == minus_one) ≡ is_good c S.store.memory
 
-replied_well : (S : State) (c : Call) (a : Answer) (possible : Bool) → (is_good c S.store.memory ≡ true → c.a2 ≤ 60000) → gives_answer (replied S c c.a2) a possible ≡ true → AnsweredWell S c a
+replied_well : (S : State) (c : Call) (a : Answer) (possible : Bool) → (is_good c S.store.memory ≡ true → c.a2 ≤ 60000) → need_gives_answer (replied S c c.a2) a possible ≡ true → AnsweredWell S c a
 replied_well S c a possible short h = by_test (is_good c S.store.memory) short h
   where
-    by_test : (b : Bool) → (b ≡ true → c.a2 ≤ 60000) → gives_answer (Fixed (cond b c.a2 minus_one) S) a possible ≡ true → not (a.reply == minus_one) ≡ b
+    by_test : (b : Bool) → (b ≡ true → c.a2 ≤ 60000) → need_gives_answer (Fixed (cond b c.a2 minus_one) S) a possible ≡ true → not (a.reply == minus_one) ≡ b
     by_test true short h =
         let is = eqb-true a.reply c.a2 (and_parts (a.reply == c.a2) (brings_nothing a.tag a.incoming) h).0 in
         not_minus_one a.reply (omega (arith, is, short refl))
     by_test false short h =
         ap (λ reply. not (reply == minus_one)) (eqb-true a.reply minus_one (and_parts (a.reply == minus_one) (brings_nothing a.tag a.incoming) h).0)
 
-asked_well : (S : State) (c : Call) (a : Answer) (possible : Bool) → (is_good c S.store.memory ≡ true → possible ≡ true → not (a.reply == minus_one) ≡ true) → gives_answer (need_of_world S c) a possible ≡ true
+asked_well : (S : State) (c : Call) (a : Answer) (possible : Bool) → (is_good c S.store.memory ≡ true → possible ≡ true → not (a.reply == minus_one) ≡ true) → need_gives_answer (need_of_world S c) a possible ≡ true
     → AnsweredWell S c a
 asked_well S c a possible well h = by_test (is_good c S.store.memory) well h
   where
-    by_test : (b : Bool) → (b ≡ true → possible ≡ true → not (a.reply == minus_one) ≡ true) → gives_answer (cond b World (Fixed minus_one S)) a possible ≡ true → not (a.reply == minus_one) ≡ b
+    by_test : (b : Bool) → (b ≡ true → possible ≡ true → not (a.reply == minus_one) ≡ true) → need_gives_answer (cond b World (Fixed minus_one S)) a possible ≡ true → not (a.reply == minus_one) ≡ b
     by_test true well h = well refl h
     by_test false well h =
         ap (λ reply. not (reply == minus_one)) (eqb-true a.reply minus_one (and_parts (a.reply == minus_one) (brings_nothing a.tag a.incoming) h).0)
@@ -64,7 +64,7 @@ drawn_length c a h =
 
 -- the answer to the entry's call, of this kind, is one that can be given
 abbrev IsGiven : Kind → State → Entry → Type 0
-IsGiven k S e = gives_answer (need k S e.thread e.call) (answer_of e) (is_possible k S e.call (answer_of e)) ≡ true
+IsGiven k S e = need_gives_answer (need k S e.thread e.call) (answer_of e) (is_possible k S e.call (answer_of e)) ≡ true
 
 send_well : (S : State) (e : Entry) → kind_numbered e.call.kind ≡ Some Send → IsGiven Send S e → AnsweredWell S e.call (answer_of e)
 send_well S e is h = replied_well S e.call (answer_of e) false (send_short S e.call is) h
@@ -125,7 +125,7 @@ taken_as _ S e is h = (λ taken. cc, λ w. elim w [ inl recv ↦ let both = sym 
 random_drawn : (S : State) (e : Entry) → IsGiven Random S e → is_good e.call S.store.memory ≡ true → length e.incoming ≡ e.call.a1
 random_drawn S e h good = by_test (is_good e.call S.store.memory) good h
   where
-    by_test : (b : Bool) → b ≡ true → gives_answer (cond b World (Fixed minus_one S)) (answer_of e) (is_drawn e.call (answer_of e)) ≡ true → length e.incoming ≡ e.call.a1
+    by_test : (b : Bool) → b ≡ true → need_gives_answer (cond b World (Fixed minus_one S)) (answer_of e) (is_drawn e.call (answer_of e)) ≡ true → length e.incoming ≡ e.call.a1
     by_test true good h = drawn_length e.call (answer_of e) h
     by_test false good h = cc
 
@@ -164,10 +164,10 @@ traffic k S e is h = record {
 
 traffic_at : (S : State) (e : Entry) → StateFits S → (w : Waiting) → thread_at S e.thread ≡ Some w → reason_at S e (Some w) ≡ None → HasTraffic S e
 traffic_at S e s w at h =
-    let holds = all_hold (checks S e w) h in
+    let holds = all_hold (entry_checks S e w) h in
     let told = call_told S e w holds in
     let given : IsGiven w.kind S e =
-    subst (λ (c : Call). gives_answer (need w.kind S e.thread c) (answer_of e) (is_possible w.kind S c (answer_of e)) ≡ true) (sym told) holds.reply in
+    subst (λ (c : Call). need_gives_answer (need w.kind S e.thread c) (answer_of e) (is_possible w.kind S c (answer_of e)) ≡ true) (sym told) holds.reply in
     traffic w.kind S e (ap (λ (c : Call). kind_numbered c.kind) told ∙ (fits_at S e.thread w s at).kind) given
 
 traffic_of : (S : State) (e : Entry) → StateFits S → (o : Option Waiting) → thread_at S e.thread ≡ o → reason_at S e o ≡ None → HasTraffic S e

@@ -5,7 +5,7 @@ use Rattle.call_table.specs.declared.kind.Kind.TheVariants.{Spawn, Lock, Unlock,
 use Rattle.lib_calls.specs.declared.entry.Call.{Call}
 use Rattle.lib_calls.specs.declared.entry.Entry.{Entry}
 use Rattle.lib_calls.specs.Answer.{Answer, answer_of}
-use Rattle.wasm_step.specs.Strand.{answered}
+use Rattle.wasm_step.specs.Strand.{answered_strand}
 use Rattle.guest_process.specs.declared.waiting.Waiting.{Waiting}
 use Rattle.guest_process.specs.Answers.{after_need, handled, locked, narrow, spawned, unlocked, with_answer}
 use Rattle.guest_process.specs.GoesOn.{after_running, handler, with_handler_frame}
@@ -13,18 +13,18 @@ use Rattle.guest_process.specs.Kinds.{reply_value}
 use Rattle.guest_process.specs.State.{State, pending_kind}
 
 -- the state after an answer, but for the end of a thread that calls `exit`
-abbrev pub acted : Option Kind → State → ℕ → Call → Answer → State
-acted (Some Spawn) S t c a = after_need (spawned S (narrow c.a0) (narrow c.a1)) S
-acted (Some Lock) S t c a = after_need (locked S (narrow c.a0) t) S
-acted (Some Unlock) S t c a = after_need (unlocked S (narrow c.a0) t) S
-acted (Some OnSignal) S t c a = after_need (handled S (narrow c.a0) (narrow c.a1)) S
-acted _ S t c a = with_answer S c a
+abbrev pub acted_on_answer : Option Kind → State → ℕ → Call → Answer → State
+acted_on_answer (Some Spawn) S t c a = after_need (spawned S (narrow c.a0) (narrow c.a1)) S
+acted_on_answer (Some Lock) S t c a = after_need (locked S (narrow c.a0) t) S
+acted_on_answer (Some Unlock) S t c a = after_need (unlocked S (narrow c.a0) t) S
+acted_on_answer (Some OnSignal) S t c a = after_need (handled S (narrow c.a0) (narrow c.a1)) S
+acted_on_answer _ S t c a = with_answer S c a
 
 -- the state after what the answer does, but for the end of a thread that calls `exit`
-abbrev pub acted_by : State → Entry → State
-acted_by S e = acted (pending_kind S e.thread) S e.thread e.call (answer_of e)
+abbrev pub acted_by_entry : State → Entry → State
+acted_by_entry S e = acted_on_answer (pending_kind S e.thread) S e.thread e.call (answer_of e)
 
 -- the state once the thread of an entry went on, from one in which it was taken out and its answer has had its effects
-abbrev pub gone_on : State → Waiting → Entry → State
-gone_on S w e =
-    after_running S e.thread (with_handler_frame S.store.«module» (answered w.strand (reply_value w.kind e.reply)) e.signal (handler S.handlers e.signal))
+abbrev pub thread_gone_on : State → Waiting → Entry → State
+thread_gone_on S w e =
+    after_running S e.thread (with_handler_frame S.store.«module» (answered_strand w.strand (reply_value w.kind e.reply)) e.signal (handler S.handlers e.signal))

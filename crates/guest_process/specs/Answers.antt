@@ -24,8 +24,8 @@ use Rattle.guest_process.specs.Start.{waiting_at}
 use Rattle.guest_process.specs.State.{State, with_handlers, with_lock, with_memory, with_new_thread, with_thread, without_lock}
 
 -- a reply alone
-abbrev pub replies : ℕ → Answer
-replies n = record { reply = n; incoming = []; tag = None }
+abbrev pub replies_with : ℕ → Answer
+replies_with n = record { reply = n; incoming = []; tag = None }
 
 -- process and call determine the reply and the state with the call's effects; or no answer is given now;
 -- or the world answers
@@ -35,8 +35,8 @@ pub data Need : Type 0 where
   World : Need
 
 -- thread t called `exit` with this code
-abbrev pub exited : State → ℕ → ℕ → State
-exited S t code = record (with_thread S t Over) { end = Exited (cast_signed w32 (code % 2 ^ 32)) }
+abbrev pub exited_process : State → ℕ → ℕ → State
+exited_process S t code = record (with_thread S t Over) { end = Exited (cast_signed w32 (code % 2 ^ 32)) }
 
 -- the process answers with this reply where the call's arguments are good, and else with -1
 abbrev pub replied : State → Call → ℕ → Need
@@ -53,55 +53,55 @@ abbrev pub narrow : ℕ → ℕ
 narrow bits = bits % 2 ^ 32
 
 -- a thread that joins one which stands so
-abbrev pub joins : State → Status → Need
-joins S Unknown = Fixed minus_one S
-joins S Live = Blocked
-joins S Taken = Blocked
-joins S Ended = Fixed 0 S
+abbrev pub joins_standing : State → Status → Need
+joins_standing S Unknown = Fixed minus_one S
+joins_standing S Live = Blocked
+joins_standing S Taken = Blocked
+joins_standing S Ended = Fixed 0 S
 
 -- thread t joins thread u
 abbrev pub joined : State → ℕ → ℕ → Need
-joined S t u = if u == t then Fixed minus_one S else joins S (status_of (slice_get S.crew.threads u))
+joined S t u = if u == t then Fixed minus_one S else joins_standing S (status_of (slice_get S.crew.threads u))
 
 -- thread t asks for the lock m, and this is what it finds
-abbrev pub locks : State → ℕ → ℕ → Grip → Need
-locks S m t Got = Fixed 0 (with_lock S m t)
-locks S m t Already = Fixed minus_one S
-locks S m t (Held holder) = Blocked
+abbrev pub asks_for_lock : State → ℕ → ℕ → Grip → Need
+asks_for_lock S m t Got = Fixed 0 (with_lock S m t)
+asks_for_lock S m t Already = Fixed minus_one S
+asks_for_lock S m t (Held holder) = Blocked
 
 abbrev pub locked : State → ℕ → ℕ → Need
-locked S m t = locks S m t (grip_of (holder_of S.crew m) t)
+locked S m t = asks_for_lock S m t (grip_of (holder_of S.crew m) t)
 
 -- thread t is this holder of a lock
-abbrev pub is_holder : Option ℕ → ℕ → Bool
-is_holder None t = false
-is_holder (Some holder) t = holder == t
+abbrev pub is_lock_holder : Option ℕ → ℕ → Bool
+is_lock_holder None t = false
+is_lock_holder (Some holder) t = holder == t
 
 -- thread t gives the lock m back
 abbrev pub unlocked : State → ℕ → ℕ → Need
-unlocked S m t = if is_holder (holder_of S.crew m) t then Fixed 0 (without_lock S m) else Fixed minus_one S
+unlocked S m t = if is_lock_holder (holder_of S.crew m) t then Fixed 0 (without_lock S m) else Fixed minus_one S
 
 -- ---- handlers
 
 -- the number at which no function handles a signal
-abbrev pub removal : ℕ
-removal = 2 ^ 32 - 1
+abbrev pub handler_removal : ℕ
+handler_removal = 2 ^ 32 - 1
 
 -- what this number names: no handler, or the function at that place of the table, where it is one
 abbrev pub handler_named : Store → ℕ → Option (Option ℕ)
-handler_named store number = if number == removal then Some None else option_map (λ func. Some func) (handler_at store number)
+handler_named store number = if number == handler_removal then Some None else option_map (λ func. Some func) (handler_at store number)
 
 -- the handler, or none, that a call gives a signal with this number, where there is that signal
 abbrev pub handler_given : State → ℕ → ℕ → Option (Option ℕ)
 handler_given S signal number = if is_signal signal then handler_named S.store number else None
 
-abbrev pub handles : State → ℕ → Option (Option ℕ) → Need
-handles S signal None = Fixed minus_one S
-handles S signal (Some handler) = Fixed 0 (with_handlers S (with_handler S.handlers signal handler))
+abbrev pub handles_signal : State → ℕ → Option (Option ℕ) → Need
+handles_signal S signal None = Fixed minus_one S
+handles_signal S signal (Some handler) = Fixed 0 (with_handlers S (with_handler S.handlers signal handler))
 
 -- the function that this number names is to handle the signal
 abbrev pub handled : State → ℕ → ℕ → Need
-handled S signal number = handles S signal (handler_given S signal number)
+handled S signal number = handles_signal S signal (handler_given S signal number)
 
 -- ---- new threads
 
@@ -110,22 +110,22 @@ abbrev pub spawnable : State → ℕ → Option ℕ
 spawnable S index = if nat_lt (length S.crew.threads) most_threads then handler_at S.store index else None
 
 -- the thread is made, which is the next in number; a function that was found has its code, so that there is one
-abbrev pub spawns : State → Option stack.Thread → Need
-spawns S None = Fixed minus_one S
-spawns S (Some thread) = Fixed (length S.crew.threads) (with_new_thread S (waiting_at S.store.«module» thread))
+abbrev pub spawns_thread : State → Option stack.Thread → Need
+spawns_thread S None = Fixed minus_one S
+spawns_thread S (Some thread) = Fixed (length S.crew.threads) (with_new_thread S (waiting_at S.store.«module» thread))
 
-abbrev pub spawned_at : State → ℕ → Option ℕ → Need
-spawned_at S arg None = Fixed minus_one S
-spawned_at S arg (Some func) = spawns S (new_thread S.store.«module» func arg)
+abbrev pub spawned_at_index : State → ℕ → Option ℕ → Need
+spawned_at_index S arg None = Fixed minus_one S
+spawned_at_index S arg (Some func) = spawns_thread S (new_thread S.store.«module» func arg)
 
 -- a thread is to begin with the function of this table index, and be given this argument
 abbrev pub spawned : State → ℕ → ℕ → Need
-spawned S index arg = spawned_at S arg (spawnable S index)
+spawned S index arg = spawned_at_index S arg (spawnable S index)
 
 -- what process and call determine
 abbrev pub need : Kind → State → ℕ → Call → Need
 need Begin S t c = Fixed 0 S
-need Exit S t c = Fixed 0 (exited S t c.a0)
+need Exit S t c = Fixed 0 (exited_process S t c.a0)
 need Note S t c = Fixed 0 S
 need Print S t c = replied S c c.a1
 need Now S t c = World
@@ -189,5 +189,5 @@ after_need Blocked S' = S'
 after_need World S' = S'
 
 -- the state with the effects of an answer
-abbrev pub effects : Kind → State → ℕ → Call → Answer → State
-effects kind S t c a = after_need (need kind S t c) (with_answer S c a)
+abbrev pub effects_of_answer : Kind → State → ℕ → Call → Answer → State
+effects_of_answer kind S t c a = after_need (need kind S t c) (with_answer S c a)

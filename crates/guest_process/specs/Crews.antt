@@ -21,7 +21,7 @@ OtherThreadsStay = (S : State) (e : Entry) → StateFits S → reason S e ≡ No
     → (t : ℕ) → t ≢ e.thread → t < length S.crew.threads → slice_get (next S e).crew.threads t ≡ slice_get S.crew.threads t
 
 -- the event makes one more thread, which is live at `begin`
-pub record Spawns (S : State) (e : Entry) (S' : State) : Type 0 where
+pub record SpawnsThread (S : State) (e : Entry) (S' : State) : Type 0 where
   pub func : ℕ
   pub thread : Thread
   pub kind : kind_numbered e.call.kind ≡ Some Spawn
@@ -34,21 +34,21 @@ pub record Spawns (S : State) (e : Entry) (S' : State) : Type 0 where
 -- what an event does to the number of threads
 pub data MadeAfter (S : State) (e : Entry) (S' : State) : Type 0 where
   AsMany : length S'.crew.threads ≡ length S.crew.threads → MadeAfter S e S'
-  OneMore : Spawns S e S' → MadeAfter S e S'
+  OneMore : SpawnsThread S e S' → MadeAfter S e S'
 
 -- no event but one of `spawn` makes a thread
 abbrev pub OnlySpawnAdds : Type 0
 OnlySpawnAdds = (S : State) (e : Entry) → StateFits S → reason S e ≡ None → MadeAfter S e (next S e)
 
 -- the event takes a lock that was free for its thread
-pub record Locks (S : State) (e : Entry) (m : ℕ) (S' : State) : Type 0 where
+pub record TakesLock (S : State) (e : Entry) (m : ℕ) (S' : State) : Type 0 where
   pub kind : kind_numbered e.call.kind ≡ Some Lock
   pub lock : narrow e.call.a0 ≡ m
   pub free : holder_of S.crew m ≡ None
   pub held : holder_of S'.crew m ≡ Some e.thread
 
 -- the event gives back a lock that its thread held
-pub record Unlocks (S : State) (e : Entry) (m : ℕ) (S' : State) : Type 0 where
+pub record GivesLockBack (S : State) (e : Entry) (m : ℕ) (S' : State) : Type 0 where
   pub kind : kind_numbered e.call.kind ≡ Some Unlock
   pub lock : narrow e.call.a0 ≡ m
   pub held : holder_of S.crew m ≡ Some e.thread
@@ -57,8 +57,8 @@ pub record Unlocks (S : State) (e : Entry) (m : ℕ) (S' : State) : Type 0 where
 -- what an event does to a lock
 pub data LockAfter (S : State) (e : Entry) (m : ℕ) (S' : State) : Type 0 where
   Same : holder_of S'.crew m ≡ holder_of S.crew m → LockAfter S e m S'
-  Locked : Locks S e m S' → LockAfter S e m S'
-  Unlocked : Unlocks S e m S' → LockAfter S e m S'
+  Locked : TakesLock S e m S' → LockAfter S e m S'
+  Unlocked : GivesLockBack S e m S' → LockAfter S e m S'
 
 -- a lock has one holder from its `lock` to its `unlock`, whatever else happens
 abbrev pub LockKept : Type 0

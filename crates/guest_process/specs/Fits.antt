@@ -18,14 +18,14 @@ pub record WaitingFits (w : Waiting) : Type 0 where
   pub arguments : HasArguments w.call
 
 -- each thread that is live is such, and none is taken out
-abbrev pub Slotted : (Waiting → Type 0) → Slot Waiting → Type 0
-Slotted P (Kept w) = P w
-Slotted P Lent = ⊥
-Slotted P Over = Unit {0}
+abbrev pub HoldsOfSlot : (Waiting → Type 0) → Slot Waiting → Type 0
+HoldsOfSlot P (Kept w) = P w
+HoldsOfSlot P Lent = ⊥
+HoldsOfSlot P Over = Unit {0}
 
 abbrev pub Each : (Waiting → Type 0) → List (Slot Waiting) → Type 0
 Each P [] = Unit {0}
-Each P (slot ∷ slots) = Slotted P slot × Each P slots
+Each P (slot ∷ slots) = HoldsOfSlot P slot × Each P slots
 
 -- what holds of each live thread holds of one
 pub live_has : (P : Waiting → Type 0) (slots : List (Slot Waiting)) (t : ℕ) → Each P slots

@@ -12,7 +12,7 @@ use Rattle.wasm_types.specs.Library.{kind_at}
 use Rattle.wasm_types.specs.Modules.{Module}
 use Rattle.wasm_step.specs.Burst.{BurstResult, burst, most_instructions}
 use Rattle.wasm_step.specs.After.{Halt, Calls, Ends, Traps, Sticks}
-use Rattle.wasm_step.specs.Strand.{Strand, answered, handling, is_in}
+use Rattle.wasm_step.specs.Strand.{Strand, answered_strand, thread_in_handler, is_in}
 use Rattle.wasm_step.specs.Thread.{Thread}
 use Rattle.wasm_stack.specs.declared.call.CallSite.{CallSite}
 use Rattle.guest_process.specs.declared.end.End.TheVariants.{Finished, Trapped}
@@ -21,8 +21,8 @@ use Rattle.guest_process.specs.Kinds.{ends_process, reply_value}
 use Rattle.guest_process.specs.State.{State, awaits_event, with_thread}
 
 -- a burst has at most so many instructions
-unfoldable pub budget : ℕ
-budget = most_instructions
+unfoldable pub instruction_budget : ℕ
+instruction_budget = most_instructions
 
 -- ---- where a burst stops
 
@@ -41,35 +41,35 @@ stands S thread site kind =
     record { kind = kind; call = call_of_site kind site; strand = record { «module» = S.store.«module»; thread = thread; call = Some site.func } }
 
 -- thread t has trapped
-abbrev pub trapped : State → ℕ → Trap → State
-trapped S t trap = record (with_thread S t Over) { end = Trapped trap }
+abbrev pub trapped_thread : State → ℕ → Trap → State
+trapped_thread S t trap = record (with_thread S t Over) { end = Trapped trap }
 
-abbrev pub is_over : Slot Waiting → Bool
-is_over (Kept w) = false
-is_over Lent = false
-is_over Over = true
+abbrev pub is_over_thread : Slot Waiting → Bool
+is_over_thread (Kept w) = false
+is_over_thread Lent = false
+is_over_thread Over = true
 
 abbrev pub all_over : List (Slot Waiting) → Bool
 all_over [] = true
-all_over (slot ∷ slots) = if is_over slot then all_over slots else false
+all_over (slot ∷ slots) = if is_over_thread slot then all_over slots else false
 
 -- a process ends with its last thread
-abbrev pub finished_if_over : State → State
-finished_if_over S = if all_over S.crew.threads then record S { end = Finished } else S
+abbrev pub finished_if_all_over : State → State
+finished_if_all_over S = if all_over S.crew.threads then record S { end = Finished } else S
 
 -- a valid module imports functions of the library alone and never sticks, so that these two cases don't come up
 abbrev pub stopped_at_call : State → ℕ → Thread → CallSite → Option Kind → State
 stopped_at_call S t thread site (Some kind) = with_thread S t (Kept (stands S thread site kind))
-stopped_at_call S t thread site None = trapped S t Unreachable
+stopped_at_call S t thread site None = trapped_thread S t Unreachable
 
-abbrev pub stopped : State → ℕ → Halt → State
-stopped S t (Calls thread site) = stopped_at_call S t thread site (kind_at S.store.«module» site.func)
-stopped S t Ends = finished_if_over (with_thread S t Over)
-stopped S t (Traps trap) = trapped S t trap
-stopped S t Sticks = trapped S t Unreachable
+abbrev pub stopped_thread : State → ℕ → Halt → State
+stopped_thread S t (Calls thread site) = stopped_at_call S t thread site (kind_at S.store.«module» site.func)
+stopped_thread S t Ends = finished_if_all_over (with_thread S t Over)
+stopped_thread S t (Traps trap) = trapped_thread S t trap
+stopped_thread S t Sticks = trapped_thread S t Unreachable
 
 abbrev pub process_after_burst : State → ℕ → BurstResult → State
-process_after_burst S t run = stopped (record S { store = run.store }) t run.stop
+process_after_burst S t run = stopped_thread (record S { store = run.store }) t run.stop
 
 -- ---- the whole
 
@@ -78,29 +78,29 @@ abbrev pub handler : List (Option ℕ) → ℕ → Option ℕ
 handler handlers signal = if signal == 0 then None else handler_of handlers signal
 
 -- where the thread's limits allow it
-abbrev pub if_in : Option Thread → Option Thread
-if_in None = None
-if_in (Some thread) = if is_in (Some thread) then Some thread else None
+abbrev pub if_within_limits : Option Thread → Option Thread
+if_within_limits None = None
+if_within_limits (Some thread) = if is_in (Some thread) then Some thread else None
 
 -- the thread, with the frame of a handler on top where there is one
 abbrev pub with_handler_frame : Module → Strand → ℕ → Option ℕ → Option Thread
 with_handler_frame m strand signal None = Some strand.thread
-with_handler_frame m strand signal (Some func) = if_in (handling m strand.thread func signal)
+with_handler_frame m strand signal (Some func) = if_within_limits (thread_in_handler m strand.thread func signal)
 
 abbrev pub after_running : State → ℕ → Option Thread → State
-after_running S t None = trapped S t Exhausted
-after_running S t (Some thread) = process_after_burst S t (burst budget thread S.store)
+after_running S t None = trapped_thread S t Exhausted
+after_running S t (Some thread) = process_after_burst S t (burst instruction_budget thread S.store)
 
 abbrev pub with_event_counted : State → ℕ → State
 with_event_counted S clock = record S { clock = clock; events = S.events + 1 }
 
 -- the reply's value goes on the operand stack, then a signal's handler is entered, then the thread runs
-abbrev pub runs_on : Kind → State → ℕ → Strand → ℕ → ℕ → ℕ → State
-runs_on kind S t strand reply signal clock =
+abbrev pub thread_runs_on : Kind → State → ℕ → Strand → ℕ → ℕ → ℕ → State
+thread_runs_on kind S t strand reply signal clock =
     if ends_process kind
     then with_event_counted S clock
-    else after_running (with_event_counted S clock) t (with_handler_frame S.store.«module» (answered strand (reply_value kind reply)) signal (handler S.handlers signal))
+    else after_running (with_event_counted S clock) t (with_handler_frame S.store.«module» (answered_strand strand (reply_value kind reply)) signal (handler S.handlers signal))
 
 -- and the event is over
-abbrev pub goes_on : Kind → State → ℕ → Strand → ℕ → ℕ → ℕ → State
-goes_on kind S t strand reply signal clock = awaits_event (runs_on kind S t strand reply signal clock)
+abbrev pub thread_goes_on : Kind → State → ℕ → Strand → ℕ → ℕ → ℕ → State
+thread_goes_on kind S t strand reply signal clock = awaits_event (thread_runs_on kind S t strand reply signal clock)

@@ -10,8 +10,8 @@ use Rattle.lib_calls.specs.Answer.{Answer}
 use Rattle.lib_calls.specs.Effects.{with_incoming, minus_two, outgoing_of, with_received}
 use Rattle.signal_points.specs.Signals.{most_signal}
 use Rattle.guest_process.specs.declared.waiting.Waiting.{Waiting}
-use Rattle.guest_process.specs.Answers.{Need, Fixed, Blocked, World, need, replies, is_due}
-use Rattle.guest_process.specs.GoesOn.{goes_on, handler}
+use Rattle.guest_process.specs.Answers.{Need, Fixed, Blocked, World, need, replies_with, is_due}
+use Rattle.guest_process.specs.GoesOn.{thread_goes_on, handler}
 use Rattle.guest_process.specs.Kinds.{ends_process}
 use Rattle.guest_process.specs.State.{State, is_running, thread_at, with_memory}
 
@@ -28,8 +28,8 @@ pub record Env : Type 0 where
 -- ---- what the world answers
 
 -- a thread that sleeps until then gets the wall time, where it is due
-abbrev pub waking_at : ℕ → ℕ → Option Answer
-waking_at until time = if is_due until time then Some (replies time) else None
+abbrev pub wall_time_at_waking : ℕ → ℕ → Option Answer
+wall_time_at_waking until time = if is_due until time then Some (replies_with time) else None
 
 -- the answer that takes these random bytes, as many as the call asks for
 abbrev pub random_answer : ℕ → List ℕ → Answer
@@ -51,11 +51,11 @@ taken_of count cap mailbox = option_map (cut_datagram cap) (option_map (read_dat
 -- the answer of the world to a call of this kind in a group of `count`, where it is given now; to `try_recv` it
 -- tells also that no datagram is there
 abbrev pub world_answer : Kind → Call → ℕ → Env → Option Answer
-world_answer Now c count env = Some (replies env.time)
-world_answer SleepUntil c count env = waking_at c.a0 env.time
+world_answer Now c count env = Some (replies_with env.time)
+world_answer SleepUntil c count env = wall_time_at_waking c.a0 env.time
 world_answer Random c count env = drawn_of c.a1 env.pool
 world_answer Recv c count env = taken_of count c.a1 env.mailbox
-world_answer TryRecv c count env = Some (unwrap_or (taken_of count c.a1 env.mailbox) (replies minus_two))
+world_answer TryRecv c count env = Some (unwrap_or (taken_of count c.a1 env.mailbox) (replies_with minus_two))
 world_answer _ c count env = None
 
 -- ---- the effects of an answer
@@ -69,43 +69,43 @@ with_given TryRecv S c a = if a.reply == minus_two then S else with_memory S (wi
 with_given _ S c a = S
 
 -- an answer, and the state with its effects
-pub record Answered : Type 0 where
+pub record AnsweredCall : Type 0 where
   pub answer : Answer
   pub after : State
 
-abbrev pub as_given : Kind → State → Call → Answer → Answered
+abbrev pub as_given : Kind → State → Call → Answer → AnsweredCall
 as_given kind S c a = record { answer = a; after = with_given kind S c a }
 
 -- what the world gives, where it gives it now
-abbrev pub from_world : Kind → State → Call → Env → Option Answered
+abbrev pub from_world : Kind → State → Call → Env → Option AnsweredCall
 from_world kind S c env = option_map (as_given kind S c) (world_answer kind c S.count env)
 
-abbrev pub answered_now : Need → Option Answered → Option Answered
-answered_now (Fixed reply S) world = Some (record { answer = replies reply; after = S })
+abbrev pub answered_now : Need → Option AnsweredCall → Option AnsweredCall
+answered_now (Fixed reply S) world = Some (record { answer = replies_with reply; after = S })
 answered_now Blocked world = None
 answered_now World world = world
 
 -- the least of n numbers from s on at which p holds, or 0
-unfoldable pub lowest : (ℕ → Bool) → ℕ → ℕ → ℕ
-lowest p zero s = 0
-lowest p (suc n) s = if p s then s else lowest p n (s + 1)
+unfoldable pub lowest_signal : (ℕ → Bool) → ℕ → ℕ → ℕ
+lowest_signal p zero s = 0
+lowest_signal p (suc n) s = if p s then s else lowest_signal p n (s + 1)
 
 -- a signal is pending and has one of these handlers
-abbrev pub is_ready : List (Option ℕ) → (ℕ → Bool) → ℕ → Bool
-is_ready handlers pending s = pending s && is_some (handler handlers s)
+abbrev pub is_ready_signal : List (Option ℕ) → (ℕ → Bool) → ℕ → Bool
+is_ready_signal handlers pending s = pending s && is_some (handler handlers s)
 
 -- the lowest signal that is ready, or 0; none is delivered where the process ends
 abbrev pub chosen_signal : Kind → List (Option ℕ) → (ℕ → Bool) → ℕ
-chosen_signal kind handlers pending = if ends_process kind then 0 else lowest (is_ready handlers pending) most_signal 1
+chosen_signal kind handlers pending = if ends_process kind then 0 else lowest_signal (is_ready_signal handlers pending) most_signal 1
 
 -- an event: the state after it, and its entry
 pub record Event : Type 0 where
   pub state : State
   pub entry : Entry
 
-abbrev pub event_by : State → ℕ → Waiting → Answered → ℕ → ℕ → Event
+abbrev pub event_by : State → ℕ → Waiting → AnsweredCall → ℕ → ℕ → Event
 event_by S t w a signal clock = record {
-  state = goes_on w.kind a.after t w.strand a.answer.reply signal clock;
+  state = thread_goes_on w.kind a.after t w.strand a.answer.reply signal clock;
   entry = record {
     clock = clock;
     thread = t;
@@ -118,7 +118,7 @@ event_by S t w a signal clock = record {
   };
 }
 
-abbrev pub event : State → ℕ → Env → Waiting → Answered → Event
+abbrev pub event : State → ℕ → Env → Waiting → AnsweredCall → Event
 event S t env w a = event_by S t w a (chosen_signal w.kind a.after.handlers env.pending) (next_clock_of S.clock a.answer.tag)
 
 abbrev pub event_of_waiting : State → ℕ → Env → Option Waiting → Option Event

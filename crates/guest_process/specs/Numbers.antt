@@ -17,7 +17,7 @@ use Rattle.guest_process.specs.State.{State}
 -- Its thread, its signal and its bytes are within the limits of the process, its clock follows that of the process. A tag
 -- is one that a process of the group can have sent, and stands with a datagram that was taken, whose bytes the reply
 -- counts.
-pub record HasNumbers (S : State) (e : Entry) : Type 0 where
+pub record HasLegalNumbers (S : State) (e : Entry) : Type 0 where
   pub thread : e.thread < most_threads
   pub signal : e.signal ≤ most_signal
   pub outgoing : length e.outgoing ≤ 60000
@@ -28,7 +28,7 @@ pub record HasNumbers (S : State) (e : Entry) : Type 0 where
   pub counted : IsTrue (is_taken e) → e.reply ≡ length e.incoming
 
 abbrev pub LegalNumbers : Type 0
-LegalNumbers = (S : State) (e : Entry) → StateFits S → reason S e ≡ None → HasNumbers S e
+LegalNumbers = (S : State) (e : Entry) → StateFits S → reason S e ≡ None → HasLegalNumbers S e
 
 -- the entry's call is of this kind, and its arguments are good in the memory of the process
 abbrev pub CallsWell : Kind → State → Entry → Type 0

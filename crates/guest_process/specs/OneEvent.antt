@@ -17,18 +17,18 @@ use Rattle.guest_process.specs.Fits.{StateFits, EnvFits}
 use Rattle.guest_process.specs.Legal.{reason}
 use Rattle.guest_process.specs.Live.{Env, Event, live}
 use Rattle.guest_process.specs.Next.{next}
-use Rattle.guest_process.specs.Sound.{IsSound}
+use Rattle.guest_process.specs.Sound.{IsSoundProcess}
 use Rattle.guest_process.specs.Start.{start}
 use Rattle.guest_process.specs.State.{State}
 
 -- the entry has the shape of its kind and is legal, and the state after it is the event's
-pub record Agrees (S : State) (e : Event) : Type 0 where
+pub record AgreesWithEvent (S : State) (e : Event) : Type 0 where
   pub shape : IsShaped e.entry
   pub legal : reason S e.entry ≡ None
   pub same : next S e.entry ≡ e.state
 
 abbrev pub OneEvent : Type 0
-OneEvent = (S : State) (t : ℕ) (env : Env) → StateFits S → S.events < 2 ^ 61 → EnvFits env → (e : Event) → live S t env ≡ Some e → Agrees S e
+OneEvent = (S : State) (t : ℕ) (env : Env) → StateFits S → S.events < 2 ^ 61 → EnvFits env → (e : Event) → live S t env ≡ Some e → AgreesWithEvent S e
 
 -- a datagram with this tag, or without one, and this payload
 abbrev pub datagram_as : Option Tag → List ℕ → List ℕ
@@ -36,32 +36,32 @@ datagram_as None payload = payload
 datagram_as (Some tag) payload = tag_bytes tag ++ payload
 
 -- it holds, but where this does
-abbrev pub Unless : Bool → Type 0 → Type 0
-Unless true P = Unit {0}
-Unless false P = P
+abbrev pub HoldsUnless : Bool → Type 0 → Type 0
+HoldsUnless true P = Unit {0}
+HoldsUnless false P = P
 
 -- the datagram of the answer comes first in the mailbox
 abbrev pub StandsFirst : Answer → List (List ℕ) → Type 0
 StandsFirst a mailbox = (later : List (List ℕ)) × (mailbox ≡ datagram_as a.tag a.incoming ∷ later)
 
 -- the datagram of the answer is there, or where the answer says so there is none
-abbrev pub IsThere : Bool → Answer → List (List ℕ) → Type 0
-IsThere true a mailbox = mailbox ≡ []
-IsThere false a mailbox = StandsFirst a mailbox
+abbrev pub IsThereToTake : Bool → Answer → List (List ℕ) → Type 0
+IsThereToTake true a mailbox = mailbox ≡ []
+IsThereToTake false a mailbox = StandsFirst a mailbox
 
 -- the world has what the answer to a call of this kind brings
-abbrev pub Brings : Option Kind → Answer → Env → Type 0
-Brings (Some Now) a env = env.time ≡ a.reply
-Brings (Some SleepUntil) a env = env.time ≡ a.reply
-Brings (Some Random) a env = Unless (a.reply == minus_one) (take (length a.incoming) env.pool ≡ a.incoming)
-Brings (Some Recv) a env = Unless (a.reply == minus_one) (StandsFirst a env.mailbox)
-Brings (Some TryRecv) a env = Unless (a.reply == minus_one) (IsThere (a.reply == minus_two) a env.mailbox)
-Brings _ a env = Unit {0}
+abbrev pub WorldBrings : Option Kind → Answer → Env → Type 0
+WorldBrings (Some Now) a env = env.time ≡ a.reply
+WorldBrings (Some SleepUntil) a env = env.time ≡ a.reply
+WorldBrings (Some Random) a env = HoldsUnless (a.reply == minus_one) (take (length a.incoming) env.pool ≡ a.incoming)
+WorldBrings (Some Recv) a env = HoldsUnless (a.reply == minus_one) (StandsFirst a env.mailbox)
+WorldBrings (Some TryRecv) a env = HoldsUnless (a.reply == minus_one) (IsThereToTake (a.reply == minus_two) a env.mailbox)
+WorldBrings _ a env = Unit {0}
 
 -- and of the signals only the one that is delivered is pending
-pub record Supplies (e : Entry) (env : Env) : Type 0 where
+pub record WorldSupplies (e : Entry) (env : Env) : Type 0 where
   pub alive : env.killed ≡ false
-  pub brings : Brings (kind_numbered e.call.kind) (answer_of e) env
+  pub brings : WorldBrings (kind_numbered e.call.kind) (answer_of e) env
   pub signals : (s : ℕ) → 1 ≤ s → s < 1 + most_signal → env.pending s ≡ (s == e.signal)
 
 -- the mailbox out of which an answer to a call of this kind takes what it tells
@@ -81,12 +81,12 @@ world_for e = record {
 
 -- it has what the entry brings, and is one that can be
 abbrev pub WorldIsThere : Type 0
-WorldIsThere = (e : Entry) → IsShaped e → EnvFits (world_for e) × Supplies e (world_for e)
+WorldIsThere = (e : Entry) → IsShaped e → EnvFits (world_for e) × WorldSupplies e (world_for e)
 
 -- a legal entry is the event of a try of its thread in each world that has what it brings
 abbrev pub Possible : Type 0
 Possible = (S : State) (e : Entry) → StateFits S → reason S e ≡ None
-    → (env : Env) → Supplies e env → live S e.thread env ≡ Some (record { state = next S e; entry = e })
+    → (env : Env) → WorldSupplies e env → live S e.thread env ≡ Some (record { state = next S e; entry = e })
 
 -- the clock rises to the entry's, also above that of the datagram that was taken; the event is counted;
 -- and the process keeps its number, its group and its module
@@ -104,12 +104,12 @@ Rises = (S : State) (e : Entry) → StateFits S → reason S e ≡ None → Rise
 
 -- how a process of a valid module begins has what holds of each state
 abbrev pub IsStarted : Type 0
-IsStarted = (m : Module) (who count : ℕ) (S : State) → IsValid m → who < count → count ≤ 16 → start m who count ≡ Some S → StateFits S × IsSound S
+IsStarted = (m : Module) (who count : ℕ) (S : State) → IsValid m → who < count → count ≤ 16 → start m who count ≡ Some S → StateFits S × IsSoundProcess S
 
 -- a legal event keeps what holds of each state
-abbrev pub IsKept : Type 0
-IsKept = (S : State) (e : Entry) → StateFits S → reason S e ≡ None → StateFits (next S e)
+abbrev pub IsKeptByEvents : Type 0
+IsKeptByEvents = (S : State) (e : Entry) → StateFits S → reason S e ≡ None → StateFits (next S e)
 
 -- and what its threads and handlers owe its module
 abbrev pub IsKeptSound : Type 0
-IsKeptSound = (S : State) (e : Entry) → IsSound S → reason S e ≡ None → IsSound (next S e)
+IsKeptSound = (S : State) (e : Entry) → IsSoundProcess S → reason S e ≡ None → IsSoundProcess (next S e)

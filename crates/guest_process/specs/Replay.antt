@@ -19,21 +19,21 @@ state_after S es n = replayed S (take n es)
 
 -- how far the replay of entries comes: how many are accepted, the longest prefix of which each is legal at the
 -- state where it comes, and why the one after them is not legal, where there is one
-pub record Reach : Type 0 where
+pub record ReplayReach : Type 0 where
   pub accepted : ℕ
   pub divergence : Option Divergence
 
 -- how far it comes with one more entry before them, which is legal or not
-abbrev pub reach_then : Option Divergence → Reach → Reach
-reach_then None rest = record rest { accepted = suc rest.accepted }
-reach_then (Some why) rest = record { accepted = 0; divergence = Some why }
+abbrev pub reach_with_entry : Option Divergence → ReplayReach → ReplayReach
+reach_with_entry None rest = record rest { accepted = suc rest.accepted }
+reach_with_entry (Some why) rest = record { accepted = 0; divergence = Some why }
 
-abbrev pub reach : State → List Entry → Reach
-reach S [] = record { accepted = 0; divergence = None }
-reach S (e ∷ es) = reach_then (reason S e) (reach (next S e) es)
+abbrev pub reach_of_entries : State → List Entry → ReplayReach
+reach_of_entries S [] = record { accepted = 0; divergence = None }
+reach_of_entries S (e ∷ es) = reach_with_entry (reason S e) (reach_of_entries (next S e) es)
 
 abbrev pub accepted : State → List Entry → ℕ
-accepted S es = (reach S es).accepted
+accepted S es = (reach_of_entries S es).accepted
 
 -- the state after the events of those that are accepted
 abbrev pub last_state : State → List Entry → State
@@ -45,9 +45,9 @@ left_over [] = Whole
 left_over (first ∷ rest) = Left (suc (length rest))
 
 -- the verdict on entries that are replayed so far, with these bytes after them
-abbrev pub verdict_of : Reach → List ℕ → Verdict
+abbrev pub verdict_of : ReplayReach → List ℕ → Verdict
 verdict_of reach rest = unwrap_or (option_map (Diverged (suc reach.accepted)) reach.divergence) (left_over rest)
 
 -- the verdict on the entries of a log and on what is left after them
 abbrev pub verdict : State → List Entry → List ℕ → Verdict
-verdict S es rest = verdict_of (reach S es) rest
+verdict S es rest = verdict_of (reach_of_entries S es) rest

@@ -2,16 +2,16 @@
 use Rattle.std.specs.Prelude.{◌≡◌, ℕ, ⊤, Bool, Option, Some, None, is_some, Result, Ok, Err, if◌then◌else◌}
 use Rattle.lib_calls.specs.Answer.{Answer}
 use Rattle.wasm_types.specs.Modules.{module_of}
-use Rattle.wasm_step.specs.Suits.{Suits}
+use Rattle.wasm_step.specs.Suits.{SuitsModule}
 use Rattle.guest_process.specs.declared.divergence.Divergence.{Divergence}
 use Rattle.guest_process.specs.declared.need.Need.{Need as PlainNeed}
 use Rattle.guest_process.specs.declared.need.Need.TheVariants as plainly
 use Rattle.guest_process.specs.declared.parts.Parts.{Parts}
 use Rattle.guest_process.specs.declared.waiting.Waiting.{Waiting}
-use Rattle.guest_process.specs.Answers.{Need, Fixed, Blocked, World, effects}
+use Rattle.guest_process.specs.Answers.{Need, Fixed, Blocked, World, effects_of_answer}
 use Rattle.guest_process.specs.Fits.{StateFits}
 use Rattle.guest_process.specs.GoesOn.{handler}
-use Rattle.guest_process.specs.Sound.{IsSound}
+use Rattle.guest_process.specs.Sound.{IsSoundProcess}
 use Rattle.guest_process.specs.State.{State, is_running, thread_at}
 
 abbrev pub state_of : Parts → State
@@ -29,15 +29,15 @@ state_of p = record {
 -- what holds of each process of a valid module
 pub record IsOfModule (p : Parts) : Type 0 where
   pub same_module : module_of p.«module».now ≡ p.store.«module»
-  pub suits : Suits p.store
+  pub suits : SuitsModule p.store
   pub fits : StateFits (state_of p)
-  pub sound : IsSound (state_of p)
+  pub sound : IsSoundProcess (state_of p)
 
 -- a need without the state that it makes
-abbrev pub plain : Need → PlainNeed
-plain (Fixed reply S) = plainly.Fixed reply
-plain Blocked = plainly.Blocked
-plain World = plainly.World
+abbrev pub plain_need : Need → PlainNeed
+plain_need (Fixed reply S) = plainly.Fixed reply
+plain_need Blocked = plainly.Blocked
+plain_need World = plainly.World
 
 -- the thread with this number, where it is live and the process runs
 abbrev pub able : State → ℕ → Option Waiting
@@ -46,7 +46,7 @@ able S t = if is_running S then thread_at S t else None
 -- the state after thread t's pending call got this answer, before it runs
 abbrev pub answered_at : State → ℕ → Answer → Option Waiting → State
 answered_at S t a None = S
-answered_at S t a (Some w) = effects w.kind S t w.call a
+answered_at S t a (Some w) = effects_of_answer w.kind S t w.call a
 
 -- a signal has a handler then
 abbrev pub handles_after : State → ℕ → Answer → ℕ → Bool

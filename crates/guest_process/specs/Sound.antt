@@ -16,13 +16,13 @@ abbrev pub StandsAtKind : Module → Waiting → Kind → Type 0
 StandsAtKind m w Begin = w.strand.call ≡ None
 StandsAtKind m w kind = (func : ℕ) × (w.strand.call ≡ Some func) × ((reply : ℕ) → IsResult (library_result m func) (reply_value kind reply))
 
-pub record IsStanding (m : Module) (w : Waiting) : Type 0 where
+pub record IsStandingAtCall (m : Module) (w : Waiting) : Type 0 where
   pub same_module : w.strand.«module» ≡ m
   pub stands : StandsAtKind m w w.kind
 
 -- the module imports functions of the library alone, each thread is one of the module, and so is each
 -- function that handles a signal
-pub record IsSound (S : State) : Type 0 where
+pub record IsSoundProcess (S : State) : Type 0 where
   pub imports : All (IsOfLibrary S.store.«module».types) S.store.«module».imports
-  pub threads : Each (IsStanding S.store.«module») S.crew.threads
+  pub threads : Each (IsStandingAtCall S.store.«module») S.crew.threads
   pub handlers : (signal func : ℕ) → handler S.handlers signal ≡ Some func → IsHandler S.store.«module» func

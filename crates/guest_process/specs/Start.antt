@@ -19,16 +19,16 @@ abbrev pub begin : Call
 begin = record { kind = (row Begin).number; a0 = 0; a1 = 0; a2 = 0 }
 
 -- a thread that waits at `begin`
-abbrev pub waits : Strand → Waiting
-waits strand = record { kind = Begin; call = begin; strand = strand }
+abbrev pub waits_at_begin : Strand → Waiting
+waits_at_begin strand = record { kind = Begin; call = begin; strand = strand }
 
 -- a thread of the module that stands there
 abbrev pub waiting_at : Module → Thread → Waiting
-waiting_at m thread = waits (record { «module» = m; thread = thread; call = None })
+waiting_at m thread = waits_at_begin (record { «module» = m; thread = thread; call = None })
 
 -- thread 0 is at `begin`, and nothing has happened
-abbrev pub begun : Module → ℕ → ℕ → Store → Thread → State
-begun m who count store thread = awaits_event (record {
+abbrev pub begun_process : Module → ℕ → ℕ → Store → Thread → State
+begun_process m who count store thread = awaits_event (record {
   who = who;
   count = count;
   store = store;
@@ -42,7 +42,7 @@ begun m who count store thread = awaits_event (record {
 abbrev pub begun_with : Module → ℕ → ℕ → Option Store → Option Thread → Option State
 begun_with m who count None thread = None
 begun_with m who count (Some store) None = None
-begun_with m who count (Some store) (Some thread) = Some (begun m who count store thread)
+begun_with m who count (Some store) (Some thread) = Some (begun_process m who count store thread)
 
 -- process `who` of a group of `count`, or nothing where a segment ends past its table or memory
 abbrev pub start : Module → ℕ → ℕ → Option State

@@ -6,11 +6,11 @@ ghost use Rattle.lib_calls.specs.Effects.{is_answer};
 ghost use Rattle.lib_calls.specs.Entry.{entry_of};
 ghost use Rattle.wasm_types.specs.Modules.{module_of};
 ghost use Rattle.wasm_step.specs.Burst.{burst};
-ghost use Rattle.wasm_step.specs.Suits.{Suits};
+ghost use Rattle.wasm_step.specs.Suits.{SuitsModule};
 ghost use Rattle.wasm_step.specs.Strand.{IsHandler};
-ghost use Rattle.guest_process.specs.Advancing.{acted_by, gone_on};
+ghost use Rattle.guest_process.specs.Advancing.{acted_by_entry, thread_gone_on};
 ghost use Rattle.guest_process.specs.Answers.{with_answer};
-ghost use Rattle.guest_process.specs.GoesOn.{process_after_burst, budget, handler as handler_of};
+ghost use Rattle.guest_process.specs.GoesOn.{process_after_burst, instruction_budget, handler as handler_of};
 ghost use Rattle.guest_process.specs.Legal.{reason};
 ghost use Rattle.guest_process.specs.Next.{next};
 ghost use Rattle.guest_process.specs.Seen.{IsOfModule, state_of};
@@ -35,7 +35,7 @@ impl<'m> Parts<'m> {
         requires few { self.old.events < 2 ^ 61 }
         ensures state { OnOk result (state_of self.new ≡ next (state_of self.old) (entry_of entry.now)) }
         ensures same_module { OnOk result (self.new.«module» ≡ self.old.«module») }
-        ensures suits { OnOk result (Suits self.new.store) }
+        ensures suits { OnOk result (SuitsModule self.new.store) }
     {
         self.make_event(entry)?;
         self.store.begin_event(self.events + 1);
@@ -49,7 +49,7 @@ impl<'m> Parts<'m> {
         requires few { self.old.events < 2 ^ 61 }
         ensures state { OnOk result (awaits_event (state_of self.new) ≡ next (state_of self.old) (entry_of entry.now)) }
         ensures same_module { OnOk result (self.new.«module» ≡ self.old.«module») }
-        ensures suits { OnOk result (Suits self.new.store) }
+        ensures suits { OnOk result (SuitsModule self.new.store) }
     {
         self.act(entry)?;
         let Some(waiting) = self.crew.take(entry.thread) else {
@@ -68,11 +68,11 @@ impl<'m> Parts<'m> {
     // Does what the answer does, but for the end of a thread that calls `exit`.
     fn act(&mut self, entry: &EntryView<'_>) -> Result<(), AllocError>
         requires same_module { module_of self.old.«module».now ≡ self.old.store.«module» }
-        requires suits { Suits self.old.store }
+        requires suits { SuitsModule self.old.store }
         requires answer { IsTrue (is_answer entry.now.call (answer_of (entry_of entry.now)) self.old.store.memory) }
-        ensures state { OnOk result (state_of self.new ≡ acted_by (state_of self.old) (entry_of entry.now)) }
+        ensures state { OnOk result (state_of self.new ≡ acted_by_entry (state_of self.old) (entry_of entry.now)) }
         ensures same_module { OnOk result (self.new.«module» ≡ self.old.«module») }
-        ensures suits { OnOk result (Suits self.new.store) }
+        ensures suits { OnOk result (SuitsModule self.new.store) }
     {
         let t = entry.thread;
         match self.pending_kind(t) {
@@ -102,11 +102,11 @@ impl<'m> Parts<'m> {
 
     // Writes what the answer does to the memory.
     fn write(&mut self, entry: &EntryView<'_>) -> Result<(), AllocError>
-        requires suits { Suits self.old.store }
+        requires suits { SuitsModule self.old.store }
         requires answer { IsTrue (is_answer entry.now.call (answer_of (entry_of entry.now)) self.old.store.memory) }
         ensures state { OnOk result (state_of self.new ≡ with_answer (state_of self.old) entry.now.call (answer_of (entry_of entry.now))) }
         ensures same_module { OnOk result (self.new.«module» ≡ self.old.«module») }
-        ensures suits { OnOk result (Suits self.new.store) }
+        ensures suits { OnOk result (SuitsModule self.new.store) }
     {
         write_back(entry, self.store.memory_mut())
     }
@@ -115,13 +115,13 @@ impl<'m> Parts<'m> {
     fn go_on(&mut self, waiting: Waiting<'m>, entry: &EntryView<'_>) -> Result<(), AllocError>
         requires taken { IsTaken self.old.crew entry.now.thread }
         requires same_module { module_of self.old.«module».now ≡ self.old.store.«module» }
-        requires suits { Suits self.old.store }
+        requires suits { SuitsModule self.old.store }
         requires same { waiting.strand.«module» ≡ self.old.store.«module» }
         requires stands { StandsAtKind waiting.strand.«module» waiting waiting.kind }
         requires handlers { (signal func : ℕ) → handler_of self.old.handlers signal ≡ Some func → IsHandler self.old.store.«module» func }
-        ensures state { OnOk result (state_of self.new ≡ gone_on (state_of self.old) waiting.entry (entry_of entry.now)) }
+        ensures state { OnOk result (state_of self.new ≡ thread_gone_on (state_of self.old) waiting.entry (entry_of entry.now)) }
         ensures same_module { OnOk result (self.new.«module» ≡ self.old.«module») }
-        ensures suits { OnOk result (Suits self.new.store) }
+        ensures suits { OnOk result (SuitsModule self.new.store) }
     {
         let strand = answered(waiting, entry.reply)?;
         let func = handler(&self.handlers, entry.signal);
@@ -133,16 +133,16 @@ impl<'m> Parts<'m> {
     }
 
     // A thread that was taken out runs.
-    #[tactic(auto, unfolding(crate::specs::GoesOn::budget))]
+    #[tactic(auto, unfolding(crate::specs::GoesOn::instruction_budget))]
     fn run(&mut self, thread: u16, strand: Strand<'m>) -> Result<(), AllocError>
         requires taken { IsTaken self.old.crew thread }
         requires same_module { module_of self.old.«module».now ≡ self.old.store.«module» }
-        requires suits { Suits self.old.store }
+        requires suits { SuitsModule self.old.store }
         requires same { strand.«module» ≡ self.old.store.«module» }
         requires runs { strand.call ≡ None }
-        ensures state { OnOk result (state_of self.new ≡ process_after_burst (state_of self.old) thread (burst budget strand.entry.thread self.old.store)) }
+        ensures state { OnOk result (state_of self.new ≡ process_after_burst (state_of self.old) thread (burst instruction_budget strand.entry.thread self.old.store)) }
         ensures same_module { OnOk result (self.new.«module» ≡ self.old.«module») }
-        ensures suits { OnOk result (Suits self.new.store) }
+        ensures suits { OnOk result (SuitsModule self.new.store) }
     {
         let pause = strand.run(&mut self.store)?;
         self.stop(thread, pause);

@@ -1,6 +1,6 @@
 // How a thread goes on after the answer to its call.
 ghost use Rattle.std.specs.Prelude.{◌≡◌, IfOk, IfSome, None, Some, option_map};
-ghost use Rattle.wasm_step.specs.Strand.{answered, IsHandler};
+ghost use Rattle.wasm_step.specs.Strand.{answered_strand, IsHandler};
 ghost use Rattle.guest_process.specs.GoesOn.{handler as handler_of, with_handler_frame};
 ghost use Rattle.guest_process.specs.Answers.{is_due};
 ghost use Rattle.guest_process.specs.Kinds.{reply_value};
@@ -35,7 +35,7 @@ pub fn is_due(until: u64, time: u64) -> bool
 #[tactic(auto, using(crate::proofs::AnsweredCalls::is_answer))]
 pub(crate) fn answered(waiting: Waiting<'_>, reply: u64) -> Result<Strand<'_>, AllocError>
     requires { StandsAtKind waiting.strand.«module» waiting waiting.kind }
-    ensures { IfOk result (λ s. s ≡ answered waiting.entry.strand (reply_value waiting.entry.kind reply)) }
+    ensures { IfOk result (λ s. s ≡ answered_strand waiting.entry.strand (reply_value waiting.entry.kind reply)) }
 {
     match waiting.kind {
         Kind::Begin => Ok(waiting.strand),

@@ -2,7 +2,7 @@
 ghost use Rattle.std.specs.Prelude.{◌≡◌, IfSome, IsTrue};
 ghost use Rattle.signal_points.specs.Signals.{is_signal};
 ghost use Rattle.guest_process.specs.Answers.{after_need, handled, handler_given, handler_named};
-ghost use Rattle.guest_process.specs.Seen.{plain, state_of};
+ghost use Rattle.guest_process.specs.Seen.{plain_need, state_of};
 
 use crate::need::Need;
 use crate::parts::Parts;
@@ -15,7 +15,7 @@ const REMOVAL: u32 = 0xFFFF_FFFF;
 impl<'m> Parts<'m> {
     /// The reply to a call that gives the signal the handler of this number.
     pub(crate) fn handled(&self, signal: u32, number: u32) -> Need
-        ensures { result ≡ plain (handled (state_of self.now) signal number) }
+        ensures { result ≡ plain_need (handled (state_of self.now) signal number) }
     {
         match self.handler_given(signal, number) {
             Some(_) => Need::Fixed(0),

@@ -2,10 +2,10 @@
 ghost use Rattle.std.specs.Prelude.{◌≡◌, ℕ};
 ghost use Rattle.lib_calls.specs.Answer.{Answer, answer_of};
 ghost use Rattle.lib_calls.specs.Entry.{entry_of};
-ghost use Rattle.guest_process.specs.Answers.{need_of_world, effects, is_possible, need, replied};
+ghost use Rattle.guest_process.specs.Answers.{need_of_world, effects_of_answer, is_possible, need, replied};
 ghost use Rattle.guest_process.specs.Kinds.{ends_process};
-ghost use Rattle.guest_process.specs.Legal.{checks, first_failing, is_handled, same_arguments};
-ghost use Rattle.guest_process.specs.Seen.{plain, refused_for, state_of};
+ghost use Rattle.guest_process.specs.Legal.{entry_checks, first_failing, is_handled, same_arguments};
+ghost use Rattle.guest_process.specs.Seen.{plain_need, refused_for, state_of};
 
 use crate::answer::{handler, is_due};
 use crate::divergence::Divergence;
@@ -21,7 +21,7 @@ use signal_points::{Handlers, MOST_SIGNAL};
 impl<'m> Parts<'m> {
     /// What the answer to the thread's pending call depends on.
     pub(crate) fn need(&self, thread: u16, waiting: &Waiting<'m>) -> Need
-        ensures { result ≡ plain (need waiting.now.kind (state_of self.now) thread waiting.now.call) }
+        ensures { result ≡ plain_need (need waiting.now.kind (state_of self.now) thread waiting.now.call) }
     {
         match waiting.kind {
             Kind::Begin | Kind::Exit | Kind::Note | Kind::Yield => Need::Fixed(0),
@@ -41,7 +41,7 @@ impl<'m> Parts<'m> {
 
     // The reply to a call that the process answers so where its arguments are good.
     fn replied(&self, call: &Call, reply: u64) -> Need
-        ensures { result ≡ plain (replied (state_of self.now) call.now reply) }
+        ensures { result ≡ plain_need (replied (state_of self.now) call.now reply) }
     {
         if good_arguments(call, self.store.memory()) {
             Need::Fixed(reply)
@@ -52,7 +52,7 @@ impl<'m> Parts<'m> {
 
     // What the answer depends on to a call that the world answers where its arguments are good.
     fn asked(&self, call: &Call) -> Need
-        ensures { result ≡ plain (need_of_world (state_of self.now) call.now) }
+        ensures { result ≡ plain_need (need_of_world (state_of self.now) call.now) }
     {
         if good_arguments(call, self.store.memory()) {
             Need::World
@@ -67,7 +67,7 @@ impl<'m> Parts<'m> {
         entry: &EntryView<'_>,
         waiting: &Waiting<'m>,
     ) -> Result<(), Divergence>
-        ensures { refused_for result ≡ first_failing (checks (state_of self.now) (entry_of entry.now) waiting.now) }
+        ensures { refused_for result ≡ first_failing (entry_checks (state_of self.now) (entry_of entry.now) waiting.now) }
     {
         if entry.call.kind != waiting.call.kind {
             return Err(Divergence::OtherCall);
@@ -93,7 +93,7 @@ impl<'m> Parts<'m> {
     // Whether some environment gives the answer.
     #[tactic(auto, using(crate::proofs::JudgeTests::fixed, crate::proofs::JudgeTests::blocked, crate::proofs::JudgeTests::world))]
     fn is_answer(&self, entry: &EntryView<'_>, waiting: &Waiting<'m>) -> bool
-        ensures { result ≡ (checks (state_of self.now) (entry_of entry.now) waiting.now).reply }
+        ensures { result ≡ (entry_checks (state_of self.now) (entry_of entry.now) waiting.now).reply }
     {
         match self.need(entry.thread, waiting) {
             Need::Fixed(reply) => entry.reply == reply && brings_nothing(entry),
@@ -119,7 +119,7 @@ impl<'m> Parts<'m> {
     /// The handlers once a pending call was answered, however it is.
     #[tactic(auto, using(crate::proofs::HandlerCalls::same_handlers, crate::proofs::HandlerCalls::given_handlers))]
     pub(crate) fn handlers_after(&self, waiting: &Waiting<'m>) -> Handlers
-        ensures { (t : ℕ) (a : Answer) → result ≡ (effects waiting.now.kind (state_of self.now) t waiting.now.call a).handlers }
+        ensures { (t : ℕ) (a : Answer) → result ≡ (effects_of_answer waiting.now.kind (state_of self.now) t waiting.now.call a).handlers }
     {
         match waiting.kind {
             Kind::OnSignal => self.handlers_with(narrow(waiting.call.a0), narrow(waiting.call.a1)),
@@ -129,7 +129,7 @@ impl<'m> Parts<'m> {
 
     // Whether the signal can be delivered after the answer.
     fn is_handled(&self, entry: &EntryView<'_>, waiting: &Waiting<'m>) -> bool
-        ensures { result ≡ (checks (state_of self.now) (entry_of entry.now) waiting.now).handler }
+        ensures { result ≡ (entry_checks (state_of self.now) (entry_of entry.now) waiting.now).handler }
     {
         // At nearly all events there is none, and the handlers need not be put together.
         entry.signal == 0 || is_handled(waiting.kind, &self.handlers_after(waiting), entry.signal)

@@ -3,7 +3,7 @@ ghost use Rattle.guest_process.specs.Crews.{LockKept, OnlySpawnAdds, OtherThread
 ghost use Rattle.guest_process.specs.EventCount.{BeginsFresh, CountsEvents};
 ghost use Rattle.guest_process.specs.Marks.{UnmarkedStays};
 ghost use Rattle.guest_process.specs.Numbers.{LegalNumbers, LegalTraffic};
-ghost use Rattle.guest_process.specs.OneEvent.{IsKept, IsKeptSound, IsStarted, OneEvent, Possible, Rises, WorldIsThere};
+ghost use Rattle.guest_process.specs.OneEvent.{IsKeptByEvents, IsKeptSound, IsStarted, OneEvent, Possible, Rises, WorldIsThere};
 
 /// An event that the world let a process have has the shape of its kind and is legal where it comes,
 /// and the state after it is the one that its entry alone tells.
@@ -64,7 +64,7 @@ pub fn lock_kept()
 /// its threads and handlers are the module's. A legal event keeps both.
 pub fn states_fit()
     ensures started { IsStarted }
-    ensures ranges { IsKept }
+    ensures ranges { IsKeptByEvents }
     ensures sound { IsKeptSound }
 {
     wasm_step::laws::never_stuck();

@@ -4,8 +4,8 @@ ghost use Rattle.coop_threads.specs.Crew.{IsTaken};
 ghost use Rattle.wasm_types.specs.Modules.{module_of};
 ghost use Rattle.wasm_step.specs.Pause.{StandsAt, pause_halt};
 ghost use Rattle.wasm_step.specs.After.{Ends};
-ghost use Rattle.guest_process.specs.Answers.{exited};
-ghost use Rattle.guest_process.specs.GoesOn.{all_over, stopped, trapped};
+ghost use Rattle.guest_process.specs.Answers.{exited_process};
+ghost use Rattle.guest_process.specs.GoesOn.{all_over, stopped_thread, trapped_thread};
 ghost use Rattle.guest_process.specs.Seen.{state_of};
 ghost use Rattle.guest_process.specs.State.{is_running};
 
@@ -46,7 +46,7 @@ impl<'m> Parts<'m> {
     /// A thread that was taken out traps.
     pub(crate) fn trap(&mut self, thread: u16, trap: Trap)
         requires { IsTaken self.old.crew thread }
-        ensures state { state_of self.new ≡ trapped (state_of self.old) thread trap }
+        ensures state { state_of self.new ≡ trapped_thread (state_of self.old) thread trap }
         ensures same_module { self.new.«module» ≡ self.old.«module» }
         ensures store { self.new.store ≡ self.old.store }
     {
@@ -59,7 +59,7 @@ impl<'m> Parts<'m> {
         requires taken { IsTaken self.old.crew thread }
         requires same_module { module_of self.old.«module».now ≡ self.old.store.«module» }
         requires stands { StandsAt self.old.store.«module» pause }
-        ensures state { state_of self.new ≡ stopped (state_of self.old) thread (pause_halt pause.entry) }
+        ensures state { state_of self.new ≡ stopped_thread (state_of self.old) thread (pause_halt pause.entry) }
         ensures same_module { self.new.«module» ≡ self.old.«module» }
         ensures store { self.new.store ≡ self.old.store }
     {
@@ -79,7 +79,7 @@ impl<'m> Parts<'m> {
     /// A thread that was taken out has called `exit` with this code.
     pub(crate) fn exit(&mut self, thread: u16, code: u64)
         requires { IsTaken self.old.crew thread }
-        ensures state { state_of self.new ≡ exited (state_of self.old) thread code }
+        ensures state { state_of self.new ≡ exited_process (state_of self.old) thread code }
         ensures same_module { self.new.«module» ≡ self.old.«module» }
         ensures store { self.new.store ≡ self.old.store }
     {
@@ -108,7 +108,7 @@ impl<'m> Parts<'m> {
 
     fn finish(&mut self, thread: u16)
         requires { IsTaken self.old.crew thread }
-        ensures state { state_of self.new ≡ stopped (state_of self.old) thread Ends }
+        ensures state { state_of self.new ≡ stopped_thread (state_of self.old) thread Ends }
         ensures same_module { self.new.«module» ≡ self.old.«module» }
         ensures store { self.new.store ≡ self.old.store }
     {

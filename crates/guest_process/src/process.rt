@@ -5,14 +5,14 @@ ghost use Rattle.guest_memory.specs.Memory.{stamp_of};
 ghost use Rattle.lib_calls.specs.Answer.{Answer};
 ghost use Rattle.lib_calls.specs.Entry.{entry_of};
 ghost use Rattle.wasm_types.specs.Modules.{module_of};
-ghost use Rattle.wasm_step.specs.Suits.{Suits};
+ghost use Rattle.wasm_step.specs.Suits.{SuitsModule};
 ghost use Rattle.wasm_step.specs.Start.{first_store};
 ghost use Rattle.wasm_step.specs.Store.{global_stamp_of};
 ghost use Rattle.guest_process.specs.Answers.{need};
 ghost use Rattle.guest_process.specs.Fits.{StateFits};
 ghost use Rattle.guest_process.specs.Legal.{reason};
 ghost use Rattle.guest_process.specs.Next.{next};
-ghost use Rattle.guest_process.specs.Seen.{able, handles_after, plain, refused_for};
+ghost use Rattle.guest_process.specs.Seen.{able, handles_after, plain_need, refused_for};
 ghost use Rattle.guest_process.specs.Start.{start};
 
 use crate::answer::handler;
@@ -99,7 +99,7 @@ impl<'m> Process<'m> {
     /// What the answer to the pending call of a thread depends on. `None` comes exactly where the
     /// process is not running or the thread is not live.
     pub fn need(&self, thread: u16) -> Option<Need>
-        ensures { result ≡ option_map (λ w. plain (need w.kind self.now thread w.call)) (able self.now thread) }
+        ensures { result ≡ option_map (λ w. plain_need (need w.kind self.now thread w.call)) (able self.now thread) }
     {
         match self.able(thread) {
             Some(waiting) => Some(self.parts.need(thread, waiting)),
@@ -244,7 +244,7 @@ fn begin<'m>(
     requires who { who < count }
     requires count { count ≤ 16 }
     requires store { first_store (module_of «module».now) ≡ Some store }
-    requires suits { Suits store }
+    requires suits { SuitsModule store }
     ensures { IfOk result (λ p. start (module_of «module».now) who count ≡ Some p) }
 {
     // Its laws tell the proof that no page bears an event's number.

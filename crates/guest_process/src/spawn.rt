@@ -3,8 +3,8 @@ ghost use Rattle.std.specs.Prelude.{◌≡◌, ◌<◌, OnOk, Some, length, ℕ}
 ghost use Rattle.coop_threads.specs.Crew.{most_threads};
 ghost use Rattle.wasm_types.specs.Modules.{module_of};
 ghost use Rattle.wasm_step.specs.Strand.{IsHandler};
-ghost use Rattle.guest_process.specs.Answers.{after_need, spawnable, spawned, spawned_at};
-ghost use Rattle.guest_process.specs.Seen.{plain, state_of};
+ghost use Rattle.guest_process.specs.Answers.{after_need, spawnable, spawned, spawned_at_index};
+ghost use Rattle.guest_process.specs.Seen.{plain_need, state_of};
 
 use crate::need::Need;
 use crate::parts::Parts;
@@ -18,7 +18,7 @@ impl<'m> Parts<'m> {
     /// The reply where a thread is to begin with the function of this table index.
     #[tactic(auto, using(crate::proofs::MadeThreads::spawned_reply, crate::proofs::MadeThreads::not_spawned))]
     pub(crate) fn spawned(&self, index: u32) -> Need
-        ensures { (arg : ℕ) → result ≡ plain (spawned (state_of self.now) index arg) }
+        ensures { (arg : ℕ) → result ≡ plain_need (spawned (state_of self.now) index arg) }
     {
         match self.spawnable(index) {
             Some(_) => Need::Fixed(u64::from(self.crew.made())),
@@ -58,7 +58,7 @@ impl<'m> Parts<'m> {
         requires room { length self.old.crew.threads < most_threads }
         requires same_module { module_of self.old.«module».now ≡ self.old.store.«module» }
         requires handler { IsHandler (module_of self.old.«module».now) func }
-        ensures state { OnOk result (state_of self.new ≡ after_need (spawned_at (state_of self.old) arg (Some func)) (state_of self.old)) }
+        ensures state { OnOk result (state_of self.new ≡ after_need (spawned_at_index (state_of self.old) arg (Some func)) (state_of self.old)) }
         ensures same_module { OnOk result (self.new.«module» ≡ self.old.«module») }
         ensures store { OnOk result (self.new.store ≡ self.old.store) }
     {

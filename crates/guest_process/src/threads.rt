@@ -2,7 +2,7 @@
 ghost use Rattle.std.specs.Prelude.{◌≡◌, OnOk, slice_get};
 ghost use Rattle.coop_threads.specs.Crew.{status_of};
 ghost use Rattle.guest_process.specs.Answers.{after_need, joined, locked, narrow, unlocked};
-ghost use Rattle.guest_process.specs.Seen.{plain, state_of};
+ghost use Rattle.guest_process.specs.Seen.{plain_need, state_of};
 
 use crate::need::Need;
 use crate::parts::Parts;
@@ -20,7 +20,7 @@ pub(crate) fn narrow(bits: u64) -> u32
 impl<'m> Parts<'m> {
     /// What the answer depends on where the thread joins the one with this number.
     pub(crate) fn joined(&self, thread: u16, number: u32) -> Need
-        ensures { result ≡ plain (joined (state_of self.now) thread number) }
+        ensures { result ≡ plain_need (joined (state_of self.now) thread number) }
     {
         if number == u32::from(thread) {
             return Need::Fixed(REFUSED);
@@ -46,7 +46,7 @@ impl<'m> Parts<'m> {
 
     /// What the answer depends on where the thread asks for the lock m.
     pub(crate) fn locked(&self, m: u32, thread: u16) -> Need
-        ensures { result ≡ plain (locked (state_of self.now) m thread) }
+        ensures { result ≡ plain_need (locked (state_of self.now) m thread) }
     {
         match self.crew.holder(m) {
             None => Need::Fixed(0),
@@ -57,7 +57,7 @@ impl<'m> Parts<'m> {
 
     /// The reply where the thread gives the lock m back.
     pub(crate) fn unlocked(&self, m: u32, thread: u16) -> Need
-        ensures { result ≡ plain (unlocked (state_of self.now) m thread) }
+        ensures { result ≡ plain_need (unlocked (state_of self.now) m thread) }
     {
         match self.crew.holder(m) {
             Some(holder) if holder == thread => Need::Fixed(0),

@@ -1,6 +1,6 @@
 // A thread at its pending call.
 ghost use Rattle.std.specs.Prelude.{◌≡◌};
-ghost use Rattle.guest_process.specs.Start.{waits};
+ghost use Rattle.guest_process.specs.Start.{waits_at_begin};
 
 use coop_threads::CopyOut;
 use lib_calls::{Call, Kind};
@@ -17,7 +17,7 @@ pub(crate) struct Waiting<'m> {
 
 /// A thread that is at `begin`.
 pub(crate) fn beginning(strand: Strand<'_>) -> Waiting<'_>
-    ensures { result ≡ waits strand.entry }
+    ensures { result ≡ waits_at_begin strand.entry }
 {
     let kind = Kind::Begin;
     let call = Call {

@@ -2,24 +2,24 @@
 use Rattle.std.proofs.Common.{◌⊎◌, ◌∙◌, ◌<◌, ℕ, List, [], ◌∷◌, Some, ap, append-nil, inl, inr, refl, sym}
 use Rattle.std.specs.List.{AllByRecursion}
 use Rattle.fri_outside.specs.Outside.{Folder}
-use Rattle.group_record.specs.Run.{IsMoment, Step, log_of, size}
-use Rattle.record_command.specs.Agreement.{IsAtMoment, IsInHeads, IsRecordable, LeavesCut, MayFollow, Nothing, group_in, steps_in}
+use Rattle.group_record.specs.Run.{IsMoment, RunStep, log_of, processes_in_group}
+use Rattle.record_command.specs.Agreement.{IsAtMomentOfRun, IsStoppedInHeads, IsRecordable, LeavesCut, MayFollowLog, Nothing, group_in, steps_in}
 use Rattle.record_command.specs.Laws.{RecordingsStand}
 use Rattle.headline.specs.Headline.{HasFiles, Headline, HoldsProcess, LeftIsShown, ShowsMoment, ShowsSteps}
 use Rattle.headline.specs.Shown.{no_cut}
 
 -- a folder that has these files holds the processes
-holds : {before : Folder} {name : List ℕ} (r : IsRecordable before name) (steps : List Step) (cut : ℕ → List ℕ) (after folder : Folder)
-    → ((p : ℕ) → p < size (group_in r) → MayFollow (group_in r) (steps_in r) steps p (cut p)) → LeavesCut (group_in r) steps cut after
-    → (ps : List ℕ) → AllByRecursion (λ p. p < size (group_in r)) ps → AllByRecursion (HasFiles r after folder) ps → AllByRecursion (HoldsProcess r steps cut folder) ps
+holds : {before : Folder} {name : List ℕ} (r : IsRecordable before name) (steps : List RunStep) (cut : ℕ → List ℕ) (after folder : Folder)
+    → ((p : ℕ) → p < processes_in_group (group_in r) → MayFollowLog (group_in r) (steps_in r) steps p (cut p)) → LeavesCut (group_in r) steps cut after
+    → (ps : List ℕ) → AllByRecursion (λ p. p < processes_in_group (group_in r)) ps → AllByRecursion (HasFiles r after folder) ps → AllByRecursion (HoldsProcess r steps cut folder) ps
 holds r steps cut after folder follows left [] below has = tt
 holds r steps cut after folder follows left (p ∷ ps) below has = (
   record { «module» = has.0.«module»; log = has.0.log ∙ left p below.0; front = follows p below.0 },
   holds r steps cut after folder follows left ps below.1 has.1,
 )
 
-shows_steps : Headline → {before : Folder} {name : List ℕ} (r : IsRecordable before name) (steps : List Step) → IsMoment steps (steps_in r) → (cut : ℕ → List ℕ) (after : Folder)
-    → ((p : ℕ) → p < size (group_in r) → MayFollow (group_in r) (steps_in r) steps p (cut p)) → LeavesCut (group_in r) steps cut after → ShowsSteps r steps cut after
+shows_steps : Headline → {before : Folder} {name : List ℕ} (r : IsRecordable before name) (steps : List RunStep) → IsMoment steps (steps_in r) → (cut : ℕ → List ℕ) (after : Folder)
+    → ((p : ℕ) → p < processes_in_group (group_in r) → MayFollowLog (group_in r) (steps_in r) steps p (cut p)) → LeavesCut (group_in r) steps cut after → ShowsSteps r steps cut after
 shows_steps law {before} {name} r steps moment cut after follows left folder ps are has =
     law before folder name r steps moment cut ps are (holds r steps cut after folder follows left ps are.within has)
 
@@ -30,6 +30,6 @@ left_is_shown_so law stand images name answer before after whole moment r = reco
       (λ p below. (whole answers r).0 p below ∙ ap (λ (bytes : List ℕ). Some bytes) (sym (append-nil (log_of (group_in r) (steps_in r) p))));
   stopped = by_place (stand images name before after r (moment r).0);
 } where
-  by_place : IsInHeads (group_in r) before after ⊎ IsAtMoment (group_in r) (steps_in r) after → IsInHeads (group_in r) before after ⊎ ShowsMoment r after
+  by_place : IsStoppedInHeads (group_in r) before after ⊎ IsAtMomentOfRun (group_in r) (steps_in r) after → IsStoppedInHeads (group_in r) before after ⊎ ShowsMoment r after
   by_place (inl heads) = inl heads
   by_place (inr at) = inr (record { at = at; shown = shows_steps law r at.steps at.is_moment at.cut after at.may_follow at.logs })

@@ -20,7 +20,7 @@ use Rattle.command_run.specs.Inputs.{module_in, state_or_bad_segment}
 use Rattle.command_run.specs.Laws.{ReadsModules}
 use Rattle.command_run.specs.Outcome.{CommandStop, and_then}
 use Rattle.log_files.specs.Logs.{log_in, log_or_bad_head}
-use Rattle.log_pairs.specs.Pairs.{Loaded, Pair, clash, has_name, has_process, is_other_group, loaded_pair, loaded_pairs, replay_of_log, replays_of, unless_clash}
+use Rattle.log_pairs.specs.Pairs.{Loaded, Pair, clash_of_logs, has_name, has_process, is_other_group, loaded_pair, loaded_pairs, replay_of_log, replays_of, unless_clash}
 use Rattle.log_pairs.specs.Valid.{GoTogether}
 
 -- ---- a log that clashes with none before it
@@ -54,7 +54,7 @@ no_name (l ∷ ls) h all =
 abbrev first_reason : Bool → Bool → Bool → Option Reason
 first_reason group process name = cond group (Some reason.OtherGroup) (cond process (Some reason.SameProcess) (cond name (Some reason.SameName) None))
 
-clashes_not : (ls : List Loaded) (h : Head) → GoWith ls h → clash ls h ≡ None
+clashes_not : (ls : List Loaded) (h : Head) → GoWith ls h → clash_of_logs ls h ≡ None
 clashes_not ls h all =
     ap (λ (b : Bool). first_reason b (has_process ls h.process) (has_name ls h.name)) (same_group ls h all)
     ∙ ap (λ (b : Bool). first_reason false b (has_name ls h.name)) (no_process ls h all)
@@ -75,9 +75,9 @@ loaded_of {pair = pair} {r = r} s = record { module_name = pair.module_name; «m
 loads : (folder : Folder) (earlier : List Loaded) (pair : Pair) (r : Replaying) → (s : PairStands folder pair r) → GoWith earlier r.head → loaded_pair folder earlier pair ≡ Ok (loaded_of s)
 loads folder earlier pair r s goes =
     ap (λ (m : Result Module CommandStop). and_then m (λ m. and_then (log_in folder pair.log_name) (λ log.
-    unless_clash pair.log_name (record { module_name = pair.module_name; «module» = m; head = log.0; left = log.1 }) (clash earlier log.0)))) s.reads
+    unless_clash pair.log_name (record { module_name = pair.module_name; «module» = m; head = log.0; left = log.1 }) (clash_of_logs earlier log.0)))) s.reads
     ∙ ap (λ (log : Result (Head × Unread) CommandStop). and_then log (λ log.
-    unless_clash pair.log_name (record { module_name = pair.module_name; «module» = s.«module»; head = log.0; left = log.1 }) (clash earlier log.0))) s.log
+    unless_clash pair.log_name (record { module_name = pair.module_name; «module» = s.«module»; head = log.0; left = log.1 }) (clash_of_logs earlier log.0))) s.log
     ∙ ap (unless_clash pair.log_name (loaded_of s)) (clashes_not earlier r.head goes)
 
 begins : (folder : Folder) (pair : Pair) (r : Replaying) → (s : PairStands folder pair r) → replay_of_log (loaded_of s) ≡ Ok r

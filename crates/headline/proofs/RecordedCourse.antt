@@ -5,7 +5,7 @@ use Rattle.std.proofs.lemmas.Option.{same_Some}
 use Rattle.lib_calls.specs.declared.entry.Entry.{Entry}
 use Rattle.group_world.specs.History.{Act, put_last_if}
 use Rattle.group_world.specs.History as world
-use Rattle.group_record.specs.Run.{GroupStart, Had, Did, Step, entries, process_states}
+use Rattle.group_record.specs.Run.{GroupStart, Had, Did, RunStep, entries_of_steps, process_states}
 use Rattle.group_record.specs.Standing.{IsRun}
 
 -- ---- lists that grow at their end
@@ -31,9 +31,9 @@ put_both : {A B : Type 0} (b : Bool) (xs : List A) (ys : List B) (x : A) (y : B)
 put_both true xs ys x y same = omega (arith, same, length-append xs (x ∷ []), length-append ys (y ∷ []))
 put_both false xs ys x y same = same
 
-pub states_count : (group : GroupStart) (steps : List Step) (p : ℕ) → IsRun group steps → length (process_states steps p) ≡ length (entries steps p)
+pub states_count : (group : GroupStart) (steps : List RunStep) (p : ℕ) → IsRun group steps → length (process_states steps p) ≡ length (entries_of_steps steps p)
 states_count group [] p run = refl
-states_count group (Had q e ∷ steps) p run = put_both (q == p) (process_states steps p) (entries steps p) e.state e.entry (states_count group steps p run.1)
+states_count group (Had q e ∷ steps) p run = put_both (q == p) (process_states steps p) (entries_of_steps steps p) e.state e.entry (states_count group steps p run.1)
 states_count group (Did (world.Event q e) ∷ steps) p run = absurd run.0
 states_count group (Did (world.Deliver q n) ∷ steps) p run = states_count group steps p run.1
 states_count group (Did (world.Inject q bytes) ∷ steps) p run = states_count group steps p run.1
@@ -48,10 +48,10 @@ put_keeps : {A : Type 0} (b : Bool) (xs : List A) (x y : A) (k : ℕ) → slice_
 put_keeps true xs x y k at = before_last xs x y k at
 put_keeps false xs x y k at = at
 
-pub entries_stay : (later early : List Step) (p k : ℕ) (e : Entry) → slice_get (entries early p) k ≡ Some e → slice_get (entries (later ++ early) p) k ≡ Some e
+pub entries_stay : (later early : List RunStep) (p k : ℕ) (e : Entry) → slice_get (entries_of_steps early p) k ≡ Some e → slice_get (entries_of_steps (later ++ early) p) k ≡ Some e
 entries_stay [] early p k e at = at
-entries_stay (Had q x ∷ later) early p k e at = put_keeps (q == p) (entries (later ++ early) p) x.entry e k (entries_stay later early p k e at)
-entries_stay (Did (world.Event q x) ∷ later) early p k e at = put_keeps (q == p) (entries (later ++ early) p) x e k (entries_stay later early p k e at)
+entries_stay (Had q x ∷ later) early p k e at = put_keeps (q == p) (entries_of_steps (later ++ early) p) x.entry e k (entries_stay later early p k e at)
+entries_stay (Did (world.Event q x) ∷ later) early p k e at = put_keeps (q == p) (entries_of_steps (later ++ early) p) x e k (entries_stay later early p k e at)
 entries_stay (Did (world.Deliver q n) ∷ later) early p k e at = entries_stay later early p k e at
 entries_stay (Did (world.Inject q bytes) ∷ later) early p k e at = entries_stay later early p k e at
 entries_stay (Did (world.Clock q value) ∷ later) early p k e at = entries_stay later early p k e at

@@ -16,13 +16,13 @@ use Rattle.guest_process.specs.Start.{start}
 use Rattle.guest_process.specs.State.{State}
 use Rattle.group_record.specs.Answer.{first_states_from, group_of, with_first_state}
 use Rattle.group_record.specs.Laws.{Beginning, IsBegun}
-use Rattle.group_record.specs.Logs.{TellsBefore, log_name}
-use Rattle.group_record.specs.Run.{GroupStart, Step, head_of_log, log_of, name_of_process, size}
+use Rattle.group_record.specs.Logs.{TellsBeforeRest, log_name}
+use Rattle.group_record.specs.Run.{GroupStart, RunStep, head_of_log, log_of, name_of_process, processes_in_group}
 use Rattle.command_run.specs.Inputs.{module_in, spelled_module, valid_module}
 use Rattle.command_run.specs.Laws.{ReadsModules}
 use Rattle.command_run.specs.Limits.{most_module}
 use Rattle.command_run.specs.Outcome.{CommandStop, and_then, bytes_or_stop, file_of}
-use Rattle.command_run.specs.OutcomeLaws.{follows, same_Ok, value_or}
+use Rattle.command_run.specs.OutcomeLaws.{result_follows, same_Ok_value, ok_value_or}
 use Rattle.log_pairs.specs.Valid.{GoTogether}
 use Rattle.record_command.specs.Agreement.{IsRecordable, group_in}
 use Rattle.record_command.specs.Expected.{module_name, modules_of, schedule_in, schedule_or_refusal}
@@ -34,13 +34,13 @@ use Rattle.headline.proofs.ShownReplays.{replay_of}
 -- ---- the schedule
 
 read_by : (name : List ℕ) (r : Result Schedule ScheduleRefusal) (schedule : Schedule) → schedule_or_refusal name r ≡ Ok schedule → r ≡ Ok schedule
-read_by name (Ok s) schedule is = ap (λ (s : Schedule). Ok s) (same_Ok (schedule_or_refusal name (Ok s)) s schedule refl is)
+read_by name (Ok s) schedule is = ap (λ (s : Schedule). Ok s) (same_Ok_value (schedule_or_refusal name (Ok s)) s schedule refl is)
 read_by name (Err (BadLineAt line)) schedule is = cc
 read_by name (Err TooManyRuns) schedule is = cc
 
 pub schedule_formed : GivesSchedules → (folder : Folder) (name : List ℕ) (schedule : Schedule) → schedule_in folder name ≡ Ok schedule → IsWellFormed schedule
 schedule_formed gives folder name schedule is =
-    let bytes = follows (file_of folder name most_schedule) _ schedule is in
+    let bytes = result_follows (file_of folder name most_schedule) _ schedule is in
     ((gives bytes.given schedule).0 (read_by name (schedule_of bytes.given) schedule bytes.comes)).0.formed
 
 -- ---- the modules
@@ -57,12 +57,12 @@ no_module : All IsValid []
 no_module k d below = absurd (omega (arith, below))
 
 are_modules : ReadsModules → (folder : Folder) (lines : List ProcessLine) (ms : List Module) → modules_of folder lines ≡ Ok ms → AreModules lines ms
-are_modules reads folder [] ms is = subst (AreModules []) (ap (value_or []) is) (record { count = refl; valid = no_module })
+are_modules reads folder [] ms is = subst (AreModules []) (ap (ok_value_or []) is) (record { count = refl; valid = no_module })
 are_modules reads folder (line ∷ lines) ms is =
-    let first = follows (module_in folder line.«module») _ ms is in
-    let rest = follows (modules_of folder lines) _ ms first.comes in
+    let first = result_follows (module_in folder line.«module») _ ms is in
+    let rest = result_follows (modules_of folder lines) _ ms first.comes in
     let known = are_modules reads folder lines rest.given rest.is_given in
-    subst (AreModules (line ∷ lines)) (ap (value_or []) rest.comes) (record {
+    subst (AreModules (line ∷ lines)) (ap (ok_value_or []) rest.comes) (record {
       count = ap suc known.count;
       valid = valid_too first.given rest.given (reads.valid folder line.«module» first.given first.is_given) known.valid;
     })
@@ -70,7 +70,7 @@ are_modules reads folder (line ∷ lines) ms is =
 -- the group has begun, and the items are in range for it
 pub record HasBegun (group : GroupStart) (items : List Item) : Type 0 where
   pub begun : IsBegun group
-  pub fits : All (IsInRange (size group)) items
+  pub fits : All (IsInRange (processes_in_group group)) items
 
 pub has_begun : ReadsModules → GivesSchedules → Beginning → {folder : Folder} {name : List ℕ} (r : IsRecordable folder name) → HasBegun (group_in r) r.schedule.items
 has_begun reads gives beginning {folder} {name} r =
@@ -120,21 +120,21 @@ nothing_at S i e = cc
 begins_from : (folder : Folder) (count q : ℕ) (lines : List ProcessLine) (ms : List Module) (first : List State) → modules_of folder lines ≡ Ok ms → first_states_from count q ms ≡ Ok first
     → (i : ℕ) (S : State) → slice_get first i ≡ Some S → Begins folder (file_at lines i) (q + i) count S
 begins_from folder count q [] ms first found begun i S at =
-    let none : [] ≡ first = ap states_in (ap (first_states_from count q) (ap (value_or []) found) ∙ begun) in
+    let none : [] ≡ first = ap states_in (ap (first_states_from count q) (ap (ok_value_or []) found) ∙ begun) in
     absurd (nothing_at S i (ap (λ (xs : List State). slice_get xs i) none ∙ at))
 begins_from folder count q (line ∷ lines) ms first found begun i S at =
-    let one = follows (module_in folder line.«module») _ ms found in
-    let rest = follows (modules_of folder lines) _ ms one.comes in
-    let whole : one.given ∷ rest.given ≡ ms = ap (value_or []) rest.comes in
+    let one = result_follows (module_in folder line.«module») _ ms found in
+    let rest = result_follows (modules_of folder lines) _ ms one.comes in
+    let whole : one.given ∷ rest.given ≡ ms = ap (ok_value_or []) rest.comes in
     let states = first_states_are (start one.given q count) q (first_states_from count (suc q) rest.given) first (ap (first_states_from count q) whole ∙ begun) in
     begins_at folder count q line lines S one.given states.one states.others one.is_given states.is_one
     (λ j here. begins_from folder count (suc q) lines rest.given states.others rest.is_given states.are_others j S here)
     i (ap (λ (xs : List State). slice_get xs i) states.whole ∙ at)
 
-group_size : (schedule : Schedule) (first : List State) → length schedule.processes ≡ size (group_of schedule first)
+group_size : (schedule : Schedule) (first : List State) → length schedule.processes ≡ processes_in_group (group_of schedule first)
 group_size schedule first = sym (length-map schedule.processes (λ (line : ProcessLine). line.name))
 
-pub begins_in : {folder : Folder} {name : List ℕ} (r : IsRecordable folder name) (p : ℕ) (S : State) → slice_get (group_in r).first p ≡ Some S → Begins folder (module_name r.schedule p) p (size (group_in r)) S
+pub begins_in : {folder : Folder} {name : List ℕ} (r : IsRecordable folder name) (p : ℕ) (S : State) → slice_get (group_in r).first p ≡ Some S → Begins folder (module_name r.schedule p) p (processes_in_group (group_in r)) S
 begins_in {folder} r p S at =
     let here : 0 + p ≡ p = omega arith in
     subst (λ (n : ℕ). Begins folder (module_name r.schedule p) p n S) (group_size r.schedule r.first)
@@ -149,8 +149,8 @@ module_by name held = and_then (bytes_or_stop name (found_within most_module hel
 same_module : (before folder : Folder) (name : List ℕ) → get folder name ≡ get before name → module_in folder name ≡ module_in before name
 same_module before folder name same = ap (module_by name) same
 
-pub pair_stands : ReadsModules → {before : Folder} {name : List ℕ} (r : IsRecordable before name) (steps : List Step) (cut : ℕ → List ℕ) (folder : Folder) (p : ℕ) → HoldsProcess r steps cut folder p
-    → (t : TellsBefore (group_in r) steps p (cut p)) → PairStands folder (files_of_process r.schedule p) (replay_of (group_in r) steps cut p t)
+pub pair_stands : ReadsModules → {before : Folder} {name : List ℕ} (r : IsRecordable before name) (steps : List RunStep) (cut : ℕ → List ℕ) (folder : Folder) (p : ℕ) → HoldsProcess r steps cut folder p
+    → (t : TellsBeforeRest (group_in r) steps p (cut p)) → PairStands folder (files_of_process r.schedule p) (replay_of (group_in r) steps cut p t)
 pair_stands reads {before} r steps cut folder p holds t =
     let b = begins_in r p t.first t.begun in
     record {
@@ -183,14 +183,14 @@ less_or_more (suc p) (suc q) apart = further (less_or_more p q (λ same. apart (
   further (inl less) = inl (omega (arith, less))
   further (inr more) = inr (omega (arith, more))
 
-pub together : (schedule : Schedule) (first : List State) → IsWellFormed schedule → (p q : ℕ) → p < size (group_of schedule first) → q < size (group_of schedule first) → p ≢ q
+pub together : (schedule : Schedule) (first : List State) → IsWellFormed schedule → (p q : ℕ) → p < processes_in_group (group_of schedule first) → q < processes_in_group (group_of schedule first) → p ≢ q
     → GoTogether (head_of_log (group_of schedule first) p) (head_of_log (group_of schedule first) q)
 together schedule first formed p q below also apart = record {
   count = refl;
   process = apart;
   name = by_order (less_or_more p q apart);
 } where
-  count : length schedule.processes ≡ size (group_of schedule first)
+  count : length schedule.processes ≡ processes_in_group (group_of schedule first)
   count = group_size schedule first
 
   by_order : (p < q) ⊎ (q < p) → name_of_process (group_of schedule first) p ≢ name_of_process (group_of schedule first) q

@@ -16,17 +16,17 @@ use Rattle.call_log.specs.Limits.{most_log}
 use Rattle.call_log.specs.Log.{head_at}
 use Rattle.guest_process.specs.State.{State}
 use Rattle.proc_replay.specs.Replaying.{Replaying}
-use Rattle.group_record.specs.Laws.{Beginning, TakesDatagram, TellsCut}
-use Rattle.group_record.specs.Logs.{IsLogOfRun, TellsBefore, TellsEvents}
-use Rattle.group_record.specs.Run.{GroupStart, Had, IsMoment, Step, entries, entry_bytes, head_of_log, log_of, size}
-use Rattle.group_record.specs.Standing.{RunIs, Standing}
+use Rattle.group_record.specs.Laws.{Beginning, TakesDatagram, TellsCutLogs}
+use Rattle.group_record.specs.Logs.{IsLogOfRun, TellsBeforeRest, TellsEvents}
+use Rattle.group_record.specs.Run.{GroupStart, Had, IsMoment, RunStep, entries_of_steps, entry_bytes, head_of_log, log_of, processes_in_group}
+use Rattle.group_record.specs.Standing.{RunStandsAs, Standing}
 use Rattle.group_state.specs.Laws.{Ordered, SendsFirst}
 use Rattle.group_state.specs.Place.{PartsFit}
 use Rattle.command_run.specs.Laws.{ReadsModules}
 use Rattle.command_run.specs.Outcome.{CommandStop, CommandWork, and_then}
 use Rattle.log_pairs.specs.Pairs.{Loaded, replays_of, replays_of_pairs, sort_replays}
 use Rattle.log_pairs.specs.Valid.{GoTogether}
-use Rattle.record_command.specs.Agreement.{IsRecordable, LogsAgree, MayFollow, Front, Nothing, RecordingsAgree, group_in, steps_in}
+use Rattle.record_command.specs.Agreement.{IsRecordable, LogsAgree, MayFollowLog, Front, Nothing, RecordingsAgree, group_in, steps_in}
 use Rattle.replay_command.specs.Report.{replay_work}
 use Rattle.debug_command.specs.Debug.{opened_outcome}
 use Rattle.headline.specs.Headline.{AreDistinct, AreProcesses, Headline, HoldsProcess, IsShown, pairs_of_processes}
@@ -42,30 +42,30 @@ use Rattle.headline.proofs.SortedReplays.{Are, all_numbered, all_sorted, in_orde
 -- ---- each process and its replay
 
 -- what is known of a process, its pair and its replay
-record Known (group : GroupStart) (steps : List Step) (cut : ℕ → List ℕ) (p : ℕ) (r : Replaying) : Type 0 where
+record Known (group : GroupStart) (steps : List RunStep) (cut : ℕ → List ℕ) (p : ℕ) (r : Replaying) : Type 0 where
   shows : ShowsProcess group steps cut p r
   comes : ComesTo group steps cut p r
   fits : StateFits r.state
 
-process_is : (group : GroupStart) (steps : List Step) (cut : ℕ → List ℕ) (p : ℕ) (r : Replaying) → Known group steps cut p r → r.head.process ≡ p
+process_is : (group : GroupStart) (steps : List RunStep) (cut : ℕ → List ℕ) (p : ℕ) (r : Replaying) → Known group steps cut p r → r.head.process ≡ p
 process_is group steps cut p r known = ap (λ h. h.process) known.shows.head
 
-abbrev AreKnown : GroupStart → List Step → (ℕ → List ℕ) → List ℕ → List Replaying → Type 0
+abbrev AreKnown : GroupStart → List RunStep → (ℕ → List ℕ) → List ℕ → List Replaying → Type 0
 AreKnown group steps cut ps rs = Are group steps (Known group steps cut) (process_is group steps cut) ps rs
 
-are_shown : (group : GroupStart) (steps : List Step) (cut : ℕ → List ℕ) (ps : List ℕ) (rs : List Replaying) → AreKnown group steps cut ps rs → AreShown group steps cut ps rs
+are_shown : (group : GroupStart) (steps : List RunStep) (cut : ℕ → List ℕ) (ps : List ℕ) (rs : List Replaying) → AreKnown group steps cut ps rs → AreShown group steps cut ps rs
 are_shown group steps cut [] [] all = tt
 are_shown group steps cut (p ∷ ps) (r ∷ rs) all = (all.0.shows, are_shown group steps cut ps rs all.1)
 are_shown group steps cut [] (r ∷ rs) all = absurd all
 are_shown group steps cut (p ∷ ps) [] all = absurd all
 
-all_come : (group : GroupStart) (steps : List Step) (cut : ℕ → List ℕ) (ps : List ℕ) (rs : List Replaying) → AreKnown group steps cut ps rs → AllCome group steps cut ps rs
+all_come : (group : GroupStart) (steps : List RunStep) (cut : ℕ → List ℕ) (ps : List ℕ) (rs : List Replaying) → AreKnown group steps cut ps rs → AllCome group steps cut ps rs
 all_come group steps cut [] [] all = tt
 all_come group steps cut (p ∷ ps) (r ∷ rs) all = (all.0.comes, all_come group steps cut ps rs all.1)
 all_come group steps cut [] (r ∷ rs) all = absurd all
 all_come group steps cut (p ∷ ps) [] all = absurd all
 
-all_fit : (group : GroupStart) (steps : List Step) (cut : ℕ → List ℕ) (ps : List ℕ) (rs : List Replaying) → AreKnown group steps cut ps rs → PartsFit rs
+all_fit : (group : GroupStart) (steps : List RunStep) (cut : ℕ → List ℕ) (ps : List ℕ) (rs : List Replaying) → AreKnown group steps cut ps rs → PartsFit rs
 all_fit group steps cut [] [] all k d below = absurd (omega (arith, below))
 all_fit group steps cut (p ∷ ps) (r ∷ rs) all zero d below = all.0.fits
 all_fit group steps cut (p ∷ ps) (r ∷ rs) all (suc k) d below = all_fit group steps cut ps rs all.1 k d (omega (arith, below))
@@ -75,13 +75,13 @@ all_fit group steps cut (p ∷ ps) [] all k d below = absurd all
 -- ---- a log, with or without a part of one more entry
 
 -- a log with nothing after it
-tells_whole : (group : GroupStart) (steps : List Step) (p : ℕ) (cut : List ℕ) → TellsEvents group steps p → cut ≡ [] → TellsBefore group steps p cut
+tells_whole : (group : GroupStart) (steps : List RunStep) (p : ℕ) (cut : List ℕ) → TellsEvents group steps p → cut ≡ [] → TellsBeforeRest group steps p cut
 tells_whole group steps p cut t none =
-    subst (λ (cut : List ℕ). TellsBefore group steps p cut) (sym none)
+    subst (λ (cut : List ℕ). TellsBeforeRest group steps p cut) (sym none)
     (subst (λ (bytes : List ℕ). IsLogOfRun group steps p bytes []) (sym (append-nil (log_of group steps p))) t)
 
 -- what the log is after other steps, among which the process had no event
-tells_after : (group : GroupStart) (early steps : List Step) (p : ℕ) (cut : List ℕ) → TellsEvents group steps p → TellsBefore group early p cut → entries early p ≡ entries steps p → TellsBefore group steps p cut
+tells_after : (group : GroupStart) (early steps : List RunStep) (p : ℕ) (cut : List ℕ) → TellsEvents group steps p → TellsBeforeRest group early p cut → entries_of_steps early p ≡ entries_of_steps steps p → TellsBeforeRest group steps p cut
 tells_after group early steps p cut whole part same =
     let bytes : log_of group early p ++ cut ≡ log_of group steps p ++ cut = ap (λ (es : List Entry). (head_bytes (head_of_log group p) ++ encodings Two 0 es) ++ cut) same in
     record {
@@ -96,34 +96,34 @@ tells_after group early steps p cut whole part same =
       states = whole.states;
     }
 
-tells_by : (group : GroupStart) (all steps : List Step) (p : ℕ) (cut : List ℕ) → TellsCut group all → TellsEvents group steps p → MayFollow group all steps p cut → TellsBefore group steps p cut
+tells_by : (group : GroupStart) (all steps : List RunStep) (p : ℕ) (cut : List ℕ) → TellsCutLogs group all → TellsEvents group steps p → MayFollowLog group all steps p cut → TellsBeforeRest group steps p cut
 tells_by group all steps p cut cuts whole (Nothing none) = tells_whole group steps p cut whole none
 tells_by group all steps p cut cuts whole (Front later early e n split same short is) =
-    subst (λ (cut : List ℕ). TellsBefore group steps p cut) (sym is) (tells_after group early steps p (take n (entry_bytes group early p e)) whole (cuts later early p e split n short) same)
+    subst (λ (cut : List ℕ). TellsBeforeRest group steps p cut) (sym is) (tells_after group early steps p (take n (entry_bytes group early p e)) whole (cuts later early p e split n short) same)
 
 -- ---- a folder that holds some processes of a recording
 
 module _ (reads : ReadsModules) (gives : GivesSchedules) (beginning : Beginning) (standing : Standing) (agree : RecordingsAgree) (ordered : Ordered) (sends : SendsFirst)
-    (before folder : Folder) (name : List ℕ) (r : IsRecordable before name) (steps : List Step) (moment : IsMoment steps (steps_in r)) (cut : ℕ → List ℕ) where
+    (before folder : Folder) (name : List ℕ) (r : IsRecordable before name) (steps : List RunStep) (moment : IsMoment steps (steps_in r)) (cut : ℕ → List ℕ) where
   begun : HasBegun (group_in r) r.schedule.items
   begun = has_begun reads gives beginning r
 
-  run_is : RunIs (group_in r) steps
+  run_is : RunStandsAs (group_in r) steps
   run_is = standing (group_in r) r.schedule.items begun.begun begun.fits steps moment
 
   agreed : LogsAgree (group_in r) (steps_in r)
   agreed = agree before name r
 
-  tells : (p : ℕ) → p < size (group_in r) → HoldsProcess r steps cut folder p → TellsBefore (group_in r) steps p (cut p)
+  tells : (p : ℕ) → p < processes_in_group (group_in r) → HoldsProcess r steps cut folder p → TellsBeforeRest (group_in r) steps p (cut p)
   tells p below holds = tells_by (group_in r) (steps_in r) steps p (cut p) agreed.cut (agreed.logs steps moment p below) holds.front
 
   -- the first state of a process is in its ranges
-  first_fits : (p : ℕ) → p < size (group_in r) → (S : State) → slice_get (group_in r).first p ≡ Some S → StateFits S
+  first_fits : (p : ℕ) → p < processes_in_group (group_in r) → (S : State) → slice_get (group_in r).first p ≡ Some S → StateFits S
   first_fits p below S at =
       let s = (standing (group_in r) r.schedule.items begun.begun begun.fits [] (steps_in r, sym (append-nil (steps_in r)))).processes p below in
       subst StateFits (same_Some s.last S (sym s.stands ∙ at)) s.fits
 
-  known : (p : ℕ) (below : p < size (group_in r)) (holds : HoldsProcess r steps cut folder p) → Known (group_in r) steps cut p (replay_of (group_in r) steps cut p (tells p below holds))
+  known : (p : ℕ) (below : p < processes_in_group (group_in r)) (holds : HoldsProcess r steps cut folder p) → Known (group_in r) steps cut p (replay_of (group_in r) steps cut p (tells p below holds))
   known p below holds = record {
     shows = shows (group_in r) steps cut p run_is (tells p below holds);
     comes = comes_to (group_in r) steps cut p run_is below (tells p below holds);
@@ -131,7 +131,7 @@ module _ (reads : ReadsModules) (gives : GivesSchedules) (beginning : Beginning)
   }
 
   abbrev Below : List ℕ → Type 0
-  Below ps = AllByRecursion (λ p. p < size (group_in r)) ps
+  Below ps = AllByRecursion (λ p. p < processes_in_group (group_in r)) ps
 
   abbrev Held : List ℕ → Type 0
   Held ps = AllByRecursion (HoldsProcess r steps cut folder) ps
@@ -149,7 +149,7 @@ module _ (reads : ReadsModules) (gives : GivesSchedules) (beginning : Beginning)
   all_stand [] below holds = tt
   all_stand (p ∷ ps) below holds = (pair_stands reads r steps cut folder p holds.0 (tells p below.0 holds.0), all_stand ps below.1 holds.1)
 
-  one_together : (p : ℕ) → p < size (group_in r) → (ps : List ℕ) (below : Below ps) (holds : Held ps) → AllByRecursion (λ q. p ≢ q) ps
+  one_together : (p : ℕ) → p < processes_in_group (group_in r) → (ps : List ℕ) (below : Below ps) (holds : Held ps) → AllByRecursion (λ q. p ≢ q) ps
       → AllByRecursion (λ s. GoTogether (head_of_log (group_in r) p) s.head) (replays ps below holds)
   one_together p here [] below holds apart = tt
   one_together p here (q ∷ ps) below holds apart =
@@ -159,7 +159,7 @@ module _ (reads : ReadsModules) (gives : GivesSchedules) (beginning : Beginning)
   all_together [] below holds apart = tt
   all_together (p ∷ ps) below holds apart = (one_together p below.0 ps below.1 holds.1 apart.0, all_together ps below.1 holds.1 apart.1)
 
-  pub is_shown : (ps : List ℕ) → AreProcesses (size (group_in r)) ps → AllByRecursion (HoldsProcess r steps cut folder) ps → IsShown (group_in r) steps cut folder ps (pairs_of_processes r.schedule ps)
+  pub is_shown : (ps : List ℕ) → AreProcesses (processes_in_group (group_in r)) ps → AllByRecursion (HoldsProcess r steps cut folder) ps → IsShown (group_in r) steps cut folder ps (pairs_of_processes r.schedule ps)
   is_shown ps are holds =
       let pairs = pairs_of_processes r.schedule ps in
       let unsorted = replays ps are.within holds in
@@ -186,7 +186,7 @@ module _ (reads : ReadsModules) (gives : GivesSchedules) (beginning : Beginning)
             ∙ ap (λ (w : CommandWork). Ok w) (report_is images (group_in r) steps cut sorted start shown come);
         images = λ all_given.
             all_of_them (group_in r) steps sorted
-            (all_numbered (size (group_in r)) sorted in_it.ascend (sort_keeps (λ p. p < size (group_in r)) [] ps tt are.within) (in_it.count ∙ all_given))
+            (all_numbered (processes_in_group (group_in r)) sorted in_it.ascend (sort_keeps (λ p. p < processes_in_group (group_in r)) [] ps tt are.within) (in_it.count ∙ all_given))
             (in_it.count ∙ all_given);
         debug = λ input. ap (λ (o : Result (List Replaying) CommandStop). opened_outcome o (Some input)) opens;
         shows = record {
@@ -196,9 +196,9 @@ module _ (reads : ReadsModules) (gives : GivesSchedules) (beginning : Beginning)
           receives = received (group_in r) steps sorted start run_is.steps fits sends order.0 taken;
         };
       } where
-        taken : (later early : List Step) (p : ℕ) (e : Event) → steps ≡ later ++ (Had p e ∷ early) → IsTrue (is_taken e.entry) → TakesDatagram (size (group_in r)) early p e
+        taken : (later early : List RunStep) (p : ℕ) (e : Event) → steps ≡ later ++ (Had p e ∷ early) → IsTrue (is_taken e.entry) → TakesDatagram (processes_in_group (group_in r)) early p e
         taken later early p e split takes =
-            agreed.datagrams (moment.0 ++ later) early p e (moment.1 ∙ ap (λ (s : List Step). moment.0 ++ s) split ∙ sym (append_assoc moment.0 later (Had p e ∷ early))) takes
+            agreed.datagrams (moment.0 ++ later) early p e (moment.1 ∙ ap (λ (s : List RunStep). moment.0 ++ s) split ∙ sym (append_assoc moment.0 later (Had p e ∷ early))) takes
 
 pub headline : ReadsModules → GivesSchedules → Beginning → Standing → RecordingsAgree → Ordered → SendsFirst → Headline
 headline reads gives beginning standing agree ordered sends before folder name r steps moment cut ps are holds =

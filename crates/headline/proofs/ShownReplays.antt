@@ -5,19 +5,19 @@ use Rattle.std.proofs.Math.Seq.{take-length}
 use Rattle.std.proofs.lemmas.Option.{same_Some}
 use Rattle.lib_calls.specs.Traffic.{prints}
 use Rattle.lib_calls.specs.declared.entry.Entry.{Entry}
-use Rattle.call_log.specs.Log.{entries_of, rest_of}
+use Rattle.call_log.specs.Log.{entries_of, rest_of_log}
 use Rattle.guest_process.specs.declared.divergence.Divergence.{Divergence}
 use Rattle.guest_process.specs.Legal.{reason}
 use Rattle.guest_process.specs.Next.{next}
 use Rattle.guest_process.specs.declared.verdict.Verdict.{Verdict}
-use Rattle.guest_process.specs.Replay.{accepted, last_state, left_over, reach, reach_then, replayed, state_after, verdict, verdict_of}
+use Rattle.guest_process.specs.Replay.{accepted, last_state, left_over, reach_of_entries, reach_with_entry, replayed, state_after, verdict, verdict_of}
 use Rattle.guest_process.specs.State.{State}
 use Rattle.proc_replay.specs.Replaying.{Replaying}
-use Rattle.group_record.specs.Logs.{TellsBefore}
-use Rattle.group_record.specs.Run.{GroupStart, Step, entries, head_of_log, process_after, process_states, recorded_states, size}
-use Rattle.group_record.specs.Standing.{RunIs, StandsReplayed}
-use Rattle.group_state.specs.Image.{left_memory, left_print}
-use Rattle.group_record.specs.Images.{memory_in}
+use Rattle.group_record.specs.Logs.{TellsBeforeRest}
+use Rattle.group_record.specs.Run.{GroupStart, RunStep, entries_of_steps, head_of_log, process_after, process_states, recorded_states, processes_in_group}
+use Rattle.group_record.specs.Standing.{RunStandsAs, StandsReplayed}
+use Rattle.group_state.specs.Image.{memory_of_image, print_of_image}
+use Rattle.group_record.specs.Images.{memory_of_process}
 use Rattle.group_record.specs.Answer.{end_after}
 use Rattle.group_state.specs.Place.{after_entries}
 use Rattle.group_state.specs.declared.report.ReportLine.{ReportLine}
@@ -26,7 +26,7 @@ use Rattle.headline.specs.Shown.{ShowsProcess, recorded_line}
 use Rattle.headline.proofs.RecordedCourse.{states_count}
 
 -- the replay of a log
-abbrev pub replay_of : (group : GroupStart) (steps : List Step) (cut : ℕ → List ℕ) (p : ℕ) → TellsBefore group steps p (cut p) → Replaying
+abbrev pub replay_of : (group : GroupStart) (steps : List RunStep) (cut : ℕ → List ℕ) (p : ℕ) → TellsBeforeRest group steps p (cut p) → Replaying
 replay_of group steps cut p t = record { head = head_of_log group p; state = t.first; left = t.left }
 
 some_state : (xs : List State) (n : ℕ) → n < length xs → (S : State) × (slice_get xs n ≡ Some S)
@@ -34,19 +34,19 @@ some_state [] n below = absurd (omega (arith, below))
 some_state (S ∷ xs) zero below = (S, refl)
 some_state (S ∷ xs) (suc n) below = some_state xs n (omega (arith, below))
 
-pub shows : (group : GroupStart) (steps : List Step) (cut : ℕ → List ℕ) (p : ℕ) → RunIs group steps → (t : TellsBefore group steps p (cut p)) → ShowsProcess group steps cut p (replay_of group steps cut p t)
+pub shows : (group : GroupStart) (steps : List RunStep) (cut : ℕ → List ℕ) (p : ℕ) → RunStandsAs group steps → (t : TellsBeforeRest group steps p (cut p)) → ShowsProcess group steps cut p (replay_of group steps cut p t)
 shows group steps cut p run t = record {
   head = refl;
   begun = t.begun;
   told = t.entries;
   rest = t.rest;
-  accepted = ap (λ (es : List Entry). take (accepted t.first es) es) t.entries ∙ ap (λ (n : ℕ). take n (entries steps p)) t.accepted ∙ take-length (entries steps p);
+  accepted = ap (λ (es : List Entry). take (accepted t.first es) es) t.entries ∙ ap (λ (n : ℕ). take n (entries_of_steps steps p)) t.accepted ∙ take-length (entries_of_steps steps p);
   moments = λ n within. moment n within;
 } where
   one_more : length (recorded_states group steps p) ≡ suc (length (process_states steps p))
   one_more = ap (λ (o : Option State). length (option_to_list o ++ process_states steps p)) t.begun
 
-  moment : (n : ℕ) → n ≤ length (entries steps p) → slice_get (recorded_states group steps p) n ≡ Some (after_entries (replay_of group steps cut p t) n)
+  moment : (n : ℕ) → n ≤ length (entries_of_steps steps p) → slice_get (recorded_states group steps p) n ≡ Some (after_entries (replay_of group steps cut p t) n)
   moment n within =
       let some = some_state (recorded_states group steps p) n (omega (arith, within, one_more, states_count group steps p run.steps)) in
       some.1
@@ -54,10 +54,10 @@ shows group steps cut p run t = record {
 
 -- ---- all of it is accepted
 
-no_divergence : (S : State) (es : List Entry) → accepted S es ≡ length es → (reach S es).divergence ≡ None
+no_divergence : (S : State) (es : List Entry) → accepted S es ≡ length es → (reach_of_entries S es).divergence ≡ None
 no_divergence S [] is = refl
 no_divergence S (e ∷ es) is = by_reason (reason S e) (no_divergence (next S e) es) is where
-  by_reason : (o : Option Divergence) → (accepted (next S e) es ≡ length es → (reach (next S e) es).divergence ≡ None) → (reach_then o (reach (next S e) es)).accepted ≡ suc (length es) → (reach_then o (reach (next S e) es)).divergence ≡ None
+  by_reason : (o : Option Divergence) → (accepted (next S e) es ≡ length es → (reach_of_entries (next S e) es).divergence ≡ None) → (reach_with_entry o (reach_of_entries (next S e) es)).accepted ≡ suc (length es) → (reach_with_entry o (reach_of_entries (next S e) es)).divergence ≡ None
   by_reason None rest is = rest (omega (arith, is))
   by_reason (Some why) rest is = absurd (omega (arith, is))
 
@@ -77,17 +77,17 @@ record Ends (S last : State) (es : List Entry) : Type 0 where
 last_is : (S last : State) (es : List Entry) → Ends S last es → last_state S es ≡ last
 last_is S last es ends = ap (state_after S es) ends.all ∙ ap (replayed S) (take-length es) ∙ ends.at
 
-ends_at : (group : GroupStart) (steps : List Step) (cut : ℕ → List ℕ) (p : ℕ) (t : TellsBefore group steps p (cut p)) (s : StandsReplayed group steps p) → Ends t.first s.last (entries steps p)
+ends_at : (group : GroupStart) (steps : List RunStep) (cut : ℕ → List ℕ) (p : ℕ) (t : TellsBeforeRest group steps p (cut p)) (s : StandsReplayed group steps p) → Ends t.first s.last (entries_of_steps steps p)
 ends_at group steps cut p t s = record {
   all = t.accepted;
-  at = ap (λ (S : State). replayed S (entries steps p)) (same_Some t.first s.first (sym t.begun ∙ s.begun)) ∙ s.replay;
+  at = ap (λ (S : State). replayed S (entries_of_steps steps p)) (same_Some t.first s.first (sym t.begun ∙ s.begun)) ∙ s.replay;
 }
 
 -- so a replay ends as its process did
-pub record ComesTo (group : GroupStart) (steps : List Step) (cut : ℕ → List ℕ) (p : ℕ) (r : Replaying) : Type 0 where
+pub record ComesTo (group : GroupStart) (steps : List RunStep) (cut : ℕ → List ℕ) (p : ℕ) (r : Replaying) : Type 0 where
   pub line : report_line r ≡ recorded_line group steps cut p
-  pub memory : left_memory r ≡ memory_in (process_after group steps p)
-  pub printed : left_print r ≡ prints (entries steps p)
+  pub memory : memory_of_image r ≡ memory_of_process (process_after group steps p)
+  pub printed : print_of_image r ≡ prints (entries_of_steps steps p)
 
 abbrev line_of : Replaying → List Entry → List ℕ → ReportLine
 line_of r es rest = record { name = r.head.name; events = accepted r.state es; end = (last_state r.state es).end; verdict = verdict r.state es rest }
@@ -95,21 +95,21 @@ line_of r es rest = record { name = r.head.name; events = accepted r.state es; e
 abbrev ended_line : Replaying → ℕ → State → Verdict → ReportLine
 ended_line r n last v = record { name = r.head.name; events = n; end = last.end; verdict = v }
 
-pub comes_to : (group : GroupStart) (steps : List Step) (cut : ℕ → List ℕ) (p : ℕ) → RunIs group steps → p < size group → (t : TellsBefore group steps p (cut p)) → ComesTo group steps cut p (replay_of group steps cut p t)
+pub comes_to : (group : GroupStart) (steps : List RunStep) (cut : ℕ → List ℕ) (p : ℕ) → RunStandsAs group steps → p < processes_in_group group → (t : TellsBeforeRest group steps p (cut p)) → ComesTo group steps cut p (replay_of group steps cut p t)
 comes_to group steps cut p run below t =
     let s = run.processes p below in
-    let es = entries steps p in
+    let es = entries_of_steps steps p in
     let ends = ends_at group steps cut p t s in
     let r = replay_of group steps cut p t in
     let last : last_state t.first (entries_of t.left) ≡ s.last = ap (last_state t.first) t.entries ∙ last_is t.first s.last es ends in
     record {
       line =
-          ap (λ (es : List Entry). line_of r es (rest_of t.left)) t.entries
-          ∙ ap (λ (n : ℕ). ended_line r n (last_state t.first es) (verdict t.first es (rest_of t.left))) t.accepted
-          ∙ ap (λ (S : State). ended_line r (length es) S (verdict t.first es (rest_of t.left))) (last_is t.first s.last es ends)
-          ∙ ap (λ (v : Verdict). ended_line r (length es) s.last v) (is_left_over t.first es (rest_of t.left) t.accepted)
+          ap (λ (es : List Entry). line_of r es (rest_of_log t.left)) t.entries
+          ∙ ap (λ (n : ℕ). ended_line r n (last_state t.first es) (verdict t.first es (rest_of_log t.left))) t.accepted
+          ∙ ap (λ (S : State). ended_line r (length es) S (verdict t.first es (rest_of_log t.left))) (last_is t.first s.last es ends)
+          ∙ ap (λ (v : Verdict). ended_line r (length es) s.last v) (is_left_over t.first es (rest_of_log t.left) t.accepted)
           ∙ ap (λ (rest : List ℕ). ended_line r (length es) s.last (left_over rest)) t.rest
           ∙ ap (λ (o : Option State). record (recorded_line group steps cut p) { end = end_after o }) (sym s.stands);
-      memory = ap (λ (S : State). S.store.memory.bytes) last ∙ ap memory_in (sym s.stands);
+      memory = ap (λ (S : State). S.store.memory.bytes) last ∙ ap memory_of_process (sym s.stands);
       printed = ap prints (shows group steps cut p run t).accepted;
     }

@@ -4,9 +4,9 @@ use Rattle.std.specs.Prelude.{Contains, if◌then◌else◌, nat_lt, slice_index
 use Rattle.std.specs.List.{AllByRecursion}
 use Rattle.std.proofs.lemmas.Bool.{ltb-false, ltb-true}
 use Rattle.proc_replay.specs.Replaying.{Replaying}
-use Rattle.group_record.specs.Run.{GroupStart, Step}
+use Rattle.group_record.specs.Run.{GroupStart, RunStep}
 use Rattle.log_pairs.specs.Pairs.{insert_replay, sort_replays}
-use Rattle.headline.specs.Headline.{AreDistinct, AreInOrder, Ascend}
+use Rattle.headline.specs.Headline.{AreDistinct, AreInOrder, AscendNumbers}
 
 abbrev pub insert_number : ℕ → List ℕ → List ℕ
 insert_number p [] = p ∷ []
@@ -19,7 +19,7 @@ sort_numbers sorted (p ∷ ps) = sort_numbers (insert_number p sorted) ps
 -- ---- replays go where their numbers go
 
 -- so many replays are each of one of these processes, in some way
-module _ (group : GroupStart) (steps : List Step) (P : ℕ → Replaying → Type 0) (numbered : (p : ℕ) (r : Replaying) → P p r → r.head.process ≡ p) where
+module _ (group : GroupStart) (steps : List RunStep) (P : ℕ → Replaying → Type 0) (numbered : (p : ℕ) (r : Replaying) → P p r → r.head.process ≡ p) where
   abbrev pub Are : List ℕ → List Replaying → Type 0
   Are [] [] = Unit {0}
   Are (p ∷ ps) (r ∷ rs) = P p r × Are ps rs
@@ -62,10 +62,10 @@ pub sort_keeps : (P : ℕ → Type 0) (qs ps : List ℕ) → AllByRecursion P qs
 sort_keeps P qs [] before all = before
 sort_keeps P qs (p ∷ ps) before all = sort_keeps P (insert_number p qs) ps (insert_keeps P p qs all.0 before) all.1
 
-insert_ascends : (p : ℕ) (qs : List ℕ) → Ascend qs → AllByRecursion (λ q. p ≢ q) qs → Ascend (insert_number p qs)
+insert_ascends : (p : ℕ) (qs : List ℕ) → AscendNumbers qs → AllByRecursion (λ q. p ≢ q) qs → AscendNumbers (insert_number p qs)
 insert_ascends p [] ascend new = (tt, tt)
 insert_ascends p (q ∷ qs) ascend new = by_test (nat_lt q p) refl (insert_ascends p qs ascend.1 new.1) where
-  by_test : (b : Bool) → nat_lt q p ≡ b → Ascend (insert_number p qs) → Ascend (cond b (q ∷ insert_number p qs) (p ∷ q ∷ qs))
+  by_test : (b : Bool) → nat_lt q p ≡ b → AscendNumbers (insert_number p qs) → AscendNumbers (cond b (q ∷ insert_number p qs) (p ∷ q ∷ qs))
   by_test true is rest = (insert_keeps (λ n. q < n) p qs (ltb-true q p is) ascend.0, rest)
   by_test false is rest =
       let below : p < q = omega (arith, ltb-false q p is, new.0) in
@@ -79,7 +79,7 @@ new_behind : (p : ℕ) (qs ps : List ℕ) → AreNew qs ps → AllByRecursion (�
 new_behind p qs [] new apart = tt
 new_behind p qs (n ∷ ps) new apart = (insert_keeps (λ q. n ≢ q) p qs (λ same. apart.0 (sym same)) new.0, new_behind p qs ps new.1 apart.1)
 
-sort_ascends : (qs ps : List ℕ) → Ascend qs → AreNew qs ps → AreDistinct ps → Ascend (sort_numbers qs ps)
+sort_ascends : (qs ps : List ℕ) → AscendNumbers qs → AreNew qs ps → AreDistinct ps → AscendNumbers (sort_numbers qs ps)
 sort_ascends qs [] ascend new apart = ascend
 sort_ascends qs (p ∷ ps) ascend new apart = sort_ascends (insert_number p qs) ps (insert_ascends p qs ascend new.0) (new_behind p qs ps new.1 apart.0) apart.1
 
@@ -174,14 +174,14 @@ in_order ps apart = record {
 -- ---- all numbers
 
 -- numbers that ascend take room
-room : (least limit : ℕ) (ps : List ℕ) → least ≤ limit → Ascend ps → AllByRecursion (λ p. least ≤ p) ps → AllByRecursion (λ p. p < limit) ps → least + length ps ≤ limit
+room : (least limit : ℕ) (ps : List ℕ) → least ≤ limit → AscendNumbers ps → AllByRecursion (λ p. least ≤ p) ps → AllByRecursion (λ p. p < limit) ps → least + length ps ≤ limit
 room least limit [] within ascend above below = omega arith
 room least limit (p ∷ ps) within ascend above below =
     let rest : suc p + length ps ≤ limit = room (suc p) limit ps (omega (arith, below.0)) ascend.1 (all_so (λ n. p < n) (λ n. suc p ≤ n) ps (λ n h. omega (arith, h)) ascend.0) below.1 in
     omega (arith, above.0, rest)
 
 -- where there is no more room than they take, each is at its place
-each_at : (least limit : ℕ) (ps : List ℕ) → Ascend ps → AllByRecursion (λ p. least ≤ p) ps → AllByRecursion (λ p. p < limit) ps → least + length ps ≡ limit
+each_at : (least limit : ℕ) (ps : List ℕ) → AscendNumbers ps → AllByRecursion (λ p. least ≤ p) ps → AllByRecursion (λ p. p < limit) ps → least + length ps ≡ limit
     → (i : ℕ) → i < length ps → slice_get ps i ≡ Some (least + i)
 each_at least limit [] ascend above below full i inside = absurd (omega (arith, inside))
 each_at least limit (p ∷ ps) ascend above below full i inside =
@@ -200,7 +200,7 @@ none_below : (ps : List ℕ) → AllByRecursion (λ p. 0 ≤ p) ps
 none_below [] = tt
 none_below (p ∷ ps) = (omega arith, none_below ps)
 
-pub all_numbered : (count : ℕ) (ps : List ℕ) → Ascend ps → AllByRecursion (λ p. p < count) ps → length ps ≡ count → (i : ℕ) → i < count → slice_get ps i ≡ Some i
+pub all_numbered : (count : ℕ) (ps : List ℕ) → AscendNumbers ps → AllByRecursion (λ p. p < count) ps → length ps ≡ count → (i : ℕ) → i < count → slice_get ps i ≡ Some i
 all_numbered count ps ascend below full i inside =
     let here : 0 + i ≡ i = omega arith in
     each_at 0 count ps ascend (none_below ps) below (omega (arith, full)) i (omega (arith, inside, full)) ∙ ap (λ (n : ℕ). Some n) here

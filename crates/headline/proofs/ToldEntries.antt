@@ -8,28 +8,28 @@ use Rattle.guest_process.specs.Live.{Event}
 use Rattle.lossy_net.specs.Network.{nth_of}
 use Rattle.group_world.specs.History.{History, put_last_if, sends}
 use Rattle.group_world.specs.History as world
-use Rattle.group_record.specs.Run.{GroupStart, Had, Did, Step, entries}
+use Rattle.group_record.specs.Run.{GroupStart, Had, Did, RunStep, entries_of_steps}
 use Rattle.group_record.specs.Standing.{IsRun}
 use Rattle.headline.proofs.RecordedCourse.{at_end}
 
 -- the step at which it came
-pub record WasHad (steps : List Step) (p : ℕ) (e : Entry) : Type 0 where
-  pub later : List Step
-  pub early : List Step
+pub record WasHad (steps : List RunStep) (p : ℕ) (e : Entry) : Type 0 where
+  pub later : List RunStep
+  pub early : List RunStep
   pub event : Event
   pub split : steps ≡ later ++ (Had p event ∷ early)
   pub is : event.entry ≡ e
 
-further : (s : Step) (steps : List Step) (p : ℕ) (e : Entry) → WasHad steps p e → WasHad (s ∷ steps) p e
-further s steps p e was = record { later = s ∷ was.later; early = was.early; event = was.event; split = ap (λ (rest : List Step). s ∷ rest) was.split; is = was.is }
+further : (s : RunStep) (steps : List RunStep) (p : ℕ) (e : Entry) → WasHad steps p e → WasHad (s ∷ steps) p e
+further s steps p e was = record { later = s ∷ was.later; early = was.early; event = was.event; split = ap (λ (rest : List RunStep). s ∷ rest) was.split; is = was.is }
 
-pub was_had : (group : GroupStart) (steps : List Step) (p k : ℕ) (e : Entry) → IsRun group steps → slice_get (entries steps p) k ≡ Some e → WasHad steps p e
+pub was_had : (group : GroupStart) (steps : List RunStep) (p k : ℕ) (e : Entry) → IsRun group steps → slice_get (entries_of_steps steps p) k ≡ Some e → WasHad steps p e
 was_had group [] p k e run at = cc
 was_had group (Had q x ∷ steps) p k e run at = by_process (was_had group steps p k e run.1) (q == p) refl at where
-  by_process : (slice_get (entries steps p) k ≡ Some e → WasHad steps p e) → (b : Bool) → (q == p) ≡ b → slice_get (put_last_if b (entries steps p) x.entry) k ≡ Some e → WasHad (Had q x ∷ steps) p e
+  by_process : (slice_get (entries_of_steps steps p) k ≡ Some e → WasHad steps p e) → (b : Bool) → (q == p) ≡ b → slice_get (put_last_if b (entries_of_steps steps p) x.entry) k ≡ Some e → WasHad (Had q x ∷ steps) p e
   by_process before false other at = further (Had q x) steps p e (before at)
-  by_process before true same at = by_place (at_end (entries steps p) x.entry e k at) where
-    by_place : (slice_get (entries steps p) k ≡ Some e) ⊎ (x.entry ≡ e) → WasHad (Had q x ∷ steps) p e
+  by_process before true same at = by_place (at_end (entries_of_steps steps p) x.entry e k at) where
+    by_place : (slice_get (entries_of_steps steps p) k ≡ Some e) ⊎ (x.entry ≡ e) → WasHad (Had q x ∷ steps) p e
     by_place (inl there) = further (Had q x) steps p e (before there)
     by_place (inr last) = record { later = []; early = steps; event = x; split = ap (λ (n : ℕ). Had n x ∷ steps) (eqb-true q p same); is = last }
 was_had group (Did (world.Event q x) ∷ steps) p k e run at = absurd run.0

@@ -7,12 +7,12 @@ use Rattle.schedule_text.specs.Schedule.{Schedule}
 use Rattle.group_record.specs.Answer.{names_of}
 use Rattle.group_record.specs.Images.{images as all_images}
 use Rattle.group_record.specs.Logs.{log_name}
-use Rattle.group_record.specs.Run.{GroupStart, IsMoment, Step, log_of, name_of_process, size}
+use Rattle.group_record.specs.Run.{GroupStart, IsMoment, RunStep, log_of, name_of_process, processes_in_group}
 use Rattle.proc_replay.specs.Replaying.{Replaying}
 use Rattle.command_run.specs.declared.status.Status.{Status}
 use Rattle.command_run.specs.Call.{IsAnswerStatus}
 use Rattle.log_pairs.specs.Pairs.{Pair, replays_of_pairs}
-use Rattle.record_command.specs.Agreement.{IsAtMoment, IsInHeads, IsRecordable, LeavesMoment, LeavesRecording, MayFollow, group_in, steps_in}
+use Rattle.record_command.specs.Agreement.{IsAtMomentOfRun, IsStoppedInHeads, IsRecordable, LeavesMoment, LeavesRecording, MayFollowLog, group_in, steps_in}
 use Rattle.record_command.specs.Expected.{module_name}
 use Rattle.replay_command.specs.Report.{replay_outcome}
 use Rattle.debug_command.specs.Debug.{debug_outcome, session_outcome}
@@ -38,13 +38,13 @@ abbrev pub pairs_of_processes : Schedule → List ℕ → List Pair
 pairs_of_processes schedule ps = map (files_of_process schedule) ps
 
 -- each number is below those after it
-abbrev pub Ascend : List ℕ → Type 0
-Ascend [] = Unit {0}
-Ascend (p ∷ ps) = AllByRecursion (λ q. p < q) ps × Ascend ps
+abbrev pub AscendNumbers : List ℕ → Type 0
+AscendNumbers [] = Unit {0}
+AscendNumbers (p ∷ ps) = AllByRecursion (λ q. p < q) ps × AscendNumbers ps
 
 -- the same numbers in order
 pub record AreInOrder (ps sorted : List ℕ) : Type 0 where
-  pub ascend : Ascend sorted
+  pub ascend : AscendNumbers sorted
   pub count : length sorted ≡ length ps
   pub same : (p : ℕ) → Contains ps p ↔ Contains sorted p
 
@@ -52,16 +52,16 @@ pub record AreInOrder (ps sorted : List ℕ) : Type 0 where
 
 -- of process p a folder has the module, as the recording found it, and the log of these steps. After the log there may
 -- stand a first part of one more entry, as a recording leaves it that was stopped. Nothing else of the folder matters
-pub record HoldsProcess {before : Folder} {schedule_name : List ℕ} (r : IsRecordable before schedule_name) (steps : List Step) (cut : ℕ → List ℕ)
+pub record HoldsProcess {before : Folder} {schedule_name : List ℕ} (r : IsRecordable before schedule_name) (steps : List RunStep) (cut : ℕ → List ℕ)
     (folder : Folder) (p : ℕ) : Type 0 where
   pub «module» : get folder (module_name r.schedule p) ≡ get before (module_name r.schedule p)
   pub log : get folder (log_name (name_of_process (group_in r) p)) ≡ Some (log_of (group_in r) steps p ++ cut p)
-  pub front : MayFollow (group_in r) (steps_in r) steps p (cut p)
+  pub front : MayFollowLog (group_in r) (steps_in r) steps p (cut p)
 
 -- ---- the whole
 
 -- the pairs of these processes are read to replays, which show what was recorded
-pub record IsShown (group : GroupStart) (steps : List Step) (cut : ℕ → List ℕ) (folder : Folder) (ps : List ℕ) (pairs : List Pair) : Type 0 where
+pub record IsShown (group : GroupStart) (steps : List RunStep) (cut : ℕ → List ℕ) (folder : Folder) (ps : List ℕ) (pairs : List Pair) : Type 0 where
   -- the processes in the order of their numbers, and their replays
   pub sorted : List ℕ
   pub in_order : AreInOrder ps sorted
@@ -70,7 +70,7 @@ pub record IsShown (group : GroupStart) (steps : List Step) (cut : ℕ → List 
   pub each : AreShown group steps cut sorted start
   -- `replay` says what was recorded, and leaves the images of it: with all processes those of the recording
   pub replay : (images : Bool) → replay_outcome images pairs folder ≡ Ok (recorded_report images group steps cut sorted)
-  pub images : length ps ≡ size group → recorded_images group steps sorted ≡ all_images group steps
+  pub images : length ps ≡ processes_in_group group → recorded_images group steps sorted ≡ all_images group steps
   -- `debug` answers each line by the group of these replays alone, which shows the recording
   pub debug : (input : List ℕ) → debug_outcome pairs (Some input) folder ≡ Some (session_outcome start input)
   pub shows : ShowsGroup group steps sorted start
@@ -78,8 +78,8 @@ pub record IsShown (group : GroupStart) (steps : List Step) (cut : ℕ → List 
 -- At each moment of the run of a schedule that can be recorded, so also where the recording was stopped or a log was full:
 -- in every folder that holds the modules and the logs of some processes, these are shown as they were recorded
 abbrev pub Headline : Type 0
-Headline = (before folder : Folder) (schedule_name : List ℕ) (r : IsRecordable before schedule_name) (steps : List Step) → IsMoment steps (steps_in r)
-    → (cut : ℕ → List ℕ) (ps : List ℕ) → AreProcesses (size (group_in r)) ps → AllByRecursion (HoldsProcess r steps cut folder) ps
+Headline = (before folder : Folder) (schedule_name : List ℕ) (r : IsRecordable before schedule_name) (steps : List RunStep) → IsMoment steps (steps_in r)
+    → (cut : ℕ → List ℕ) (ps : List ℕ) → AreProcesses (processes_in_group (group_in r)) ps → AllByRecursion (HoldsProcess r steps cut folder) ps
     → IsShown (group_in r) steps cut folder ps (pairs_of_processes r.schedule ps)
 
 -- ---- what a recording leaves
@@ -90,21 +90,21 @@ pub record HasFiles {before : Folder} {schedule_name : List ℕ} (r : IsRecordab
   pub log : get folder (log_name (name_of_process (group_in r) p)) ≡ get after (log_name (name_of_process (group_in r) p))
 
 -- in every folder that has these files of some processes, and whatever else, these are shown as they were after these steps
-abbrev pub ShowsSteps : {before : Folder} {schedule_name : List ℕ} → IsRecordable before schedule_name → List Step → (ℕ → List ℕ) → Folder → Type 0
+abbrev pub ShowsSteps : {before : Folder} {schedule_name : List ℕ} → IsRecordable before schedule_name → List RunStep → (ℕ → List ℕ) → Folder → Type 0
 ShowsSteps r steps cut after =
-    (folder : Folder) (ps : List ℕ) → AreProcesses (size (group_in r)) ps → AllByRecursion (HasFiles r after folder) ps
+    (folder : Folder) (ps : List ℕ) → AreProcesses (processes_in_group (group_in r)) ps → AllByRecursion (HasFiles r after folder) ps
     → IsShown (group_in r) steps cut folder ps (pairs_of_processes r.schedule ps)
 
 -- a moment of the run, which is shown
 pub record ShowsMoment {before : Folder} {schedule_name : List ℕ} (r : IsRecordable before schedule_name) (after : Folder) : Type 0 where
-  pub at : IsAtMoment (group_in r) (steps_in r) after
+  pub at : IsAtMomentOfRun (group_in r) (steps_in r) after
   pub shown : ShowsSteps r at.steps at.cut after
 
 -- what `record` left with this status shows the whole run where it gave an answer, and elsewhere a moment of it, unless
 -- it was stopped in the heads
 pub record ShowsRun {before : Folder} {schedule_name : List ℕ} (r : IsRecordable before schedule_name) (answer : Status) (after : Folder) : Type 0 where
   pub whole : IsAnswerStatus answer → ShowsSteps r (steps_in r) no_cut after
-  pub stopped : IsInHeads (group_in r) before after ⊎ ShowsMoment r after
+  pub stopped : IsStoppedInHeads (group_in r) before after ⊎ ShowsMoment r after
 
 -- this holds wherever a recording ends
 abbrev pub LeftIsShown : Type 0

@@ -4,21 +4,21 @@ use Rattle.std.specs.List.{flat_map}
 use Rattle.lamport_tag.specs.Tag.{read_datagram}
 use Rattle.lib_calls.specs.Traffic.{is_sent, is_taken, prints}
 use Rattle.lib_calls.specs.declared.entry.Entry.{Entry}
-use Rattle.call_log.specs.Log.{entries_of, rest_of}
+use Rattle.call_log.specs.Log.{entries_of, rest_of_log}
 use Rattle.guest_process.specs.Replay.{left_over}
 use Rattle.guest_process.specs.State.{State}
 use Rattle.group_order.specs.Order.{IsOrder, NodeEvent, node_event}
 use Rattle.group_world.specs.History.{Inject}
 use Rattle.group_record.specs.Answer.{end_after}
-use Rattle.group_record.specs.Images.{memory_in}
+use Rattle.group_record.specs.Images.{memory_of_process}
 use Rattle.process_files.specs.Images.{image_files}
 use Rattle.group_record.specs.Laws.{TellsSend}
-use Rattle.group_record.specs.Run.{GroupStart, Step, entries, head_of_log, history, name_of_process, process_after, recorded_states, size}
-use Rattle.proc_replay.specs.Course.{ahead}
+use Rattle.group_record.specs.Run.{GroupStart, RunStep, entries_of_steps, head_of_log, history_of_steps, name_of_process, process_after, recorded_states, processes_in_group}
+use Rattle.proc_replay.specs.Course.{entries_ahead}
 use Rattle.proc_replay.specs.Replaying.{Replaying}
 use Rattle.group_state.specs.declared.report.ReportLine.{ReportLine}
-use Rattle.group_state.specs.Place.{after_entries, entry_clock, events, node_event_count, states}
-use Rattle.group_state.specs.Tally.{Accepted, of_process, tally}
+use Rattle.group_state.specs.Place.{after_entries, entry_clock, events_of_replays, node_event_count, states_of_nodes}
+use Rattle.group_state.specs.Tally.{AcceptedEvent, of_process, tally_of_events}
 use Rattle.command_run.specs.Outcome.{CommandWork}
 use Rattle.replay_command.specs.Report.{report_text}
 
@@ -30,16 +30,16 @@ no_cut p = []
 
 -- a replay is that of a process of the recording. It has all events of the process and no other, each is accepted, and
 -- after each n of them it is in the recorded state. What comes after their entries is left over
-pub record ShowsProcess (group : GroupStart) (steps : List Step) (cut : ℕ → List ℕ) (p : ℕ) (r : Replaying) : Type 0 where
+pub record ShowsProcess (group : GroupStart) (steps : List RunStep) (cut : ℕ → List ℕ) (p : ℕ) (r : Replaying) : Type 0 where
   pub head : r.head ≡ head_of_log group p
   pub begun : slice_get group.first p ≡ Some r.state
-  pub told : entries_of r.left ≡ entries steps p
-  pub rest : rest_of r.left ≡ cut p
-  pub accepted : ahead r ≡ entries steps p
-  pub moments : (n : ℕ) → n ≤ length (entries steps p) → slice_get (recorded_states group steps p) n ≡ Some (after_entries r n)
+  pub told : entries_of r.left ≡ entries_of_steps steps p
+  pub rest : rest_of_log r.left ≡ cut p
+  pub accepted : entries_ahead r ≡ entries_of_steps steps p
+  pub moments : (n : ℕ) → n ≤ length (entries_of_steps steps p) → slice_get (recorded_states group steps p) n ≡ Some (after_entries r n)
 
 -- so are these replays those of these processes
-abbrev pub AreShown : GroupStart → List Step → (ℕ → List ℕ) → List ℕ → List Replaying → Type 0
+abbrev pub AreShown : GroupStart → List RunStep → (ℕ → List ℕ) → List ℕ → List Replaying → Type 0
 AreShown group steps cut [] [] = Unit {0}
 AreShown group steps cut (p ∷ ps) (r ∷ rs) = ShowsProcess group steps cut p r × AreShown group steps cut ps rs
 AreShown group steps cut [] (r ∷ rs) = ⊥
@@ -49,26 +49,26 @@ AreShown group steps cut (p ∷ ps) [] = ⊥
 
 -- the line of a process: how many events were recorded, how it stood after them, and that its log is whole, unless bytes stand
 -- after its entries, which are left over
-abbrev pub recorded_line : GroupStart → List Step → (ℕ → List ℕ) → ℕ → ReportLine
+abbrev pub recorded_line : GroupStart → List RunStep → (ℕ → List ℕ) → ℕ → ReportLine
 recorded_line group steps cut p = record {
   name = name_of_process group p;
-  events = length (entries steps p);
+  events = length (entries_of_steps steps p);
   end = end_after (process_after group steps p);
   verdict = left_over (cut p);
 }
 
 -- the recorded events of these processes
-abbrev pub recorded_events : List Step → List ℕ → List Accepted
-recorded_events steps ps = flat_map (λ p. of_process p (entries steps p)) ps
+abbrev pub recorded_events : List RunStep → List ℕ → List AcceptedEvent
+recorded_events steps ps = flat_map (λ p. of_process p (entries_of_steps steps p)) ps
 
 -- the files of what each of these processes left
-abbrev pub recorded_images : GroupStart → List Step → List ℕ → List (List ℕ × List ℕ)
-recorded_images group steps ps = flat_map (λ p. image_files (name_of_process group p) (memory_in (process_after group steps p)) (prints (entries steps p))) ps
+abbrev pub recorded_images : GroupStart → List RunStep → List ℕ → List (List ℕ × List ℕ)
+recorded_images group steps ps = flat_map (λ p. image_files (name_of_process group p) (memory_of_process (process_after group steps p)) (prints (entries_of_steps steps p))) ps
 
 -- the lines and the counts of these processes, and no divergence; and their images, where they are asked for
-abbrev pub recorded_report : Bool → GroupStart → List Step → (ℕ → List ℕ) → List ℕ → CommandWork
+abbrev pub recorded_report : Bool → GroupStart → List RunStep → (ℕ → List ℕ) → List ℕ → CommandWork
 recorded_report images group steps cut ps = record {
-  text = report_text (map (recorded_line group steps cut) ps) (tally (size group) (recorded_events steps ps));
+  text = report_text (map (recorded_line group steps cut) ps) (tally_of_events (processes_in_group group) (recorded_events steps ps));
   writes = if images then recorded_images group steps ps else [];
   diverged = false;
 }
@@ -76,7 +76,7 @@ recorded_report images group steps cut ps = record {
 -- ---- what `debug` shows
 
 -- after n events a process stood in the recording as this node does
-pub record IsRecorded (group : GroupStart) (steps : List Step) (p n : ℕ) (now : List State) (node : ℕ) : Type 0 where
+pub record IsRecorded (group : GroupStart) (steps : List RunStep) (p n : ℕ) (now : List State) (node : ℕ) : Type 0 where
   pub state : State
   pub shown : slice_get now node ≡ Some state
   pub recorded : slice_get (recorded_states group steps p) n ≡ Some state
@@ -89,21 +89,21 @@ StandsBefore ps order j q sent =
 -- the datagram that an event of process p took, at place j of the order, came from outside, or a process had sent it to p.
 -- Then the event names the send and tells a first part of what went out, and the send comes before it, unless the
 -- send's clock is past those that a tag can bear
-pub data Received (group : GroupStart) (steps : List Step) (ps : List ℕ) (order : List (NodeEvent Entry)) (j p : ℕ) (e : Entry) : Type 0 where
-  FromOutside : (bytes : List ℕ) → Contains (history steps) (Inject p bytes) → e.tag ≡ (read_datagram (size group) bytes).0
-      → e.incoming ≡ take e.call.a1 (read_datagram (size group) bytes).1 → Received group steps ps order j p e
-  FromSend : (q k : ℕ) → (sent : Entry) → slice_get (entries steps q) k ≡ Some sent → IsTrue (is_sent (size group) sent) → sent.call.a0 ≡ p
+pub data ReceivedDatagram (group : GroupStart) (steps : List RunStep) (ps : List ℕ) (order : List (NodeEvent Entry)) (j p : ℕ) (e : Entry) : Type 0 where
+  FromOutside : (bytes : List ℕ) → Contains (history_of_steps steps) (Inject p bytes) → e.tag ≡ (read_datagram (processes_in_group group) bytes).0
+      → e.incoming ≡ take e.call.a1 (read_datagram (processes_in_group group) bytes).1 → ReceivedDatagram group steps ps order j p e
+  FromSend : (q k : ℕ) → (sent : Entry) → slice_get (entries_of_steps steps q) k ≡ Some sent → IsTrue (is_sent (processes_in_group group) sent) → sent.call.a0 ≡ p
       → (sent.clock ≤ 2 ^ 62 → TellsSend e q sent) → (sent.clock ≤ 2 ^ 62 → StandsBefore ps order j q sent)
-      → Received group steps ps order j p e
+      → ReceivedDatagram group steps ps order j p e
 
 -- replays of these processes, as one group
-pub record ShowsGroup (group : GroupStart) (steps : List Step) (ps : List ℕ) (start : List Replaying) : Type 0 where
+pub record ShowsGroup (group : GroupStart) (steps : List RunStep) (ps : List ℕ) (start : List Replaying) : Type 0 where
   -- the order is the one list of all their recorded events that is sorted by clock and then by process
-  pub order : IsOrder entry_clock (map (entries steps) ps) (events start)
-  pub only : (es : List (NodeEvent Entry)) → IsOrder entry_clock (map (entries steps) ps) es → es ≡ events start
+  pub order : IsOrder entry_clock (map (entries_of_steps steps) ps) (events_of_replays start)
+  pub only : (es : List (NodeEvent Entry)) → IsOrder entry_clock (map (entries_of_steps steps) ps) es → es ≡ events_of_replays start
   -- at position k each process is as it was in the recording after as many of its events as stand among the first k
   pub moments : (k node p : ℕ) → slice_get ps node ≡ Some p
-      → IsRecorded group steps p (node_event_count node (take k (events start))) (states start k) node
+      → IsRecorded group steps p (node_event_count node (take k (events_of_replays start))) (states_of_nodes start k) node
   -- each taken datagram is one from outside, or its send comes before it
-  pub receives : (j node p : ℕ) (e : Entry) → slice_get ps node ≡ Some p → slice_get (events start) j ≡ Some (node_event node e)
-      → IsTrue (is_taken e) → Received group steps ps (events start) j p e
+  pub receives : (j node p : ℕ) (e : Entry) → slice_get ps node ≡ Some p → slice_get (events_of_replays start) j ≡ Some (node_event node e)
+      → IsTrue (is_taken e) → ReceivedDatagram group steps ps (events_of_replays start) j p e

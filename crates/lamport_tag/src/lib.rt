@@ -20,7 +20,7 @@ const MAGIC: [u8; 4] = [0xD7, b'L', b'O', b'G'];
 const TAG_LENGTH: usize = 16;
 
 // The greatest clock that a tag can bear.
-const LAST_CLOCK: u64 = 1 << 62;
+const MOST_CLOCK: u64 = 1 << 62;
 
 /// Who sent a datagram: the process's number, and the clock of its send.
 #[derive(Clone, Copy, Debug, PartialEq, Eq)]
@@ -94,5 +94,5 @@ pub fn write_tag(tag: Tag) -> [u8; 16]
 pub fn is_sendable(tag: Tag, count: u32) -> bool
     ensures { result ≡ is_sendable_of count tag }
 {
-    tag.sender < count && 1 <= tag.clock && tag.clock <= LAST_CLOCK
+    tag.sender < count && 1 <= tag.clock && tag.clock <= MOST_CLOCK
 }

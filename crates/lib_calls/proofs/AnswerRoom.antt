@@ -6,7 +6,7 @@ use Rattle.call_table.specs.declared.kind.Kind.TheVariants.{Random, Recv, TryRec
 use Rattle.guest_memory.specs.Memory.{Memory, is_inside}
 use Rattle.lib_calls.specs.declared.entry.Call.{Call}
 use Rattle.lib_calls.specs.Answer.{Answer}
-use Rattle.lib_calls.specs.Effects.{brings, has_good, is_range, minus_two, takes_counted, takes_nothing}
+use Rattle.lib_calls.specs.Effects.{call_brings, has_good_ranges, is_range, minus_two, takes_counted, takes_nothing}
 use Rattle.lib_calls.proofs.MemoryRanges.{both_true, range_inside}
 
 counted_fits : (call : Call) (a : Answer) → takes_counted call a ≡ true → length a.incoming ≤ call.a1
@@ -25,10 +25,10 @@ either_fits call a false is h = nothing_fits minus_two call.a1 a h
 fits_range : (call : Call) (a : Answer) (memory : Memory) → is_range memory call.a0 call.a1 ≡ true → length a.incoming ≤ call.a1 → call.a0 + length a.incoming ≤ length memory.bytes
 fits_range call a memory range few = let inside = range_inside memory call.a0 call.a1 range in omega arith
 
-pub random_room : (kind : Kind) (call : Call) (a : Answer) (memory : Memory) → kind ≡ Random → has_good kind call memory ≡ true → brings kind call a memory ≡ true → call.a0 + length a.incoming ≤ length memory.bytes
+pub random_room : (kind : Kind) (call : Call) (a : Answer) (memory : Memory) → kind ≡ Random → has_good_ranges kind call memory ≡ true → call_brings kind call a memory ≡ true → call.a0 + length a.incoming ≤ length memory.bytes
 random_room kind call a memory is good brought =
     let range : is_range memory call.a0 call.a1 ≡ true = rw is at good in
-    let counted : brings Random call a memory ≡ true = rw is at brought in
+    let counted : call_brings Random call a memory ≡ true = rw is at brought in
     fits_range call a memory range (counted_fits call a (rw range at counted))
 
 -- both the payload and the sender have room
@@ -40,14 +40,14 @@ room call a memory good few =
     let ranges = both_true (is_range memory call.a0 call.a1) (is_inside memory call.a2 4) good in
     (fits_range call a memory ranges.0 few, leb-true (call.a2 + 4) (length memory.bytes) ranges.1)
 
-pub recv_room : (kind : Kind) (call : Call) (a : Answer) (memory : Memory) → kind ≡ Recv → has_good kind call memory ≡ true → brings kind call a memory ≡ true → HasRoom call a memory
+pub recv_room : (kind : Kind) (call : Call) (a : Answer) (memory : Memory) → kind ≡ Recv → has_good_ranges kind call memory ≡ true → call_brings kind call a memory ≡ true → HasRoom call a memory
 recv_room kind call a memory is good brought =
     let ranges : (is_range memory call.a0 call.a1 && is_inside memory call.a2 4) ≡ true = rw is at good in
-    let counted : brings Recv call a memory ≡ true = rw is at brought in
+    let counted : call_brings Recv call a memory ≡ true = rw is at brought in
     room call a memory ranges (counted_fits call a (rw ranges at counted))
 
-pub try_recv_room : (kind : Kind) (call : Call) (a : Answer) (memory : Memory) → kind ≡ TryRecv → has_good kind call memory ≡ true → brings kind call a memory ≡ true → HasRoom call a memory
+pub try_recv_room : (kind : Kind) (call : Call) (a : Answer) (memory : Memory) → kind ≡ TryRecv → has_good_ranges kind call memory ≡ true → call_brings kind call a memory ≡ true → HasRoom call a memory
 try_recv_room kind call a memory is good brought =
     let ranges : (is_range memory call.a0 call.a1 && is_inside memory call.a2 4) ≡ true = rw is at good in
-    let counted : brings TryRecv call a memory ≡ true = rw is at brought in
+    let counted : call_brings TryRecv call a memory ≡ true = rw is at brought in
     room call a memory ranges (either_fits call a (takes_counted call a) refl (rw ranges at counted))

@@ -6,7 +6,7 @@ use Rattle.std.proofs.lemmas.Bool.{false_from_ne_true}
 use Rattle.std.proofs.lemmas.Bool.Decides.{Decides-eqb}
 use Rattle.std.proofs.lemmas.List.{drop-drop, drop-take, length-take-le, take-take}
 use Rattle.std.proofs.lemmas.Slice.Eq.{bytes_eq-Decides, slice_eq-Decides}
-use Rattle.guest_memory.specs.Memory.{stretch}
+use Rattle.guest_memory.specs.Memory.{stretch_in_page}
 use Rattle.lib_calls.proofs.MemoryRanges.{part_more, take-add}
 
 pub differ : (xs ys : List ℕ) → (xs ≡ ys → ⊥) → false ≡ bytes_eq xs ys
@@ -48,22 +48,22 @@ part_differs xs part count size differs long compared other is =
 -- one part more is the same
 pub same_more : (xs bytes : List ℕ) (addr count : ℕ) (part : List ℕ) → addr + length xs ≤ length bytes → count < length xs
     → take count xs ≡ take count (drop addr bytes)
-    → part ≡ take (stretch (addr + count) (length xs - count)) (drop (addr + count) bytes)
+    → part ≡ take (stretch_in_page (addr + count) (length xs - count)) (drop (addr + count) bytes)
     → take (length part) (drop count xs) ≡ part
     → (count + length part ≤ length xs) × (take (count + length part) xs ≡ take (count + length part) (drop addr bytes))
 same_more xs bytes addr count part inside more so_far is same =
-    let size : ℕ = stretch (addr + count) (length xs - count) in
+    let size : ℕ = stretch_in_page (addr + count) (length xs - count) in
     let fits : size ≤ length xs - count = omega arith in
     let long : length part ≡ size = ap length is ∙ length-take-le size (drop (addr + count) bytes) (omega (arith, length-drop (addr + count) bytes)) in
     (omega arith, take-add count (length part) xs ∙ rw (so_far, same) (ap (λ (t : List ℕ). take count (drop addr bytes) ++ t) (is ∙ ap (λ n. take n (drop (addr + count) bytes)) (sym long)) ∙ sym (part_more bytes addr count (length part))))
 
 -- a part that differs makes the whole differ
 pub other_part : (xs bytes : List ℕ) (addr count : ℕ) (part : List ℕ) → addr + length xs ≤ length bytes → count < length xs
-    → part ≡ take (stretch (addr + count) (length xs - count)) (drop (addr + count) bytes)
+    → part ≡ take (stretch_in_page (addr + count) (length xs - count)) (drop (addr + count) bytes)
     → (take (length part) (drop count xs) ≡ part → ⊥)
     → false ≡ bytes_eq xs (take (length xs) (drop addr bytes))
 other_part xs bytes addr count part inside more is other =
-    let size : ℕ = stretch (addr + count) (length xs - count) in
+    let size : ℕ = stretch_in_page (addr + count) (length xs - count) in
     let fits : size ≤ length xs - count = omega arith in
     let long : length part ≡ size = ap length is ∙ length-take-le size (drop (addr + count) bytes) (omega (arith, length-drop (addr + count) bytes)) in
     let left : ℕ = length xs - count in

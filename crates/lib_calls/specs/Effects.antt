@@ -26,16 +26,16 @@ is_range memory addr len = nat_le len 60000 && is_inside memory addr len
 
 -- the bytes that print, random, send, recv and try_recv name are such a range, and the 4 bytes in which
 -- recv and try_recv tell the sender lie in the memory too
-abbrev pub has_good : Kind → Call → Memory → Bool
-has_good Print call memory = is_range memory call.a0 call.a1
-has_good Random call memory = is_range memory call.a0 call.a1
-has_good Send call memory = is_range memory call.a1 call.a2
-has_good Recv call memory = is_range memory call.a0 call.a1 && is_inside memory call.a2 4
-has_good TryRecv call memory = is_range memory call.a0 call.a1 && is_inside memory call.a2 4
-has_good _ call memory = true
+abbrev pub has_good_ranges : Kind → Call → Memory → Bool
+has_good_ranges Print call memory = is_range memory call.a0 call.a1
+has_good_ranges Random call memory = is_range memory call.a0 call.a1
+has_good_ranges Send call memory = is_range memory call.a1 call.a2
+has_good_ranges Recv call memory = is_range memory call.a0 call.a1 && is_inside memory call.a2 4
+has_good_ranges TryRecv call memory = is_range memory call.a0 call.a1 && is_inside memory call.a2 4
+has_good_ranges _ call memory = true
 
 unfoldable pub is_good : Call → Memory → Bool
-is_good call memory = option_map_or (λ kind. has_good kind call memory) (kind_numbered call.kind) true
+is_good call memory = option_map_or (λ kind. has_good_ranges kind call memory) (kind_numbered call.kind) true
 
 -- the bytes of a range that a call may name, and none of another
 abbrev pub named : Memory → ℕ → ℕ → List ℕ
@@ -62,16 +62,16 @@ takes_counted call a = a.reply == length a.incoming && nat_le (length a.incoming
 
 -- where bytes may come in: bad arguments are answered -1, and good ones by the count of the bytes, or for
 -- try_recv also by -2
-abbrev pub brings : Kind → Call → Answer → Memory → Bool
-brings Random call a memory = if has_good Random call memory then takes_counted call a else takes_nothing minus_one a
-brings Recv call a memory = if has_good Recv call memory then takes_counted call a else takes_nothing minus_one a
-brings TryRecv call a memory =
-    if has_good TryRecv call memory then takes_counted call a || takes_nothing minus_two a else takes_nothing minus_one a
-brings _ call a memory = true
+abbrev pub call_brings : Kind → Call → Answer → Memory → Bool
+call_brings Random call a memory = if has_good_ranges Random call memory then takes_counted call a else takes_nothing minus_one a
+call_brings Recv call a memory = if has_good_ranges Recv call memory then takes_counted call a else takes_nothing minus_one a
+call_brings TryRecv call a memory =
+    if has_good_ranges TryRecv call memory then takes_counted call a || takes_nothing minus_two a else takes_nothing minus_one a
+call_brings _ call a memory = true
 
 -- the bytes that came in with an answer are those that the call lets come in
 unfoldable pub is_answer : Call → Answer → Memory → Bool
-is_answer call a memory = option_map_or (λ kind. brings kind call a memory) (kind_numbered call.kind) true
+is_answer call a memory = option_map_or (λ kind. call_brings kind call a memory) (kind_numbered call.kind) true
 
 -- the sender of a datagram, or all ones where it had no tag
 abbrev pub sender_of : Option Tag → ℕ
@@ -91,16 +91,16 @@ abbrev pub with_received : Call → Answer → Memory → Memory
 with_received call a memory = taken call a.incoming (to_le_bytes w32 (sender_of a.tag)) memory
 
 -- the memory after the answer to a call with good arguments; an empty try_recv writes nothing
-abbrev pub put_in : Kind → Call → Answer → Memory → Memory
-put_in Random call a memory = with_incoming call a memory
-put_in Recv call a memory = with_received call a memory
-put_in TryRecv call a memory = if a.reply == minus_two then memory else with_received call a memory
-put_in _ call a memory = memory
+abbrev pub put_in_memory : Kind → Call → Answer → Memory → Memory
+put_in_memory Random call a memory = with_incoming call a memory
+put_in_memory Recv call a memory = with_received call a memory
+put_in_memory TryRecv call a memory = if a.reply == minus_two then memory else with_received call a memory
+put_in_memory _ call a memory = memory
 
 -- the memory after the answer; bad arguments write nothing
 unfoldable pub memory_after_answer : Call → Answer → Memory → Memory
 memory_after_answer call a memory =
-    if is_good call memory then option_map_or (λ kind. put_in kind call a memory) (kind_numbered call.kind) memory else memory
+    if is_good call memory then option_map_or (λ kind. put_in_memory kind call a memory) (kind_numbered call.kind) memory else memory
 
 -- of what the answer writes, a first part of the bytes that came in and a first part of the sender's
 pub record WritesPart (call : Call) (a : Answer) (old new : Memory) : Type 0 where

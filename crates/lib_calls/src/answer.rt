@@ -3,9 +3,9 @@ ghost use Rattle.std.specs.Prelude.{◌≡◌, ◌+◌, ◌≤◌, length, OnOk,
 ghost use Rattle.guest_memory.specs.Memory.{WritesPrefix, with_bytes};
 ghost use Rattle.lib_calls.specs.Answer.{answer_of};
 ghost use Rattle.lib_calls.specs.Entry.{entry_of};
-ghost use Rattle.lib_calls.specs.Effects.{WritesPart, brings, with_incoming, has_good, is_answer, put_in, with_received, sender_of as sender_number, memory_after_answer};
+ghost use Rattle.lib_calls.specs.Effects.{WritesPart, call_brings, with_incoming, has_good_ranges, is_answer, put_in_memory, with_received, sender_of as sender_number, memory_after_answer};
 
-use crate::arguments::has_good;
+use crate::arguments::has_good_ranges;
 use crate::entry::EntryView;
 use call_table::Kind;
 use guest_memory::Memory;
@@ -32,7 +32,7 @@ pub fn write_back(entry: &EntryView<'_>, memory: &mut Memory) -> Result<(), Allo
         return Ok(());
     };
     // Most calls write nothing, whatever their arguments are.
-    if !kind.has_incoming() || !has_good(kind, &entry.call, memory) {
+    if !kind.has_incoming() || !has_good_ranges(kind, &entry.call, memory) {
         return Ok(());
     }
     write_answer(kind, entry, memory)
@@ -40,9 +40,9 @@ pub fn write_back(entry: &EntryView<'_>, memory: &mut Memory) -> Result<(), Allo
 
 // Writes what an answer does to a call of this kind with good arguments.
 fn write_answer(kind: Kind, entry: &EntryView<'_>, memory: &mut Memory) -> Result<(), AllocError>
-    requires good { IsTrue (has_good kind entry.now.call memory.old) }
-    requires answer { IsTrue (brings kind entry.now.call (answer_of (entry_of entry.now)) memory.old) }
-    ensures ok { OnOk result (memory.new ≡ put_in kind entry.now.call (answer_of (entry_of entry.now)) memory.old) }
+    requires good { IsTrue (has_good_ranges kind entry.now.call memory.old) }
+    requires answer { IsTrue (call_brings kind entry.now.call (answer_of (entry_of entry.now)) memory.old) }
+    ensures ok { OnOk result (memory.new ≡ put_in_memory kind entry.now.call (answer_of (entry_of entry.now)) memory.old) }
     ensures err { OnErr result (WritesPart entry.now.call (answer_of (entry_of entry.now)) memory.old memory.new) }
     ensures max { memory.new.max ≡ memory.old.max }
 {

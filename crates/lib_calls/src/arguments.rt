@@ -1,7 +1,7 @@
 // The bytes of the guest's memory that a call names.
 ghost use Rattle.std.specs.Prelude.{◌≡◌, ◌+◌, ◌^◌, ◌≤◌, bytes_eq, length, IfOk, IsTrue, []};
 ghost use Rattle.guest_memory.specs.Memory.{bytes_from, is_inside as is_inside_of};
-ghost use Rattle.lib_calls.specs.Effects.{has_good, is_good, is_range as is_range_of, named, outgoing_of, sent_out};
+ghost use Rattle.lib_calls.specs.Effects.{has_good_ranges, is_good, is_range as is_range_of, named, outgoing_of, sent_out};
 
 use crate::entry::Call;
 use call_table::Kind;
@@ -10,10 +10,10 @@ use guest_memory::Memory;
 use std::alloc::{AllocError, Global};
 
 // How many bytes a call may name.
-const MOST_BYTES: u64 = 60_000;
+const MOST_CALL_BYTES: u64 = 60_000;
 
 // How many bytes a page of the memory has.
-pub(crate) const PAGE: u64 = 65_536;
+pub(crate) const MEMORY_PAGE: u64 = 65_536;
 
 /// Whether each range of bytes that the call names lies in the memory and has at most 60,000 bytes. Only
 /// print, random, send, recv and try_recv name a range, and the last two also 4 bytes for the sender. An
@@ -23,14 +23,14 @@ pub fn good_arguments(call: &Call, memory: &Memory) -> bool
     ensures { result ≡ is_good call.now memory.now }
 {
     match Kind::from_number(call.kind) {
-        Some(kind) => has_good(kind, call, memory),
+        Some(kind) => has_good_ranges(kind, call, memory),
         None => true,
     }
 }
 
 // The same for a call of this kind.
-pub(crate) fn has_good(kind: Kind, call: &Call, memory: &Memory) -> bool
-    ensures { result ≡ has_good kind call.now memory.now }
+pub(crate) fn has_good_ranges(kind: Kind, call: &Call, memory: &Memory) -> bool
+    ensures { result ≡ has_good_ranges kind call.now memory.now }
 {
     match kind {
         Kind::Print | Kind::Random => is_range(memory, call.a0, call.a1),
@@ -48,7 +48,7 @@ fn is_range(memory: &Memory, addr: u64, len: u64) -> bool
     ensures value { result ≡ is_range_of memory.now addr len }
     ensures small { IsTrue result → addr + len ≤ 2 ^ 24 }
 {
-    len <= MOST_BYTES && is_inside(memory, addr, len)
+    len <= MOST_CALL_BYTES && is_inside(memory, addr, len)
 }
 
 // Whether the range lies in the memory, which is not large.
@@ -56,7 +56,7 @@ pub(crate) fn is_inside(memory: &Memory, addr: u64, len: u64) -> bool
     ensures value { result ≡ is_inside_of memory.now addr len }
     ensures small { IsTrue result → addr + len ≤ 2 ^ 24 }
 {
-    let count = PAGE * u64::from(memory.size());
+    let count = MEMORY_PAGE * u64::from(memory.size());
     addr <= count && len <= count - addr
 }
 

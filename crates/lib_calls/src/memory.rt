@@ -2,7 +2,7 @@
 ghost use Rattle.std.specs.Prelude.{◌≡◌, IfOk, Some, None, if◌then◌else◌};
 ghost use Rattle.guest_memory.specs.Memory.{bytes_from, is_inside as is_inside_of};
 
-use crate::arguments::{PAGE, is_inside, read};
+use crate::arguments::{MEMORY_PAGE, is_inside, read};
 use fri_bytes::Bytes;
 use guest_memory::Memory;
 use std::alloc::{AllocError, Global};
@@ -26,6 +26,6 @@ pub fn memory_part(
 pub fn memory_bytes(alloc: Global, memory: &Memory) -> Result<Bytes, AllocError>
     ensures { IfOk result (λ bytes. bytes ≡ memory.now.bytes) }
 {
-    let count = PAGE * u64::from(memory.size());
+    let count = MEMORY_PAGE * u64::from(memory.size());
     read(alloc, memory, 0, count)
 }

@@ -4,7 +4,7 @@ ghost use Rattle.fri_outside.specs.Outside.{WhenTold, Counts};
 ghost use Rattle.call_log.specs.Head.{IsHead};
 ghost use Rattle.call_log.specs.Limits.{most_log};
 ghost use Rattle.call_log.specs.Log.{head_at};
-ghost use Rattle.command_run.specs.Call.{CountsFaults, Raises, TellsResult, reads_after, writes_after};
+ghost use Rattle.command_run.specs.Call.{CountsFaults, RaisesCount, TellsResult, reads_after, writes_after};
 ghost use Rattle.command_run.specs.Outcome.{file_of};
 ghost use Rattle.log_files.specs.Logs.{log_or_bad_head};
 
@@ -19,7 +19,7 @@ pub fn take_log<F: Files>(alloc: Global, name: &str, files: &mut F) -> Result<Ve
     ensures within { IfOk result (λ bytes. vec_len bytes ≤ most_log) }
     ensures same { F.told files.new ≡ F.told files.old }
     ensures counts { CountsFaults (F.counts files.old) (F.counts files.new) result }
-    ensures cause { IfErr result (Raises (F.counts files.old) (F.counts files.new)) }
+    ensures cause { IfErr result (RaisesCount (F.counts files.old) (F.counts files.new)) }
 {
     take_file(alloc, name, MOST_LOG, files)
 }
@@ -29,7 +29,7 @@ pub fn begin_log<'b>(alloc: Global, name: &str, bytes: &'b [u8]) -> Result<LogVi
     ensures head { IfOk result (λ log. IsHead log.head) }
     ensures answer { TellsResult (λ log. (log.head, log.left)) (log_or_bad_head name.now (head_at bytes.now)) result }
     ensures shorter { IfOk result (λ log. length log.left.bytes ≤ length bytes.now) }
-    ensures cause { (old new : Counts) → IfErr result (Raises old new) }
+    ensures cause { (old new : Counts) → IfErr result (RaisesCount old new) }
     ensures still { (n : ℕ) → (reads_after n result ≡ n) × (writes_after n result ≡ n) }
 {
     match LogView::begin(bytes) {

@@ -11,14 +11,14 @@ use Rattle.proc_replay.specs.AtHead.{IsAtHead}
 use Rattle.proc_replay.specs.Replaying.{Replaying}
 use Rattle.log_pairs.specs.declared.pairs.Loaded.{Loaded as LoadedFiles}
 use Rattle.command_run.specs.declared.refusal.StopCause.{StopCause}
-use Rattle.command_run.specs.Call.{StopsAs}
+use Rattle.command_run.specs.Call.{StopsAsCause}
 use Rattle.command_run.specs.Inputs.{first_state_of}
 use Rattle.command_run.specs.Outcome.{CommandStop, and_then}
 use Rattle.log_pairs.specs.Pairs.{Loaded, insert_replay, replay_of_log, replays_of, sort_replays}
-use Rattle.log_pairs.specs.Seen.{AreLoaded, AreOneGroup, IsApart, IsLoaded}
+use Rattle.log_pairs.specs.Seen.{AreLoadedPairs, AreOneGroup, IsApartPair, IsLoadedPair}
 use Rattle.log_pairs.proofs.LogClashes.{all_so}
-use Rattle.command_run.specs.OutcomeLaws.{stops_then}
-use Rattle.command_run.specs.OutcomeLaws.{follows}
+use Rattle.command_run.specs.OutcomeLaws.{stops_before_next}
+use Rattle.command_run.specs.OutcomeLaws.{result_follows}
 use Rattle.log_pairs.proofs.PlacedReplays.{AreDistinct, Differ, all_ascend, all_placed_keeps, few_from, none_new, placed_last}
 
 -- before its first event
@@ -42,9 +42,9 @@ AreOf (x ∷ xs) [] = ⊥
 abbrev begun_at : Loaded → State → Result Replaying CommandStop
 begun_at l S = Ok (record { head = l.head; state = S; left = l.left })
 
-is_of : (x : LoadedFiles) (l : Loaded) (r : Replaying) → IsLoaded x l → replay_of_log l ≡ Ok r → IsOf x r
+is_of : (x : LoadedFiles) (l : Loaded) (r : Replaying) → IsLoadedPair x l → replay_of_log l ≡ Ok r → IsOf x r
 is_of x l r one begun =
-    let f = follows (first_state_of l.module_name l.«module» l.head.process l.head.count) _ r begun in
+    let f = result_follows (first_state_of l.module_name l.«module» l.head.process l.head.count) _ r begun in
     of f.given f.comes where
       head_in : Result Replaying CommandStop → Head
       head_in (Ok r) = r.head
@@ -64,12 +64,12 @@ is_of x l r one begun =
             within = subst (λ (left : Unread). length left.bytes ≤ most_log) (ap left_in is) one.within;
           }
 
-are_of : (xs : List LoadedFiles) (ls : List Loaded) (rs : List Replaying) → AreLoaded xs ls → replays_of ls ≡ Ok rs → AreOf xs rs
+are_of : (xs : List LoadedFiles) (ls : List Loaded) (rs : List Replaying) → AreLoadedPairs xs ls → replays_of ls ≡ Ok rs → AreOf xs rs
 are_of [] [] [] all is = tt
 are_of [] [] (r ∷ rs) all is = cc
 are_of (x ∷ xs) (l ∷ ls) rs all is =
-    let first = follows (replay_of_log l) _ rs is in
-    let rest = follows (replays_of ls) _ rs first.comes in
+    let first = result_follows (replay_of_log l) _ rs is in
+    let rest = result_follows (replays_of ls) _ rs first.comes in
     subst (AreOf (x ∷ xs)) (ap (value_in []) rest.comes) (is_of x l first.given all.0 first.is_given, are_of xs ls rest.given all.1 rest.is_given) where
       value_in : List Replaying → Result (List Replaying) CommandStop → List Replaying
       value_in default (Ok rs) = rs
@@ -83,7 +83,7 @@ all_of P so (x ∷ xs) (r ∷ rs) are = (so x r are.0, all_of P so xs rs are.1)
 all_of P so [] (r ∷ rs) are = absurd are
 all_of P so (x ∷ xs) [] are = absurd are
 
-differ_of : (x : LoadedFiles) (r : Replaying) (xs : List LoadedFiles) (rs : List Replaying) → IsOf x r → AreOf xs rs → AllByRecursion (IsApart x) xs → AllByRecursion (Differ r) rs
+differ_of : (x : LoadedFiles) (r : Replaying) (xs : List LoadedFiles) (rs : List Replaying) → IsOf x r → AreOf xs rs → AllByRecursion (IsApartPair x) xs → AllByRecursion (Differ r) rs
 differ_of x r [] [] one are apart = tt
 differ_of x r (y ∷ xs) (s ∷ rs) one are apart =
     (λ same. apart.0.process (one.process ∙ sym same ∙ sym are.0.process), differ_of x r xs rs one are.1 apart.1)
@@ -96,7 +96,7 @@ distinct_of (x ∷ xs) (r ∷ rs) are apart = (differ_of x r xs rs are.0 are.1 a
 distinct_of [] (r ∷ rs) are apart = absurd are
 distinct_of (x ∷ xs) [] are apart = absurd are
 
-same_of : (x : LoadedFiles) (r : Replaying) (xs : List LoadedFiles) (rs : List Replaying) → IsOf x r → AreOf xs rs → AllByRecursion (IsApart x) xs → AllByRecursion (λ s. s.head.count ≡ r.head.count) rs
+same_of : (x : LoadedFiles) (r : Replaying) (xs : List LoadedFiles) (rs : List Replaying) → IsOf x r → AreOf xs rs → AllByRecursion (IsApartPair x) xs → AllByRecursion (λ s. s.head.count ≡ r.head.count) rs
 same_of x r [] [] one are apart = tt
 same_of x r (y ∷ xs) (s ∷ rs) one are apart =
     (sym are.0.count ∙ sym apart.0.count ∙ one.count, same_of x r xs rs one are.1 apart.1)
@@ -125,7 +125,7 @@ pub record MakesGroup (rs : List Replaying) : Type 0 where
   pub heads : All (λ r. IsHead r.head) rs
   pub at_heads : All IsAtHead rs
 
-pub makes_group : (xs : List LoadedFiles) (ls : List Loaded) (rs : List Replaying) → AreLoaded xs ls → AreOneGroup xs → replays_of ls ≡ Ok rs → AllByRecursion IsFirst rs → MakesGroup (sort_replays [] rs)
+pub makes_group : (xs : List LoadedFiles) (ls : List Loaded) (rs : List Replaying) → AreLoadedPairs xs ls → AreOneGroup xs → replays_of ls ≡ Ok rs → AllByRecursion IsFirst rs → MakesGroup (sort_replays [] rs)
 makes_group xs ls rs all apart begun first =
     let are = are_of xs ls rs all begun in
     let fresh = all_so IsFirst (λ r. r.state.events ≡ 0) rs (λ r one. one.0) first in
@@ -170,7 +170,7 @@ pub record HasBegun (ls left : List Loaded) (sorted : List Replaying) : Type 0 w
 
 -- this holds whatever the pairs are that were read
 abbrev pub AreBegun : List LoadedFiles → List LoadedFiles → List Replaying → Type 0
-AreBegun all rest sorted = (ls : List Loaded) → AreLoaded all ls → (left : List Loaded) × (AreLoaded rest left × HasBegun ls left sorted)
+AreBegun all rest sorted = (ls : List Loaded) → AreLoadedPairs all ls → (left : List Loaded) × (AreLoadedPairs rest left × HasBegun ls left sorted)
 
 pub none_begun : (all : List LoadedFiles) → AreBegun all all []
 none_begun all ls are = (ls, (are, record { begun = []; so_far = none_before (replays_of ls); placed = refl; first = tt }))
@@ -190,31 +190,31 @@ begun_more ls left l r sorted after has is starts put = record {
 }
 
 pub one_begun : (all before rest : List LoadedFiles) (x : LoadedFiles) (r : Replaying) (sorted after : List Replaying) → AreBegun all before sorted → before ≡ x ∷ rest
-    → ((l : Loaded) → IsLoaded x l → replay_of_log l ≡ Ok r) → IsFirst r → after ≡ insert_replay r sorted → AreBegun all rest after
+    → ((l : Loaded) → IsLoadedPair x l → replay_of_log l ≡ Ok r) → IsFirst r → after ≡ insert_replay r sorted → AreBegun all rest after
 one_begun all before rest x r sorted after has next begins starts put ls are = step (has ls are) where
-  step : (left : List Loaded) × (AreLoaded before left × HasBegun ls left sorted) → (left : List Loaded) × (AreLoaded rest left × HasBegun ls left after)
-  step ([], (none, h)) = absurd (subst (λ (xs : List LoadedFiles). AreLoaded xs []) next none)
+  step : (left : List Loaded) × (AreLoadedPairs before left × HasBegun ls left sorted) → (left : List Loaded) × (AreLoadedPairs rest left × HasBegun ls left after)
+  step ([], (none, h)) = absurd (subst (λ (xs : List LoadedFiles). AreLoadedPairs xs []) next none)
   step (l ∷ left, (some, h)) =
-      let at = subst (λ (xs : List LoadedFiles). AreLoaded xs (l ∷ left)) next some in
+      let at = subst (λ (xs : List LoadedFiles). AreLoadedPairs xs (l ∷ left)) next some in
       (left, (at.1, begun_more ls left l r sorted after h (begins l at.0) starts put))
 
 -- a process did not begin
 pub beginning_stops : (all before rest : List LoadedFiles) (x : LoadedFiles) (sorted : List Replaying) (e : StopCause) → AreBegun all before sorted → before ≡ x ∷ rest
-    → ((l : Loaded) → IsLoaded x l → StopsAs (replay_of_log l) e) → (ls : List Loaded) → AreLoaded all ls → StopsAs (replays_of ls) e
+    → ((l : Loaded) → IsLoadedPair x l → StopsAsCause (replay_of_log l) e) → (ls : List Loaded) → AreLoadedPairs all ls → StopsAsCause (replays_of ls) e
 beginning_stops all before rest x sorted e has next stops ls are = step (has ls are) where
-  step : (left : List Loaded) × (AreLoaded before left × HasBegun ls left sorted) → StopsAs (replays_of ls) e
-  step ([], (none, h)) = absurd (subst (λ (xs : List LoadedFiles). AreLoaded xs []) next none)
+  step : (left : List Loaded) × (AreLoadedPairs before left × HasBegun ls left sorted) → StopsAsCause (replays_of ls) e
+  step ([], (none, h)) = absurd (subst (λ (xs : List LoadedFiles). AreLoadedPairs xs []) next none)
   step (l ∷ left, (some, h)) =
-      let at = subst (λ (xs : List LoadedFiles). AreLoaded xs (l ∷ left)) next some in
-      subst (λ (o : Result (List Replaying) CommandStop). StopsAs o e) (sym h.so_far)
-      (stops_then (replays_of (l ∷ left)) _ e (stops_then (replay_of_log l) _ e (stops l at.0)))
+      let at = subst (λ (xs : List LoadedFiles). AreLoadedPairs xs (l ∷ left)) next some in
+      subst (λ (o : Result (List Replaying) CommandStop). StopsAsCause o e) (sym h.so_far)
+      (stops_before_next (replays_of (l ∷ left)) _ e (stops_before_next (replay_of_log l) _ e (stops l at.0)))
 
 -- something that was read is at this place
-pub one_loaded : (all before rest : List LoadedFiles) (x : LoadedFiles) (sorted : List Replaying) → AreBegun all before sorted → before ≡ x ∷ rest → (ls : List Loaded) × AreLoaded all ls → (l : Loaded) × IsLoaded x l
+pub one_loaded : (all before rest : List LoadedFiles) (x : LoadedFiles) (sorted : List Replaying) → AreBegun all before sorted → before ≡ x ∷ rest → (ls : List Loaded) × AreLoadedPairs all ls → (l : Loaded) × IsLoadedPair x l
 one_loaded all before rest x sorted has next loaded = step (has loaded.0 loaded.1) where
-  step : (left : List Loaded) × (AreLoaded before left × HasBegun loaded.0 left sorted) → (l : Loaded) × IsLoaded x l
-  step ([], (none, h)) = absurd (subst (λ (xs : List LoadedFiles). AreLoaded xs []) next none)
-  step (l ∷ left, (some, h)) = (l, (subst (λ (xs : List LoadedFiles). AreLoaded xs (l ∷ left)) next some).0)
+  step : (left : List Loaded) × (AreLoadedPairs before left × HasBegun loaded.0 left sorted) → (l : Loaded) × IsLoadedPair x l
+  step ([], (none, h)) = absurd (subst (λ (xs : List LoadedFiles). AreLoadedPairs xs []) next none)
+  step (l ∷ left, (some, h)) = (l, (subst (λ (xs : List LoadedFiles). AreLoadedPairs xs (l ∷ left)) next some).0)
 
 -- all have begun
 pub record AllBegun (ls : List Loaded) (sorted : List Replaying) : Type 0 where
@@ -223,18 +223,18 @@ pub record AllBegun (ls : List Loaded) (sorted : List Replaying) : Type 0 where
   pub placed : sorted ≡ sort_replays [] begun
   pub first : AllByRecursion IsFirst begun
 
-pub all_begun : (all rest : List LoadedFiles) (sorted : List Replaying) → AreBegun all rest sorted → rest ≡ [] → (ls : List Loaded) → AreLoaded all ls → AllBegun ls sorted
+pub all_begun : (all rest : List LoadedFiles) (sorted : List Replaying) → AreBegun all rest sorted → rest ≡ [] → (ls : List Loaded) → AreLoadedPairs all ls → AllBegun ls sorted
 all_begun all rest sorted has none ls are = step (has ls are) where
-  step : (left : List Loaded) × (AreLoaded rest left × HasBegun ls left sorted) → AllBegun ls sorted
+  step : (left : List Loaded) × (AreLoadedPairs rest left × HasBegun ls left sorted) → AllBegun ls sorted
   step ([], (some, h)) = record {
     begun = h.begun;
     comes = h.so_far ∙ ap (λ (rs : List Replaying). Ok rs) (append-nil h.begun);
     placed = h.placed;
     first = h.first;
   }
-  step (l ∷ left, (some, h)) = absurd (subst (λ (xs : List LoadedFiles). AreLoaded xs (l ∷ left)) none some)
+  step (l ∷ left, (some, h)) = absurd (subst (λ (xs : List LoadedFiles). AreLoadedPairs xs (l ∷ left)) none some)
 
-pub group_begun : (all rest : List LoadedFiles) (sorted : List Replaying) → AreBegun all rest sorted → rest ≡ [] → (ls : List Loaded) × AreLoaded all ls → AreOneGroup all → MakesGroup sorted
+pub group_begun : (all rest : List LoadedFiles) (sorted : List Replaying) → AreBegun all rest sorted → rest ≡ [] → (ls : List Loaded) × AreLoadedPairs all ls → AreOneGroup all → MakesGroup sorted
 group_begun all rest sorted has none loaded apart =
     let b = all_begun all rest sorted has none loaded.0 loaded.1 in
     subst MakesGroup (sym b.placed) (makes_group all loaded.0 b.begun loaded.1 apart b.comes b.first)

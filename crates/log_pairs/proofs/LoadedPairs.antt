@@ -9,15 +9,15 @@ use Rattle.call_log.specs.Log.{Unread, head_at}
 use Rattle.log_pairs.specs.declared.pairs.Pair.{Pair as PairOfWords}
 use Rattle.log_pairs.specs.declared.pairs.Loaded.{Loaded as LoadedFiles}
 use Rattle.command_run.specs.declared.refusal.StopCause.{StopCause}
-use Rattle.command_run.specs.Call.{StopsAs}
+use Rattle.command_run.specs.Call.{StopsAsCause}
 use Rattle.log_pairs.specs.Pairs.{Pair}
 use Rattle.log_files.specs.Logs.{log_in, log_or_bad_head}
 use Rattle.command_run.specs.Inputs.{module_in}
 use Rattle.command_run.specs.Outcome.{CommandStop, and_then, file_of}
-use Rattle.log_pairs.specs.Pairs.{Loaded, clash, loaded_pair, loaded_pairs, unless_clash}
-use Rattle.log_pairs.specs.Seen.{AreLoaded, AreOneGroup, IsLoaded, pair_of}
+use Rattle.log_pairs.specs.Pairs.{Loaded, clash_of_logs, loaded_pair, loaded_pairs, unless_clash}
+use Rattle.log_pairs.specs.Seen.{AreLoadedPairs, AreOneGroup, IsLoadedPair, pair_of}
 use Rattle.log_pairs.proofs.LogClashes.{apart_more}
-use Rattle.command_run.specs.OutcomeLaws.{stops_then}
+use Rattle.command_run.specs.OutcomeLaws.{stops_before_next}
 
 -- ---- one pair
 
@@ -33,7 +33,7 @@ head_found name bytes log is = found (head_at bytes) is where
 
 -- a pair with these bytes, this head and these parts of it holds that
 pub is_loaded : (x : LoadedFiles) (pair : Pair) (bytes : List ℕ) (log : Head × Unread) (head : LogHead) → x.module_file.now ≡ pair.module_name → bytes ≡ x.log.items → log_or_bad_head pair.log_name (head_at bytes) ≡ Ok log
-    → IsHead log.0 → head_of head ≡ log.0 → x.count ≡ head.count → x.process ≡ head.process → x.name ≡ head.name.now → length log.1.bytes ≤ length bytes → length bytes ≤ most_log → IsLoaded x (read_as pair (shown x.«module») log)
+    → IsHead log.0 → head_of head ≡ log.0 → x.count ≡ head.count → x.process ≡ head.process → x.name ≡ head.name.now → length log.1.bytes ≤ length bytes → length bytes ≤ most_log → IsLoadedPair x (read_as pair (shown x.«module») log)
 is_loaded x pair bytes log head named held found in_range is count process name behind few = record {
   name = named;
   «module» = refl;
@@ -48,28 +48,28 @@ is_loaded x pair bytes log head named held found in_range is count process name 
 
 -- from the module on
 module_read : (folder : Folder) (ls : List Loaded) (pair : Pair) (m : Module) → module_in folder pair.module_name ≡ Ok m
-    → loaded_pair folder ls pair ≡ and_then (log_in folder pair.log_name) (λ log. unless_clash pair.log_name (read_as pair m log) (clash ls log.0))
+    → loaded_pair folder ls pair ≡ and_then (log_in folder pair.log_name) (λ log. unless_clash pair.log_name (read_as pair m log) (clash_of_logs ls log.0))
 module_read folder ls pair m is =
-    ap (λ (r : Result Module CommandStop). and_then r (λ m. and_then (log_in folder pair.log_name) (λ log. unless_clash pair.log_name (read_as pair m log) (clash ls log.0)))) is
+    ap (λ (r : Result Module CommandStop). and_then r (λ m. and_then (log_in folder pair.log_name) (λ log. unless_clash pair.log_name (read_as pair m log) (clash_of_logs ls log.0)))) is
 
 log_is : (folder : Folder) (name bytes : List ℕ) (log : Head × Unread) → file_of folder name most_log ≡ Ok bytes → log_or_bad_head name (head_at bytes) ≡ Ok log → log_in folder name ≡ Ok log
 log_is folder name bytes log read head = ap (λ (r : Result (List ℕ) CommandStop). and_then r (λ bytes. log_or_bad_head name (head_at bytes))) read ∙ head
 
 -- a pair whose files stand, and whose log does not clash
-pub pair_stands : (folder : Folder) (ls : List Loaded) (pair : Pair) (m : Module) (log : Head × Unread) → module_in folder pair.module_name ≡ Ok m → log_in folder pair.log_name ≡ Ok log → clash ls log.0 ≡ None
+pub pair_stands : (folder : Folder) (ls : List Loaded) (pair : Pair) (m : Module) (log : Head × Unread) → module_in folder pair.module_name ≡ Ok m → log_in folder pair.log_name ≡ Ok log → clash_of_logs ls log.0 ≡ None
     → loaded_pair folder ls pair ≡ Ok (read_as pair m log)
 pair_stands folder ls pair m log is stands none =
     module_read folder ls pair m is
-    ∙ ap (λ (r : Result (Head × Unread) CommandStop). and_then r (λ log. unless_clash pair.log_name (read_as pair m log) (clash ls log.0))) stands
+    ∙ ap (λ (r : Result (Head × Unread) CommandStop). and_then r (λ log. unless_clash pair.log_name (read_as pair m log) (clash_of_logs ls log.0))) stands
     ∙ ap (unless_clash pair.log_name (read_as pair m log)) none
 
 pub pair_read : (folder : Folder) (ls : List Loaded) (pair : Pair) (m : Module) (bytes : List ℕ) (log : Head × Unread) → module_in folder pair.module_name ≡ Ok m → file_of folder pair.log_name most_log ≡ Ok bytes
-    → log_or_bad_head pair.log_name (head_at bytes) ≡ Ok log → clash ls log.0 ≡ None → loaded_pair folder ls pair ≡ Ok (read_as pair m log)
+    → log_or_bad_head pair.log_name (head_at bytes) ≡ Ok log → clash_of_logs ls log.0 ≡ None → loaded_pair folder ls pair ≡ Ok (read_as pair m log)
 pair_read folder ls pair m bytes log is read head none = pair_stands folder ls pair m log is (log_is folder pair.log_name bytes log read head) none
 
 -- ---- pair after pair
 
-loaded_more : (xs : List LoadedFiles) (ls : List Loaded) (x : LoadedFiles) (l : Loaded) → AreLoaded xs ls → IsLoaded x l → AreLoaded (xs ++ x ∷ []) (ls ++ l ∷ [])
+loaded_more : (xs : List LoadedFiles) (ls : List Loaded) (x : LoadedFiles) (l : Loaded) → AreLoadedPairs xs ls → IsLoadedPair x l → AreLoadedPairs (xs ++ x ∷ []) (ls ++ l ∷ [])
 loaded_more [] [] x l all one = (one, tt)
 loaded_more (y ∷ xs) (k ∷ ls) x l all one = (all.0, loaded_more xs ls x l all.1 one)
 loaded_more [] (k ∷ ls) x l all one = absurd all
@@ -78,14 +78,14 @@ loaded_more (y ∷ xs) [] x l all one = absurd all
 -- some pairs hold this, and what is wanted of all is what comes of the others after them
 pub record SoFar (folder : Folder) (pairs left : List PairOfWords) (xs : List LoadedFiles) : Type 0 where
   pub held : List Loaded
-  pub are : AreLoaded xs held
+  pub are : AreLoadedPairs xs held
   pub wanted : loaded_pairs folder [] (map pair_of pairs) ≡ loaded_pairs folder held (map pair_of left)
 
 -- the pairs before some others were read
 pub record AreRead (told : Option Folder) (pairs left : List PairOfWords) (xs : List LoadedFiles) : Type 0 where
   pub so_far : WhenTold told (λ folder. SoFar folder pairs left xs)
   pub held : List Loaded
-  pub are : AreLoaded xs held
+  pub are : AreLoadedPairs xs held
   pub apart : AreOneGroup xs
 
 pub none_read : (told : Option Folder) (pairs : List PairOfWords) → AreRead told pairs pairs []
@@ -98,10 +98,10 @@ none_read told pairs = record {
 
 -- what reading a further pair gives
 abbrev pub Reads : Folder → PairOfWords → List LoadedFiles → LoadedFiles → Type 0
-Reads folder pair xs x = (ls : List Loaded) → AreLoaded xs ls → (is : Loaded) × ((loaded_pair folder ls (pair_of pair) ≡ Ok is) × IsLoaded x is)
+Reads folder pair xs x = (ls : List Loaded) → AreLoadedPairs xs ls → (is : Loaded) × ((loaded_pair folder ls (pair_of pair) ≡ Ok is) × IsLoadedPair x is)
 
 abbrev pub FitsBehind : List LoadedFiles → LoadedFiles → Type 0
-FitsBehind xs x = (ls : List Loaded) → AreLoaded xs ls → (is : Loaded) × (IsLoaded x is × (clash ls is.head ≡ None))
+FitsBehind xs x = (ls : List Loaded) → AreLoadedPairs xs ls → (is : Loaded) × (IsLoadedPair x is × (clash_of_logs ls is.head ≡ None))
 
 so_far_more : (folder : Folder) (pairs left : List PairOfWords) (pair : PairOfWords) (xs : List LoadedFiles) (x : LoadedFiles) → SoFar folder pairs (pair ∷ left) xs → Reads folder pair xs x → SoFar folder pairs left (xs ++ x ∷ [])
 so_far_more folder pairs left pair xs x so reads =
@@ -125,14 +125,14 @@ one_read told pairs before left pair xs after x read next reads fits pushed =
 
 -- a pair was refused
 pub reading_stops : (told : Option Folder) (pairs before left : List PairOfWords) (pair : PairOfWords) (xs : List LoadedFiles) (e : StopCause) → AreRead told pairs before xs → before ≡ pair ∷ left
-    → WhenTold told (λ folder. (ls : List Loaded) → AreLoaded xs ls → StopsAs (loaded_pair folder ls (pair_of pair)) e) → WhenTold told (λ folder. StopsAs (loaded_pairs folder [] (map pair_of pairs)) e)
+    → WhenTold told (λ folder. (ls : List Loaded) → AreLoadedPairs xs ls → StopsAsCause (loaded_pair folder ls (pair_of pair)) e) → WhenTold told (λ folder. StopsAsCause (loaded_pairs folder [] (map pair_of pairs)) e)
 reading_stops told pairs before left pair xs e read next stops folder is =
     let so = read.so_far folder is in
-    subst (λ (r : Result (List Loaded) CommandStop). StopsAs r e) (sym (so.wanted ∙ ap (λ (ps : List PairOfWords). loaded_pairs folder so.held (map pair_of ps)) next))
-    (stops_then (loaded_pair folder so.held (pair_of pair)) _ e (stops folder is so.held so.are))
+    subst (λ (r : Result (List Loaded) CommandStop). StopsAsCause r e) (sym (so.wanted ∙ ap (λ (ps : List PairOfWords). loaded_pairs folder so.held (map pair_of ps)) next))
+    (stops_before_next (loaded_pair folder so.held (pair_of pair)) _ e (stops folder is so.held so.are))
 
 pub all_read : (told : Option Folder) (pairs left : List PairOfWords) (xs : List LoadedFiles) → AreRead told pairs left xs → left ≡ []
-    → WhenTold told (λ folder. (ls : List Loaded) × ((loaded_pairs folder [] (map pair_of pairs) ≡ Ok ls) × AreLoaded xs ls))
+    → WhenTold told (λ folder. (ls : List Loaded) × ((loaded_pairs folder [] (map pair_of pairs) ≡ Ok ls) × AreLoadedPairs xs ls))
 all_read told pairs left xs read none folder is =
     let so = read.so_far folder is in
     (so.held, (so.wanted ∙ ap (λ (ps : List PairOfWords). loaded_pairs folder so.held (map pair_of ps)) none, so.are))

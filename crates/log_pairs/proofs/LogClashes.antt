@@ -9,8 +9,8 @@ use Rattle.call_log.specs.Head.{Head}
 use Rattle.log_pairs.specs.declared.pairs.Loaded.{Loaded as LoadedFiles}
 use Rattle.command_run.specs.declared.refusal.Reason.{Reason}
 use Rattle.command_run.specs.declared.refusal.Reason.TheVariants as reason
-use Rattle.log_pairs.specs.Pairs.{Loaded, clash, has_name, has_process, is_other_group}
-use Rattle.log_pairs.specs.Seen.{AreLoaded, AreOneGroup, IsApart, IsLoaded}
+use Rattle.log_pairs.specs.Pairs.{Loaded, clash_of_logs, has_name, has_process, is_other_group}
+use Rattle.log_pairs.specs.Seen.{AreLoadedPairs, AreOneGroup, IsApartPair, IsLoadedPair}
 
 -- ---- all of a list
 
@@ -24,7 +24,7 @@ all_push P (y ∷ xs) x all one = (all.0, all_push P xs x all.1 one)
 
 -- ---- the same tests of what was read and of what it holds
 
-pub processes_are : (xs : List LoadedFiles) (ls : List Loaded) (process : ℕ) → AreLoaded xs ls → list_any (λ x. nat_eq x.process process) xs ≡ has_process ls process
+pub processes_are : (xs : List LoadedFiles) (ls : List Loaded) (process : ℕ) → AreLoadedPairs xs ls → list_any (λ x. nat_eq x.process process) xs ≡ has_process ls process
 processes_are [] [] process all = refl
 processes_are (x ∷ xs) (l ∷ ls) process all =
     ap (λ (p : ℕ). nat_eq p process || list_any (λ x. nat_eq x.process process) xs) all.0.process
@@ -32,7 +32,7 @@ processes_are (x ∷ xs) (l ∷ ls) process all =
 processes_are [] (l ∷ ls) process all = absurd all
 processes_are (x ∷ xs) [] process all = absurd all
 
-pub names_are : (xs : List LoadedFiles) (ls : List Loaded) (name : List ℕ) → AreLoaded xs ls → list_any (λ x. bytes_eq x.name name) xs ≡ has_name ls name
+pub names_are : (xs : List LoadedFiles) (ls : List Loaded) (name : List ℕ) → AreLoadedPairs xs ls → list_any (λ x. bytes_eq x.name name) xs ≡ has_name ls name
 names_are [] [] name all = refl
 names_are (x ∷ xs) (l ∷ ls) name all =
     ap (λ (n : List ℕ). bytes_eq n name || list_any (λ x. bytes_eq x.name name) xs) all.0.head_name
@@ -57,7 +57,7 @@ no_reason false true c none = cc
 no_reason false false true none = cc
 no_reason false false false none = (refl, refl, refl)
 
-passes : (ls : List Loaded) (head : Head) → clash ls head ≡ None → Passes ls head
+passes : (ls : List Loaded) (head : Head) → clash_of_logs ls head ≡ None → Passes ls head
 passes ls head none =
     let h = no_reason (is_other_group ls head.count) (has_process ls head.process) (has_name ls head.name) none in
     record { group = h.0; process = h.1; name = h.2 }
@@ -76,16 +76,16 @@ other_name : (a b : List ℕ) → bytes_eq a b ≡ false → a ≢ b
 other_name a b none same = false≢true (sym none ∙ (bytes_eq-Decides a b).1 same)
 
 -- all are of as many processes as a further one
-counts_same : (xs : List LoadedFiles) (ls : List Loaded) (x : LoadedFiles) (l : Loaded) → AreLoaded xs ls → IsLoaded x l → AreOneGroup xs → is_other_group ls l.head.count ≡ false → AllByRecursion (λ y. y.count ≡ x.count) xs
+counts_same : (xs : List LoadedFiles) (ls : List Loaded) (x : LoadedFiles) (l : Loaded) → AreLoadedPairs xs ls → IsLoadedPair x l → AreOneGroup xs → is_other_group ls l.head.count ≡ false → AllByRecursion (λ y. y.count ≡ x.count) xs
 counts_same [] [] x l all one apart same = tt
 counts_same (y ∷ xs) (k ∷ ls) x l all one apart same =
     let first : y.count ≡ x.count = all.0.count ∙ not_equal k.head.count l.head.count same ∙ sym one.count in
-    (first, all_so (IsApart y) (λ z. z.count ≡ x.count) xs (λ z h. sym h.count ∙ first) apart.0)
+    (first, all_so (IsApartPair y) (λ z. z.count ≡ x.count) xs (λ z h. sym h.count ∙ first) apart.0)
 counts_same [] (k ∷ ls) x l all one apart same = absurd all
 counts_same (y ∷ xs) [] x l all one apart same = absurd all
 
-apart_from : (xs : List LoadedFiles) (ls : List Loaded) (x : LoadedFiles) (l : Loaded) → AreLoaded xs ls → IsLoaded x l → AllByRecursion (λ y. y.count ≡ x.count) xs → has_process ls l.head.process ≡ false → has_name ls l.head.name ≡ false
-    → AllByRecursion (λ y. IsApart y x) xs
+apart_from : (xs : List LoadedFiles) (ls : List Loaded) (x : LoadedFiles) (l : Loaded) → AreLoadedPairs xs ls → IsLoadedPair x l → AllByRecursion (λ y. y.count ≡ x.count) xs → has_process ls l.head.process ≡ false → has_name ls l.head.name ≡ false
+    → AllByRecursion (λ y. IsApartPair y x) xs
 apart_from [] [] x l all one counts process name = tt
 apart_from (y ∷ xs) (k ∷ ls) x l all one counts process name =
     let p = not_first (nat_eq k.head.process l.head.process) (has_process ls l.head.process) process in
@@ -100,12 +100,12 @@ apart_from (y ∷ xs) (k ∷ ls) x l all one counts process name =
 apart_from [] (k ∷ ls) x l all one counts process name = absurd all
 apart_from (y ∷ xs) [] x l all one counts process name = absurd all
 
-apart_push : (xs : List LoadedFiles) (x : LoadedFiles) → AreOneGroup xs → AllByRecursion (λ y. IsApart y x) xs → AreOneGroup (xs ++ x ∷ [])
+apart_push : (xs : List LoadedFiles) (x : LoadedFiles) → AreOneGroup xs → AllByRecursion (λ y. IsApartPair y x) xs → AreOneGroup (xs ++ x ∷ [])
 apart_push [] x apart each = (tt, tt)
-apart_push (y ∷ xs) x apart each = (all_push (IsApart y) xs x apart.0 each.0, apart_push xs x apart.1 each.1)
+apart_push (y ∷ xs) x apart each = (all_push (IsApartPair y) xs x apart.0 each.0, apart_push xs x apart.1 each.1)
 
 -- one pair more, whose log does not clash
-pub apart_more : (xs : List LoadedFiles) (ls : List Loaded) (x : LoadedFiles) (l : Loaded) → AreLoaded xs ls → IsLoaded x l → AreOneGroup xs → clash ls l.head ≡ None → AreOneGroup (xs ++ x ∷ [])
+pub apart_more : (xs : List LoadedFiles) (ls : List Loaded) (x : LoadedFiles) (l : Loaded) → AreLoadedPairs xs ls → IsLoadedPair x l → AreOneGroup xs → clash_of_logs ls l.head ≡ None → AreOneGroup (xs ++ x ∷ [])
 apart_more xs ls x l all one apart none =
     let h = passes ls l.head none in
     apart_push xs x apart (apart_from xs ls x l all one (counts_same xs ls x l all one apart h.group) h.process h.name)

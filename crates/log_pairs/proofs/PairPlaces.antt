@@ -9,7 +9,7 @@ use Rattle.std.proofs.lemmas.Option.{same_Some, slice_get-get_or, slice_get-map,
 use Rattle.log_pairs.specs.declared.pairs.Loaded.{Loaded as LoadedFiles}
 use Rattle.log_pairs.specs.declared.pairs.Pair.{Pair as PairOfWords}
 use Rattle.log_pairs.specs.Pairs.{Loaded}
-use Rattle.log_pairs.specs.Seen.{AreLoaded, IsLoaded, pair_of}
+use Rattle.log_pairs.specs.Seen.{AreLoadedPairs, IsLoadedPair, pair_of}
 use Rattle.log_pairs.specs.Finding.{pair_of_process}
 
 abbrev is_of : ℕ → Loaded → Bool
@@ -17,20 +17,20 @@ is_of process l = l.head.process == process
 
 -- none before this place is of the process
 abbrev pub NoneBefore : List LoadedFiles → ℕ → ℕ → Type 0
-NoneBefore all process n = (ls : List Loaded) → AreLoaded all ls → (k : ℕ) (l : Loaded) → k < n → slice_get ls k ≡ Some l → is_of process l ≡ false
+NoneBefore all process n = (ls : List Loaded) → AreLoadedPairs all ls → (k : ℕ) (l : Loaded) → k < n → slice_get ls k ≡ Some l → is_of process l ≡ false
 
 pub record LoadedAt (all : List LoadedFiles) (ls : List Loaded) (n : ℕ) (l : LoadedFiles) : Type 0 where
   pub is : Loaded
   pub here : slice_get ls n ≡ Some is
-  pub loaded : IsLoaded l is
+  pub loaded : IsLoadedPair l is
 
-pub loaded_at : (all : List LoadedFiles) (ls : List Loaded) → AreLoaded all ls → (n : ℕ) (l : LoadedFiles) → slice_get all n ≡ Some l → LoadedAt all ls n l
+pub loaded_at : (all : List LoadedFiles) (ls : List Loaded) → AreLoadedPairs all ls → (n : ℕ) (l : LoadedFiles) → slice_get all n ≡ Some l → LoadedAt all ls n l
 loaded_at [] ls are n l at = cc
 loaded_at (x ∷ all) [] are n l at = absurd are
-loaded_at (x ∷ all) (is ∷ ls) are zero l at = record { is = is; here = refl; loaded = subst (λ (l : LoadedFiles). IsLoaded l is) (same_Some x l at) are.0 }
+loaded_at (x ∷ all) (is ∷ ls) are zero l at = record { is = is; here = refl; loaded = subst (λ (l : LoadedFiles). IsLoadedPair l is) (same_Some x l at) are.0 }
 loaded_at (x ∷ all) (is ∷ ls) are (suc n) l at = let rest = loaded_at all ls are.1 n l at in record { is = rest.is; here = rest.here; loaded = rest.loaded }
 
-same_length : (all : List LoadedFiles) (ls : List Loaded) → AreLoaded all ls → length all ≡ length ls
+same_length : (all : List LoadedFiles) (ls : List Loaded) → AreLoadedPairs all ls → length all ≡ length ls
 same_length [] [] are = refl
 same_length [] (is ∷ ls) are = absurd are
 same_length (l ∷ all) [] are = absurd are
@@ -64,8 +64,8 @@ pub item_at : (all : List LoadedFiles) (n : ℕ) (l : LoadedFiles) → n < lengt
 item_at all n l within is = slice_get-get_or all n l within ∙ ap Some (sym is)
 
 -- the pair at the first place of the process
-pub found_at : (pairs : List PairOfWords) (all : List LoadedFiles) (process n : ℕ) (l : LoadedFiles) → NoneBefore all process n → slice_get all n ≡ Some l → ((is : Loaded) → IsLoaded l is → process ≡ is.head.process)
-    → (ls : List Loaded) → AreLoaded all ls → option_map pair_of (slice_get pairs n) ≡ pair_of_process (map pair_of pairs) ls process
+pub found_at : (pairs : List PairOfWords) (all : List LoadedFiles) (process n : ℕ) (l : LoadedFiles) → NoneBefore all process n → slice_get all n ≡ Some l → ((is : Loaded) → IsLoadedPair l is → process ≡ is.head.process)
+    → (ls : List Loaded) → AreLoadedPairs all ls → option_map pair_of (slice_get pairs n) ≡ pair_of_process (map pair_of pairs) ls process
 found_at pairs all process n l before at of ls are =
     let x = loaded_at all ls are n l at in
     let passes : is_of process x.is ≡ true = eq-eqb x.is.head.process process (sym (of x.is x.loaded)) in
@@ -74,14 +74,14 @@ found_at pairs all process n l before at of ls are =
     ∙ slice_get-map pair_of pairs n)
 
 -- no pair is of the process
-pub found_none : (pairs : List PairOfWords) (all : List LoadedFiles) (process n : ℕ) → NoneBefore all process n → length all ≤ n → (ls : List Loaded) → AreLoaded all ls
+pub found_none : (pairs : List PairOfWords) (all : List LoadedFiles) (process n : ℕ) → NoneBefore all process n → length all ≤ n → (ls : List Loaded) → AreLoadedPairs all ls
     → None ≡ pair_of_process (map pair_of pairs) ls process
 found_none pairs all process n before whole ls are =
     sym (ap (option_and_then (slice_get (map pair_of pairs)))
     (position_from-zero (is_of process) ls ∙ none_from (is_of process) 0 ls (λ k m below at. before ls are k m (omega (arith, below, whole, same_length all ls are)) at)))
 
 -- one more that is not of it
-pub none_more : (all : List LoadedFiles) (process n : ℕ) (l : LoadedFiles) → NoneBefore all process n → slice_get all n ≡ Some l → ((is : Loaded) → IsLoaded l is → (is.head.process == process) ≡ false)
+pub none_more : (all : List LoadedFiles) (process n : ℕ) (l : LoadedFiles) → NoneBefore all process n → slice_get all n ≡ Some l → ((is : Loaded) → IsLoadedPair l is → (is.head.process == process) ≡ false)
     → NoneBefore all process (n + 1)
 none_more all process n l before at other ls are k m below here = by_order (cases_lt k n) where
   x : LoadedAt all ls n l

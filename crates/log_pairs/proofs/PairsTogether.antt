@@ -8,7 +8,7 @@ use Rattle.std.proofs.lemmas.Bool.Decides.{eqb_tells}
 use Rattle.std.proofs.lemmas.List.{length-append}
 use Rattle.std.proofs.lemmas.Slice.Eq.{bytes_eq-Decides}
 use Rattle.call_log.specs.Head.{Head}
-use Rattle.log_pairs.specs.Pairs.{Loaded, clash, has_name, has_process, is_other_group}
+use Rattle.log_pairs.specs.Pairs.{Loaded, clash_of_logs, has_name, has_process, is_other_group}
 use Rattle.log_pairs.specs.Valid.{GoTogether}
 use Rattle.log_pairs.proofs.LogClashes.{first_reason}
 
@@ -54,12 +54,12 @@ no_name [] h all = refl
 no_name (l ∷ ls) h all =
     ap (λ (b : Bool). b || has_name ls h.name) (never (bytes_eq l.head.name h.name) (λ e. all.0.name ((bytes_eq-Decides l.head.name h.name).0 e))) ∙ no_name ls h all.1
 
-clashes_not : (ls : List Loaded) (h : Head) → AllByRecursion (λ l. GoTogether l.head h) ls → clash ls h ≡ None
+clashes_not : (ls : List Loaded) (h : Head) → AllByRecursion (λ l. GoTogether l.head h) ls → clash_of_logs ls h ≡ None
 clashes_not ls h all =
     ap (λ (b : Bool). first_reason b (has_process ls h.process) (has_name ls h.name)) (same_group ls h all)
     ∙ ap (λ (b : Bool). first_reason false b (has_name ls h.name)) (no_process ls h all)
     ∙ ap (first_reason false false) (no_name ls h all)
 
 -- a head after those of some pairs, where each two go together
-pub no_clash : (ls : List Loaded) (h : Head) (rest : List Head) → AllPairs GoTogether (map (λ l. l.head) ls ++ h ∷ rest) → clash ls h ≡ None
+pub no_clash : (ls : List Loaded) (h : Head) (rest : List Head) → AllPairs GoTogether (map (λ l. l.head) ls ++ h ∷ rest) → clash_of_logs ls h ≡ None
 no_clash ls h rest all = clashes_not ls h (of_heads (λ x. GoTogether x h) ls (before_it GoTogether (map (λ l. l.head) ls) h rest all))

@@ -4,7 +4,7 @@ use Rattle.std.specs.Prelude.{nat_lt}
 use Rattle.std.specs.List.{AllByRecursion, insert, prefix_len, take_while}
 use Rattle.std.proofs.lemmas.Bool.{ltb-false, ltb-true}
 use Rattle.std.proofs.lemmas.List.Folds.{length-prefix_len}
-use Rattle.group_state.specs.Place.{Ascends}
+use Rattle.group_state.specs.Place.{AscendsByProcess}
 use Rattle.proc_replay.specs.Replaying.{Replaying}
 use Rattle.log_pairs.specs.Pairs.{insert_replay, sort_replays}
 use Rattle.log_pairs.proofs.LogClashes.{all_so}
@@ -53,10 +53,10 @@ all_placed_keeps P sorted (r ∷ rs) before all = all_placed_keeps P (insert_rep
 abbrev pub Differ : Replaying → Replaying → Type 0
 Differ r s = s.head.process ≢ r.head.process
 
-ascends_more : (r : Replaying) (rs : List Replaying) → Ascends rs → AllByRecursion (Differ r) rs → Ascends (insert_replay r rs)
+ascends_more : (r : Replaying) (rs : List Replaying) → AscendsByProcess rs → AllByRecursion (Differ r) rs → AscendsByProcess (insert_replay r rs)
 ascends_more r [] ascends differ = (tt, tt)
 ascends_more r (s ∷ rs) ascends differ = by_test (nat_lt s.head.process r.head.process) refl (ascends_more r rs ascends.1 differ.1) where
-  by_test : (b : Bool) → nat_lt s.head.process r.head.process ≡ b → Ascends (insert_replay r rs) → Ascends (cond b (s ∷ insert_replay r rs) (r ∷ s ∷ rs))
+  by_test : (b : Bool) → nat_lt s.head.process r.head.process ≡ b → AscendsByProcess (insert_replay r rs) → AscendsByProcess (cond b (s ∷ insert_replay r rs) (r ∷ s ∷ rs))
   by_test true is rest = (placed_keeps (λ t. s.head.process < t.head.process) r rs (ltb-true s.head.process r.head.process is) ascends.0, rest)
   by_test false is rest =
       let below : r.head.process < s.head.process = omega (arith, ltb-false s.head.process r.head.process is, differ.0) in
@@ -75,7 +75,7 @@ new_behind r sorted [] new differ = tt
 new_behind r sorted (s ∷ rs) new differ =
     (placed_keeps (Differ s) r sorted (λ same. differ.0 (sym same)) new.0, new_behind r sorted rs new.1 differ.1)
 
-pub all_ascend : (sorted rs : List Replaying) → Ascends sorted → AreNew sorted rs → AreDistinct rs → Ascends (sort_replays sorted rs)
+pub all_ascend : (sorted rs : List Replaying) → AscendsByProcess sorted → AreNew sorted rs → AreDistinct rs → AscendsByProcess (sort_replays sorted rs)
 all_ascend sorted [] ascends new distinct = ascends
 all_ascend sorted (r ∷ rs) ascends new distinct =
     all_ascend (insert_replay r sorted) rs (ascends_more r sorted ascends new.0) (new_behind r sorted rs new.1 distinct.0) distinct.1
@@ -86,7 +86,7 @@ none_new (r ∷ rs) = (tt, none_new rs)
 
 -- ---- they are few
 
-pub few_from : (least limit : ℕ) (rs : List Replaying) → least ≤ limit → Ascends rs → AllByRecursion (λ r. least ≤ r.head.process) rs → AllByRecursion (λ r. r.head.process < limit) rs → least + length rs ≤ limit
+pub few_from : (least limit : ℕ) (rs : List Replaying) → least ≤ limit → AscendsByProcess rs → AllByRecursion (λ r. least ≤ r.head.process) rs → AllByRecursion (λ r. r.head.process < limit) rs → least + length rs ≤ limit
 few_from least limit [] within ascends above below = omega arith
 few_from least limit (r ∷ rs) within ascends above below =
     let first : least ≤ r.head.process = above.0 in

@@ -11,7 +11,7 @@ use Rattle.command_run.specs.declared.refusal.Reason.TheVariants as reason
 use Rattle.command_run.specs.Inputs.{first_state_of, module_in}
 use Rattle.log_files.specs.Logs.{log_in}
 use Rattle.command_run.specs.declared.refusal.StopCause.{StopCause}
-use Rattle.command_run.specs.Call.{StopsAs}
+use Rattle.command_run.specs.Call.{StopsAsCause}
 use Rattle.command_run.specs.Outcome.{CommandStop, and_then, refuses_at_once}
 
 -- the files of a module and of a log of its process
@@ -40,8 +40,8 @@ abbrev pub has_name : List Loaded → List ℕ → Bool
 has_name earlier name = list_any (λ l. bytes_eq l.head.name name) earlier
 
 -- why it does not go with them, by the first test that it fails
-abbrev pub clash : List Loaded → Head → Option Reason
-clash earlier head =
+abbrev pub clash_of_logs : List Loaded → Head → Option Reason
+clash_of_logs earlier head =
     if is_other_group earlier head.count then Some reason.OtherGroup
     else if has_process earlier head.process then Some reason.SameProcess
     else if has_name earlier head.name then Some reason.SameName
@@ -57,7 +57,7 @@ unless_clash log_name l (Some why) = Err (refuses_at_once log_name why)
 abbrev pub loaded_pair : Folder → List Loaded → Pair → Result Loaded CommandStop
 loaded_pair folder earlier pair =
     and_then (module_in folder pair.module_name) (λ m. and_then (log_in folder pair.log_name) (λ log.
-    unless_clash pair.log_name (record { module_name = pair.module_name; «module» = m; head = log.0; left = log.1 }) (clash earlier log.0)))
+    unless_clash pair.log_name (record { module_name = pair.module_name; «module» = m; head = log.0; left = log.1 }) (clash_of_logs earlier log.0)))
 
 abbrev pub loaded_pairs : Folder → List Loaded → List Pair → Result (List Loaded) CommandStop
 loaded_pairs folder earlier [] = Ok earlier
@@ -96,4 +96,4 @@ WasOpened pairs told start = WhenTold told (λ folder. replays_of_pairs folder p
 
 -- none could be, for this refusal
 abbrev pub NoneOpened : List Pair → Option Folder → StopCause → Type 0
-NoneOpened pairs told e = WhenTold told (λ folder. StopsAs (replays_of_pairs folder pairs) e)
+NoneOpened pairs told e = WhenTold told (λ folder. StopsAsCause (replays_of_pairs folder pairs) e)

@@ -6,7 +6,7 @@ use Rattle.wasm_types.specs.Modules.{module_of}
 use Rattle.call_log.specs.Head.{IsHead}
 use Rattle.call_log.specs.Limits.{most_log}
 use Rattle.call_log.specs.Log.{head_at}
-use Rattle.command_run.specs.Call.{StopsAs}
+use Rattle.command_run.specs.Call.{StopsAsCause}
 use Rattle.command_run.specs.declared.refusal.StopCause.{StopCause}
 use Rattle.log_pairs.specs.declared.pairs.Loaded.{Loaded as LoadedFiles}
 use Rattle.log_pairs.specs.declared.pairs.Pair.{Pair as PairOfWords}
@@ -16,7 +16,7 @@ abbrev pub pair_of : PairOfWords → Pair
 pair_of pair = record { module_name = pair.module_file.now; log_name = pair.log_file.now }
 
 -- the files of a pair hold this
-pub record IsLoaded (l : LoadedFiles) (is : Loaded) : Type 0 where
+pub record IsLoadedPair (l : LoadedFiles) (is : Loaded) : Type 0 where
   pub name : l.module_file.now ≡ is.module_name
   pub «module» : module_of l.«module» ≡ is.«module»
   pub log : head_at l.log.items ≡ Some (is.head, is.left)
@@ -28,27 +28,27 @@ pub record IsLoaded (l : LoadedFiles) (is : Loaded) : Type 0 where
   pub whole : length l.log.items ≤ most_log
 
 -- so many pairs hold so many of these
-abbrev pub AreLoaded : List LoadedFiles → List Loaded → Type 0
-AreLoaded [] [] = Unit {0}
-AreLoaded (l ∷ ls) (is ∷ all) = IsLoaded l is × AreLoaded ls all
-AreLoaded [] (is ∷ all) = ⊥
-AreLoaded (l ∷ ls) [] = ⊥
+abbrev pub AreLoadedPairs : List LoadedFiles → List Loaded → Type 0
+AreLoadedPairs [] [] = Unit {0}
+AreLoadedPairs (l ∷ ls) (is ∷ all) = IsLoadedPair l is × AreLoadedPairs ls all
+AreLoadedPairs [] (is ∷ all) = ⊥
+AreLoadedPairs (l ∷ ls) [] = ⊥
 
 -- what a pair comes to after the pairs before it, or why it does not
 abbrev pub LoadsPair : Folder → List LoadedFiles → Pair → Result LoadedFiles StopCause → Type 0
-LoadsPair folder earlier pair result = (ls : List Loaded) → AreLoaded earlier ls
-    → MatchResult result (λ l. (is : Loaded) × ((loaded_pair folder ls pair ≡ Ok is) × IsLoaded l is)) (StopsAs (loaded_pair folder ls pair))
+LoadsPair folder earlier pair result = (ls : List Loaded) → AreLoadedPairs earlier ls
+    → MatchResult result (λ l. (is : Loaded) × ((loaded_pair folder ls pair ≡ Ok is) × IsLoadedPair l is)) (StopsAsCause (loaded_pair folder ls pair))
 
 -- they are of one group, and each of another process with another name
-pub record IsApart (l other : LoadedFiles) : Type 0 where
+pub record IsApartPair (l other : LoadedFiles) : Type 0 where
   pub count : l.count ≡ other.count
   pub process : l.process ≢ other.process
   pub name : l.name ≢ other.name
 
 abbrev pub AreOneGroup : List LoadedFiles → Type 0
 AreOneGroup [] = Unit {0}
-AreOneGroup (l ∷ ls) = AllByRecursion (IsApart l) ls × AreOneGroup ls
+AreOneGroup (l ∷ ls) = AllByRecursion (IsApartPair l) ls × AreOneGroup ls
 
 -- the files of these pairs were read, as far as the folder tells them
 abbrev pub WereLoaded : List Pair → Option Folder → List LoadedFiles → Type 0
-WereLoaded pairs told all = WhenTold told (λ folder. (ls : List Loaded) × ((loaded_pairs folder [] pairs ≡ Ok ls) × AreLoaded all ls))
+WereLoaded pairs told all = WhenTold told (λ folder. (ls : List Loaded) × ((loaded_pairs folder [] pairs ≡ Ok ls) × AreLoadedPairs all ls))

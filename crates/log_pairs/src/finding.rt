@@ -2,13 +2,13 @@
 ghost use Rattle.std.specs.Prelude.{◌≡◌, List, map, option_map};
 ghost use Rattle.log_pairs.specs.Finding.{first_log, log_file, module_file, pair_of_process};
 ghost use Rattle.log_pairs.specs.Pairs.{Loaded as LoadedOf};
-ghost use Rattle.log_pairs.specs.Seen.{AreLoaded, pair_of};
+ghost use Rattle.log_pairs.specs.Seen.{AreLoadedPairs, pair_of};
 
 use crate::pairs::{Loaded, Pair};
 
 // The pair whose log is of this process.
 fn pair_of_process<'a>(pairs: &[Pair<'a>], all: &[Loaded<'a>], process: u32) -> Option<Pair<'a>>
-    ensures { (ls : List LoadedOf) → AreLoaded all.now ls → option_map pair_of result ≡ pair_of_process (map pair_of pairs.now) ls process }
+    ensures { (ls : List LoadedOf) → AreLoadedPairs all.now ls → option_map pair_of result ≡ pair_of_process (map pair_of pairs.now) ls process }
 {
     for place in 0..all.len() {
         if all[place].process() == process {
@@ -20,7 +20,7 @@ fn pair_of_process<'a>(pairs: &[Pair<'a>], all: &[Loaded<'a>], process: u32) -> 
 
 /// The file of the module of the process, and no name where no pair is of it.
 pub fn module_file<'a>(pairs: &[Pair<'a>], all: &[Loaded<'a>], process: u32) -> &'a str
-    ensures { (ls : List LoadedOf) → AreLoaded all.now ls → result.now ≡ module_file (map pair_of pairs.now) ls process }
+    ensures { (ls : List LoadedOf) → AreLoadedPairs all.now ls → result.now ≡ module_file (map pair_of pairs.now) ls process }
 {
     match pair_of_process(pairs, all, process) {
         Some(pair) => pair.module_file,
@@ -30,7 +30,7 @@ pub fn module_file<'a>(pairs: &[Pair<'a>], all: &[Loaded<'a>], process: u32) -> 
 
 /// The file of the log of the process, and no name where no pair is of it.
 pub fn log_file<'a>(pairs: &[Pair<'a>], all: &[Loaded<'a>], process: u32) -> &'a str
-    ensures { (ls : List LoadedOf) → AreLoaded all.now ls → result.now ≡ log_file (map pair_of pairs.now) ls process }
+    ensures { (ls : List LoadedOf) → AreLoadedPairs all.now ls → result.now ≡ log_file (map pair_of pairs.now) ls process }
 {
     match pair_of_process(pairs, all, process) {
         Some(pair) => pair.log_file,

@@ -5,10 +5,10 @@ ghost use Rattle.fri_outside.specs.Outside.{Counts, Folder, WhenTold};
 ghost use Rattle.call_log.specs.Head.{IsHead, head_of};
 ghost use Rattle.proc_replay.specs.AtHead.{IsAtHead};
 ghost use Rattle.group_state.specs.Place.{AreParts};
-ghost use Rattle.command_run.specs.Call.{CountsFaults, Raises, TellsResult, reads_after, writes_after};
+ghost use Rattle.command_run.specs.Call.{CountsFaults, RaisesCount, TellsResult, reads_after, writes_after};
 ghost use Rattle.command_run.specs.Kept.{AreOfFiles};
-ghost use Rattle.log_pairs.specs.Pairs.{Loaded as LoadedOf, NoneOpened, Pair as PairOf, WasOpened, clash, has_name, has_process, insert_replay, is_other_group, replay_of_log};
-ghost use Rattle.log_pairs.specs.Seen.{AreLoaded, AreOneGroup, IsLoaded, LoadsPair, WereLoaded, pair_of};
+ghost use Rattle.log_pairs.specs.Pairs.{Loaded as LoadedOf, NoneOpened, Pair as PairOf, WasOpened, clash_of_logs, has_name, has_process, insert_replay, is_other_group, replay_of_log};
+ghost use Rattle.log_pairs.specs.Seen.{AreLoadedPairs, AreOneGroup, IsLoadedPair, LoadsPair, WereLoaded, pair_of};
 
 use call_log::{LogHead, LogView};
 use command_run::{ModuleFiles, Reason, StopCause, begin_process};
@@ -41,15 +41,15 @@ pub struct Loaded<'a> {
 impl Loaded<'_> {
     /// The number of the process that the log is of.
     pub fn process(&self) -> u32
-        ensures { (is : LoadedOf) → IsLoaded self.now is → result ≡ is.head.process }
+        ensures { (is : LoadedOf) → IsLoadedPair self.now is → result ≡ is.head.process }
     {
         self.process
     }
 }
 
 // Why a log does not go with the pairs before it.
-fn clash(earlier: &[Loaded<'_>], head: &LogHead<'_>) -> Option<Reason>
-    ensures answer { (ls : List LoadedOf) → AreLoaded earlier.now ls → result ≡ clash ls (head_of head.now) }
+fn clash_of_logs(earlier: &[Loaded<'_>], head: &LogHead<'_>) -> Option<Reason>
+    ensures answer { (ls : List LoadedOf) → AreLoadedPairs earlier.now ls → result ≡ clash_of_logs ls (head_of head.now) }
     ensures cause { IfSome result (λ why. why ≢ Reason.TooLarge) }
 {
     if is_other_group(earlier, head.count) {
@@ -66,7 +66,7 @@ fn clash(earlier: &[Loaded<'_>], head: &LogHead<'_>) -> Option<Reason>
 
 // Whether the first pair is of a group of another number of processes.
 fn is_other_group(earlier: &[Loaded<'_>], count: u32) -> bool
-    ensures { (ls : List LoadedOf) → AreLoaded earlier.now ls → result ≡ is_other_group ls count }
+    ensures { (ls : List LoadedOf) → AreLoadedPairs earlier.now ls → result ≡ is_other_group ls count }
 {
     match earlier {
         [] => false,
@@ -76,14 +76,14 @@ fn is_other_group(earlier: &[Loaded<'_>], count: u32) -> bool
 
 // Whether a pair is of this process.
 fn has_process(earlier: &[Loaded<'_>], process: u32) -> bool
-    ensures { (ls : List LoadedOf) → AreLoaded earlier.now ls → result ≡ has_process ls process }
+    ensures { (ls : List LoadedOf) → AreLoadedPairs earlier.now ls → result ≡ has_process ls process }
 {
     earlier.iter().any(|l| l.process == process)
 }
 
 // Whether a pair is of a process of this name.
 fn has_name(earlier: &[Loaded<'_>], name: &[u8]) -> bool
-    ensures { (ls : List LoadedOf) → AreLoaded earlier.now ls → result ≡ has_name ls name.now }
+    ensures { (ls : List LoadedOf) → AreLoadedPairs earlier.now ls → result ≡ has_name ls name.now }
 {
     earlier.iter().any(|l| l.name.as_slice() == name)
 }
@@ -98,17 +98,17 @@ fn load<'a, F: Files>(
 ) -> Result<Loaded<'a>, StopCause>
     requires { AreOfFiles (F.told files.old) modules.old }
     ensures answer { WhenTold (F.told files.old) (λ folder. LoadsPair folder earlier.now (pair_of pair.entry) result) }
-    ensures fits { IfOk result (λ l. (ls : List LoadedOf) → AreLoaded earlier.now ls
-        → (is : LoadedOf) × (IsLoaded l is × (clash ls is.head ≡ None))) }
+    ensures fits { IfOk result (λ l. (ls : List LoadedOf) → AreLoadedPairs earlier.now ls
+        → (is : LoadedOf) × (IsLoadedPair l is × (clash_of_logs ls is.head ≡ None))) }
     ensures kept { AreOfFiles (F.told files.old) modules.new }
     ensures same { F.told files.new ≡ F.told files.old }
     ensures counts { CountsFaults (F.counts files.old) (F.counts files.new) result }
-    ensures cause { IfErr result (Raises (F.counts files.old) (F.counts files.new)) }
+    ensures cause { IfErr result (RaisesCount (F.counts files.old) (F.counts files.new)) }
 {
     let module = modules.take(alloc, pair.module_file, files)?;
     let log = take_log(alloc, pair.log_file, files)?;
     let head = begin_log(alloc, pair.log_file, &log)?.head();
-    if let Some(why) = clash(earlier, &head) {
+    if let Some(why) = clash_of_logs(earlier, &head) {
         return Err(StopCause::refuse(alloc, pair.log_file, why));
     }
     let name = Bytes::from_slice(alloc, head.name)?;
@@ -131,11 +131,11 @@ pub fn load_all<'a, F: Files>(
 ) -> Result<Vec<Loaded<'a>>, StopCause>
     ensures answer { MatchResult result (λ all. WereLoaded (map pair_of pairs.now) (F.told files.old) all.items)
         (NoneOpened (map pair_of pairs.now) (F.told files.old)) }
-    ensures loaded { IfOk result (λ all. (ls : List LoadedOf) × AreLoaded all.items ls) }
+    ensures loaded { IfOk result (λ all. (ls : List LoadedOf) × AreLoadedPairs all.items ls) }
     ensures apart { IfOk result (λ all. AreOneGroup all.items) }
     ensures same { F.told files.new ≡ F.told files.old }
     ensures counts { CountsFaults (F.counts files.old) (F.counts files.new) result }
-    ensures cause { IfErr result (Raises (F.counts files.old) (F.counts files.new)) }
+    ensures cause { IfErr result (RaisesCount (F.counts files.old) (F.counts files.new)) }
 {
     let mut modules = ModuleFiles::new(alloc);
     let mut all = Vec::new(alloc);
@@ -148,11 +148,11 @@ pub fn load_all<'a, F: Files>(
 
 // The replay of a log from the first state of its process.
 fn begin_replay<'m>(alloc: Global, loaded: &'m Loaded<'_>) -> Result<Replayer<'m, 'm>, StopCause>
-    requires { (is : LoadedOf) × IsLoaded loaded.now is }
-    ensures answer { (is : LoadedOf) → IsLoaded loaded.now is → TellsResult (λ replay. replay) (replay_of_log is) result }
+    requires { (is : LoadedOf) × IsLoadedPair loaded.now is }
+    ensures answer { (is : LoadedOf) → IsLoadedPair loaded.now is → TellsResult (λ replay. replay) (replay_of_log is) result }
     ensures fresh { IfOk result (λ replay. replay.state.events ≡ 0) }
     ensures at_head { IfOk result IsAtHead }
-    ensures cause { (old new : Counts) → IfErr result (Raises old new) }
+    ensures cause { (old new : Counts) → IfErr result (RaisesCount old new) }
     ensures still { (n : ℕ) → (reads_after n result ≡ n) × (writes_after n result ≡ n) }
 {
     call_log::laws::exact_logs();
@@ -193,14 +193,14 @@ pub fn begin_all<'m>(
     alloc: Global,
     all: &'m [Loaded<'_>],
 ) -> Result<Vec<Replayer<'m, 'm>>, StopCause>
-    requires loaded { (ls : List LoadedOf) × AreLoaded all.now ls }
+    requires loaded { (ls : List LoadedOf) × AreLoadedPairs all.now ls }
     requires apart { AreOneGroup all.now }
     ensures answer { (pairs : List PairOf) (told : Option Folder) → WereLoaded pairs told all.now → MatchResult result
         (λ replays. WasOpened pairs told replays.items) (NoneOpened pairs told) }
     ensures parts { IfOk result (λ replays. AreParts replays.items) }
     ensures heads { IfOk result (λ replays. All (λ r. IsHead r.head) replays.items) }
     ensures at_heads { IfOk result (λ replays. All IsAtHead replays.items) }
-    ensures cause { (old new : Counts) → IfErr result (Raises old new) }
+    ensures cause { (old new : Counts) → IfErr result (RaisesCount old new) }
     ensures still { (n : ℕ) → (reads_after n result ≡ n) × (writes_after n result ≡ n) }
 {
     let mut sorted = Vec::new(alloc);

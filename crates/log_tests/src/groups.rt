@@ -2,7 +2,7 @@
 ghost use Rattle.std.specs.Prelude.{List};
 ghost use Rattle.group_state.specs.Place.{AreParts};
 ghost use Rattle.log_pairs.specs.Pairs.{Loaded as LoadedOf};
-ghost use Rattle.log_pairs.specs.Seen.{AreLoaded, AreOneGroup};
+ghost use Rattle.log_pairs.specs.Seen.{AreLoadedPairs, AreOneGroup};
 
 use fri_outside::MemFiles;
 use fri_text::Text;
@@ -106,7 +106,7 @@ fn files(rt: &(impl Abort + AllocGlobal)) -> Result<MemFiles, Fail> {
 }
 
 fn begin<'m>(alloc: Global, all: &'m [Loaded<'_>]) -> Result<Group<'m, 'm>, Fail>
-    requires loaded { (ls : List LoadedOf) × AreLoaded all.now ls }
+    requires loaded { (ls : List LoadedOf) × AreLoadedPairs all.now ls }
     requires apart { AreOneGroup all.now }
 {
     let Ok(parts) = begin_all(alloc, all) else {

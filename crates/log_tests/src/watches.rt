@@ -2,8 +2,8 @@
 ghost use Rattle.std.specs.Prelude.{◌≡◌, ◌<◌, IfOk, List};
 ghost use Rattle.group_state.specs.Seen.{nodes_at};
 ghost use Rattle.log_pairs.specs.Pairs.{Loaded as LoadedOf};
-ghost use Rattle.log_pairs.specs.Seen.{AreLoaded, AreOneGroup};
-ghost use Rattle.page_watch.specs.Watched.{Stands};
+ghost use Rattle.log_pairs.specs.Seen.{AreLoadedPairs, AreOneGroup};
+ghost use Rattle.page_watch.specs.Watched.{WatchStands};
 
 use fri_outside::MemFiles;
 use friday_shell::Session;
@@ -86,7 +86,7 @@ fn module(alloc: Global, bytes: &[u8]) -> Result<SharedModule, Fail> {
 }
 
 fn begin<'m>(alloc: Global, all: &'m [Loaded<'_>]) -> Result<Group<'m, 'm>, Fail>
-    requires loaded { (ls : List LoadedOf) × AreLoaded all.now ls }
+    requires loaded { (ls : List LoadedOf) × AreLoadedPairs all.now ls }
     requires apart { AreOneGroup all.now }
     ensures { IfOk result (λ group. group.at ≡ 0) }
 {
@@ -136,13 +136,13 @@ impl<'g, 'm, 'a> View for Counting<'g, 'm, 'a> {
 
 impl<'g, 'm, 'a> TouchView for Counting<'g, 'm, 'a> {
     ghost use Rattle.group_state.specs.Seen.{nodes_at};
-    ghost use Rattle.group_state.specs.Touch.{mark};
+    ghost use Rattle.group_state.specs.Touch.{mark_of_place};
 
     ghost states = { λ c k. nodes_at (record { start = c.group.now.start; at = k }) };
 
     ghost at = { λ c. c.group.now.at };
 
-    ghost marks = { λ c. mark c.group.now.start c.group.now.at };
+    ghost marks = { λ c. mark_of_place c.group.now.start c.group.now.at };
 
     fn position(&self) -> u64 {
         TouchView::position(self.group)
@@ -192,8 +192,8 @@ fn step<'m, L: Ledger>(
     mut watch: Watch,
     steps: &mut Steps<L>,
 ) -> Result<(Group<'m, 'm>, Watch, bool), Fail>
-    requires { Stands watch (nodes_at group) }
-    ensures { IfOk result (λ done. Stands done.1 (nodes_at done.0)) }
+    requires { WatchStands watch (nodes_at group) }
+    ensures { IfOk result (λ done. WatchStands done.1 (nodes_at done.0)) }
 {
     let (group, event) = group.forward()?;
     if event.is_none() {

@@ -4,7 +4,7 @@ use Rattle.std.specs.Prelude.{◌⊎◌, OnOk, OnErr, slice_set}
 use Rattle.std.proofs.lemmas.Bool.{cases_eq}
 use Rattle.std.proofs.lemmas.Option.{same_Some}
 use Rattle.std.proofs.lemmas.List.{get_or_default, length-set}
-use Rattle.lossy_net.specs.Network.{Sent, Traffic, after_sending, no_traffic, traffic_of, sent_by, nth_of, AreFor, IsAddressed}
+use Rattle.lossy_net.specs.Network.{Sent, Traffic, after_sending, no_traffic, traffic_of, sent_by, nth_of, AreForGroup, IsSentIntoGroup}
 use Rattle.lossy_net.proofs.NetworkLemmas.{traffic_of-changed, traffic_of-others, traffic_of-replicate}
 
 -- ---- the numbers
@@ -35,27 +35,27 @@ nth_of-more (s ∷ sent) (suc (suc n)) last datagram e = nth_of-more sent (suc n
 
 -- ---- the processes
 
-AreFor-none : (count : ℕ) → AreFor count []
+AreFor-none : (count : ℕ) → AreForGroup count []
 AreFor-none count zero datagram e = absurd cc
 AreFor-none count (suc n) datagram e = absurd cc
 
-AreFor-more : (count : ℕ) (sent : List Sent) (last : Sent) → last.to < count → AreFor count sent → AreFor count (sent ++ last ∷ [])
+AreFor-more : (count : ℕ) (sent : List Sent) (last : Sent) → last.to < count → AreForGroup count sent → AreForGroup count (sent ++ last ∷ [])
 AreFor-more count sent last to h n datagram e = ⊎_elim
     (λ before. h n datagram before)
     (λ is. subst (λ (d : Sent). d.to < count) (sym is) to)
     (nth_of-more sent n last datagram e)
 
 -- nothing was sent yet
-pub IsAddressed-replicate : (count : ℕ) → IsAddressed (replicate count no_traffic)
+pub IsAddressed-replicate : (count : ℕ) → IsSentIntoGroup (replicate count no_traffic)
 IsAddressed-replicate count process =
-    subst (λ (t : Traffic). AreFor (length (replicate count no_traffic)) t.sent) (sym (traffic_of-replicate count process)) (AreFor-none _)
+    subst (λ (t : Traffic). AreForGroup (length (replicate count no_traffic)) t.sent) (sym (traffic_of-replicate count process)) (AreFor-none _)
 
 -- one process's traffic is changed
-pub IsAddressed-changed : (net : List Traffic) (p : ℕ) (traffic : Traffic) → p < length net → AreFor (length net) traffic.sent → IsAddressed net → IsAddressed (slice_set net p traffic)
+pub IsAddressed-changed : (net : List Traffic) (p : ℕ) (traffic : Traffic) → p < length net → AreForGroup (length net) traffic.sent → IsSentIntoGroup net → IsSentIntoGroup (slice_set net p traffic)
 IsAddressed-changed net p traffic within new h process =
-    subst (λ size. AreFor size (sent_by (slice_set net p traffic) process)) (sym (length-set net p traffic)) (⊎_elim
-    (λ same. subst (λ (t : Traffic). AreFor (length net) t.sent) (sym (ap (traffic_of (slice_set net p traffic)) same ∙ traffic_of-changed net p traffic within)) new)
-    (λ other. subst (λ (t : Traffic). AreFor (length net) t.sent) (sym (traffic_of-others net p process traffic other)) (h process))
+    subst (λ size. AreForGroup size (sent_by (slice_set net p traffic) process)) (sym (length-set net p traffic)) (⊎_elim
+    (λ same. subst (λ (t : Traffic). AreForGroup (length net) t.sent) (sym (ap (traffic_of (slice_set net p traffic)) same ∙ traffic_of-changed net p traffic within)) new)
+    (λ other. subst (λ (t : Traffic). AreForGroup (length net) t.sent) (sym (traffic_of-others net p process traffic other)) (h process))
     (cases_eq process p))
 
 -- ---- the traffic that was read at a process's number
@@ -64,21 +64,21 @@ pub traffic_at : (net : List Traffic) (p : ℕ) (traffic : Traffic) → p < leng
 traffic_at net p traffic within read = get_or_default net p no_traffic traffic within ∙ sym read
 
 -- a datagram that was found there is for a process of the group
-pub found_is_for : (net : List Traffic) (p n : ℕ) (traffic : Traffic) (datagram : Sent) → p < length net → traffic ≡ get_or net p traffic → nth_of traffic.sent n ≡ Some datagram → IsAddressed net → datagram.to < length net
+pub found_is_for : (net : List Traffic) (p n : ℕ) (traffic : Traffic) (datagram : Sent) → p < length net → traffic ≡ get_or net p traffic → nth_of traffic.sent n ≡ Some datagram → IsSentIntoGroup net → datagram.to < length net
 found_is_for net p n traffic datagram within read found h =
     h p n datagram (subst (λ (t : Traffic). nth_of t.sent n ≡ Some datagram) (sym (traffic_at net p traffic within read)) found)
 
 -- A datagram is added to the traffic that was read there, or nothing is, for want of memory.
-pub IsAddressed-added : {T E : Type 0} (net : List Traffic) (p : ℕ) (old new : Traffic) (last : Sent) (r : Result T E) → p < length net → last.to < length net → old ≡ get_or net p old → OnOk r (new ≡ after_sending old last) → OnErr r (new ≡ old) → IsAddressed net → IsAddressed (slice_set net p new)
+pub IsAddressed-added : {T E : Type 0} (net : List Traffic) (p : ℕ) (old new : Traffic) (last : Sent) (r : Result T E) → p < length net → last.to < length net → old ≡ get_or net p old → OnOk r (new ≡ after_sending old last) → OnErr r (new ≡ old) → IsSentIntoGroup net → IsSentIntoGroup (slice_set net p new)
 IsAddressed-added net p old new last r within to read ok err h =
     IsAddressed-changed net p new within (added r ok err) h
   where
-    before : AreFor (length net) old.sent
-    before = subst (λ (t : Traffic). AreFor (length net) t.sent) (traffic_at net p old within read) (h p)
+    before : AreForGroup (length net) old.sent
+    before = subst (λ (t : Traffic). AreForGroup (length net) t.sent) (traffic_at net p old within read) (h p)
 
-    added : {T E : Type 0} (r : Result T E) → OnOk r (new ≡ after_sending old last) → OnErr r (new ≡ old) → AreFor (length net) new.sent
-    added (Ok u) ok err = subst (λ (t : Traffic). AreFor (length net) t.sent) (sym ok) (AreFor-more (length net) old.sent last to before)
-    added (Err e) ok err = subst (λ (t : Traffic). AreFor (length net) t.sent) (sym err) before
+    added : {T E : Type 0} (r : Result T E) → OnOk r (new ≡ after_sending old last) → OnErr r (new ≡ old) → AreForGroup (length net) new.sent
+    added (Ok u) ok err = subst (λ (t : Traffic). AreForGroup (length net) t.sent) (sym ok) (AreFor-more (length net) old.sent last to before)
+    added (Err e) ok err = subst (λ (t : Traffic). AreForGroup (length net) t.sent) (sym err) before
 
 -- that it was found says that its number is from 1 to the count of the datagrams
 pub found_is_within : (net : List Traffic) (p n : ℕ) (traffic : Traffic) (datagram : Sent) → p < length net → traffic ≡ get_or net p traffic → nth_of traffic.sent n ≡ Some datagram → (1 ≤ n) × (n ≤ length (sent_by net p))

@@ -58,12 +58,12 @@ nth_of xs zero = None
 nth_of xs (suc before) = slice_get xs before
 
 -- each of these datagrams is for a process of a group of `count`
-abbrev pub AreFor : ℕ → List Sent → Type 0
-AreFor count sent = (n : ℕ) (datagram : Sent) → nth_of sent n ≡ Some datagram → datagram.to < count
+abbrev pub AreForGroup : ℕ → List Sent → Type 0
+AreForGroup count sent = (n : ℕ) (datagram : Sent) → nth_of sent n ≡ Some datagram → datagram.to < count
 
 -- each datagram was sent to a process of the group
-abbrev pub IsAddressed : List Traffic → Type 0
-IsAddressed net = (process : ℕ) → AreFor (length net) (sent_by net process)
+abbrev pub IsSentIntoGroup : List Traffic → Type 0
+IsSentIntoGroup net = (process : ℕ) → AreForGroup (length net) (sent_by net process)
 
 -- the network after this datagram, if there is one, was put at the end of its receiver's mailbox
 abbrev pub with_delivered : List Traffic → Option Sent → List Traffic

@@ -29,13 +29,13 @@ pub struct Net {
 
 impl Model for Net {
     ghost use Rattle.std.specs.Prelude.{◌≡◌, List, length};
-    ghost use Rattle.lossy_net.specs.Network.{Traffic, IsAddressed};
+    ghost use Rattle.lossy_net.specs.Network.{Traffic, IsSentIntoGroup};
 
     ghost Value = { List Traffic };
 
     ghost view = { λ n. n.endpoints.items };
 
-    ghost invariant = { λ n. (n.count ≡ length n.endpoints.items) × IsAddressed n.endpoints.items };
+    ghost invariant = { λ n. (n.count ≡ length n.endpoints.items) × IsSentIntoGroup n.endpoints.items };
 }
 
 impl Net {

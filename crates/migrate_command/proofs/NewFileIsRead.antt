@@ -9,13 +9,13 @@ use Rattle.fri_outside.specs.Outside.{Folder}
 use Rattle.call_log.specs.declared.version.Version.TheVariants.{Two}
 use Rattle.call_log.specs.Entry.{encodings}
 use Rattle.call_log.specs.Head.{Head, IsHead}
-use Rattle.call_log.specs.Laws.{ExactLogs, IsNewer, RewrittenIsRead}
+use Rattle.call_log.specs.Laws.{ExactLogs, IsNewerLog, RewrittenIsRead}
 use Rattle.call_log.specs.Limits.{most_log}
-use Rattle.call_log.specs.Log.{Unread, unread_after_head, entries_of, head_at, rest_of}
+use Rattle.call_log.specs.Log.{Unread, unread_after_head, entries_of, head_at, rest_of_log}
 use Rattle.command_run.specs.declared.refusal.Reason.TheVariants as reason
 use Rattle.command_run.specs.Laws.{ReadsModules}
 use Rattle.command_run.specs.Outcome.{CommandStop, CommandWork, and_then, file_of, refuses_at_once}
-use Rattle.command_run.specs.OutcomeLaws.{follows, same_Ok}
+use Rattle.command_run.specs.OutcomeLaws.{result_follows, same_Ok_value}
 use Rattle.log_files.specs.Laws.{FindsLogs}
 use Rattle.log_files.specs.Logs.{log_in, log_or_bad_head}
 use Rattle.migrate_command.specs.Laws.{KeepsLog, MigrationsKeep, MigrationsWork, newer_head}
@@ -35,7 +35,7 @@ migration_works finds log_name new_name folder h =
 
 -- work that is done is that of a log whose newer form is within the limit
 not_grown : (b : Bool) (wanted work : CommandWork) (stop : CommandStop) → cond b (Ok wanted) (Err stop) ≡ Ok work → (b ≡ true) × (work ≡ wanted)
-not_grown true wanted work stop is = (refl, same_Ok (Ok wanted) work wanted is refl)
+not_grown true wanted work stop is = (refl, same_Ok_value (Ok wanted) work wanted is refl)
 not_grown false wanted work stop is = cc
 
 log_found : (name bytes : List ℕ) (o : Option (Head × Unread)) (log : Head × Unread) → log_or_bad_head name o ≡ Ok log → o ≡ Some log
@@ -46,13 +46,13 @@ module _ (keeps : KeepsFiles) (exact : ExactLogs) (rewritten_read : RewrittenIsR
   -- the head of a log that was read is one
   head_read : (folder : Folder) (name : List ℕ) (log : Head × Unread) → log_in folder name ≡ Ok log → IsHead log.0
   head_read folder name log is =
-      let f = follows (file_of folder name most_log) (λ bytes. log_or_bad_head name (head_at bytes)) log is in
+      let f = result_follows (file_of folder name most_log) (λ bytes. log_or_bad_head name (head_at bytes)) log is in
       ((exact.heads f.given log.0 log.1).0 (log_found name f.given (head_at f.given) log f.comes)).0
 
   -- the new file is read as its head in version 2 and its entries, and nothing follows them
-  newer_found : (log : Head × Unread) → IsHead log.0 → IsNewer log.0 (entries_of log.1) (new_log log)
+  newer_found : (log : Head × Unread) → IsHead log.0 → IsNewerLog log.0 (entries_of log.1) (new_log log)
   newer_found log is =
-      let held = (exact.all log.1 (entries_of log.1) (rest_of log.1)).1 (refl, refl) in
+      let held = (exact.all log.1 (entries_of log.1) (rest_of_log log.1)).1 (refl, refl) in
       rewritten_read log.0 (entries_of log.1) is held.shaped
 
   -- and so it is read
@@ -65,7 +65,7 @@ module _ (keeps : KeepsFiles) (exact : ExactLogs) (rewritten_read : RewrittenIsR
 
   pub migration_keeps : MigrationsKeep
   migration_keeps log_name new_name folder work is =
-      let f = follows (log_in folder log_name) (work_unless_grown log_name new_name) work is in
+      let f = result_follows (log_in folder log_name) (work_unless_grown log_name new_name) work is in
       let log = f.given in
       let done = not_grown (nat_le (length (new_log log)) most_log) (migrate_work new_name log) work (refuses_at_once log_name reason.Grown) f.comes in
       let head = head_read folder log_name log f.is_given in

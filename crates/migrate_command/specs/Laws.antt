@@ -4,7 +4,7 @@ use Rattle.fri_outside.specs.Outside.{Folder}
 use Rattle.fri_outside.specs.Several.{with_files}
 use Rattle.call_log.specs.declared.version.Version.TheVariants.{Two}
 use Rattle.call_log.specs.Head.{Head}
-use Rattle.call_log.specs.Log.{Unread, entries_of, head_at, rest_of}
+use Rattle.call_log.specs.Log.{Unread, entries_of, head_at, rest_of_log}
 use Rattle.command_run.specs.Outcome.{CommandWork}
 use Rattle.log_files.specs.Logs.{log_in}
 use Rattle.migrate_command.specs.Migrate.{migrate_outcome}
@@ -25,7 +25,7 @@ pub record KeepsLog (folder : Folder) (log_name new_name : List ℕ) (work : Com
   pub newer : Unread
   pub found : head_at bytes ≡ Some (newer_head head, newer)
   pub entries : entries_of newer ≡ entries_of left
-  pub rest : rest_of newer ≡ []
+  pub rest : rest_of_log newer ≡ []
   pub read : (after : Folder) → Some after ≡ with_files work.writes (Some folder) → log_in after new_name ≡ Ok (newer_head head, newer)
 
 -- whatever the folder, a migration that is done keeps the log

@@ -3,7 +3,7 @@ use Rattle.std.specs.Prelude.{ℕ, List, [], ◌∷◌, ◌++◌, false, length,
 use Rattle.fri_outside.specs.Outside.{Folder}
 use Rattle.call_log.specs.Head.{Head}
 use Rattle.call_log.specs.Limits.{most_log}
-use Rattle.call_log.specs.Log.{Unread, entries_of, rest_of, rewritten}
+use Rattle.call_log.specs.Log.{Unread, entries_of, rest_of_log, rewritten_log}
 use Rattle.command_run.specs.declared.refusal.Reason.TheVariants as reason
 use Rattle.command_run.specs.Outcome.{CommandOutcome, CommandWork, and_then, refuses_at_once}
 use Rattle.log_files.specs.Logs.{log_in}
@@ -14,12 +14,12 @@ migrate_text name entries left = name ++ (codes ": " ++ (decimal entries ++ (cod
 
 -- the newer form of a log: its head in version 2, and all its entries
 abbrev pub new_log : Head × Unread → List ℕ
-new_log log = rewritten log.0 (entries_of log.1)
+new_log log = rewritten_log log.0 (entries_of log.1)
 
 -- the work of a migration: the new file, and what is said of it
 abbrev pub migrate_work : List ℕ → Head × Unread → CommandWork
 migrate_work new_name log = record {
-  text = migrate_text log.0.name (length (entries_of log.1)) (length (rest_of log.1));
+  text = migrate_text log.0.name (length (entries_of log.1)) (length (rest_of_log log.1));
   writes = (new_name, new_log log) ∷ [];
   diverged = false;
 }

@@ -1,7 +1,7 @@
 // `migrate LOG NEW`: makes the file that has the newer form of a log.
 ghost use Rattle.std.specs.Prelude.{◌≡◌, [], ◌∷◌, false, option_map, IfErr};
 ghost use Rattle.fri_outside.specs.Outside.{WhenTold};
-ghost use Rattle.command_run.specs.Call.{CountsFaults, DivergesOnlyIf, KeepsFolder, MakesWorkFiles, MakesAll, Raises, TellsOutcome};
+ghost use Rattle.command_run.specs.Call.{CountsFaults, DivergesOnlyIf, KeepsFolder, MakesWorkFiles, MakesAllFiles, RaisesCount, TellsOutcome};
 ghost use Rattle.command_run.specs.Outcome.{writes_of};
 ghost use Rattle.migrate_command.specs.Migrate.{migrate_outcome};
 
@@ -12,9 +12,9 @@ use std::alloc::Global;
 
 // Makes a file that has these bytes.
 fn make_file<F: Files>(name: &str, bytes: &[u8], files: &mut F) -> Result<(), StopCause>
-    ensures made { MakesAll result ((name.now, bytes.now) ∷ []) (F.told files.old) (F.told files.new) }
+    ensures made { MakesAllFiles result ((name.now, bytes.now) ∷ []) (F.told files.old) (F.told files.new) }
     ensures counts { CountsFaults (F.counts files.old) (F.counts files.new) result }
-    ensures cause { IfErr result (Raises (F.counts files.old) (F.counts files.new)) }
+    ensures cause { IfErr result (RaisesCount (F.counts files.old) (F.counts files.new)) }
 {
     fri_outside::laws::keeps_files();
     files.create(name)?;
@@ -36,7 +36,7 @@ pub fn migrate<F: Files>(
     ensures keeps { KeepsFolder result (F.told files.old) (F.told files.new) }
     ensures done { DivergesOnlyIf false result }
     ensures counts { CountsFaults (F.counts files.old) (F.counts files.new) result }
-    ensures cause { IfErr result (Raises (F.counts files.old) (F.counts files.new)) }
+    ensures cause { IfErr result (RaisesCount (F.counts files.old) (F.counts files.new)) }
 {
     let Migration { bytes, text } = take_migration(alloc, log_file, files)?;
     make_file(new_file, &bytes, files)?;

@@ -1,8 +1,8 @@
 // The newer form of a log, and what is said of it.
 ghost use Rattle.std.specs.Prelude.{◌≡◌, ℕ, List, IfErr, IfOk, length};
 ghost use Rattle.fri_outside.specs.Outside.{Counts, WhenTold};
-ghost use Rattle.call_log.specs.Log.{entries_of, rest_of};
-ghost use Rattle.command_run.specs.Call.{CountsFaults, Raises, TellsResult, reads_after, writes_after};
+ghost use Rattle.call_log.specs.Log.{entries_of, rest_of_log};
+ghost use Rattle.command_run.specs.Call.{CountsFaults, RaisesCount, TellsResult, reads_after, writes_after};
 ghost use Rattle.migrate_command.specs.Migrate.{migrate_outcome, migrate_text, work_unless_grown};
 ghost use Rattle.migrate_command.specs.Seen.{work_of_migration};
 
@@ -29,7 +29,7 @@ struct Extent {
 
 fn extent_of(log: &LogView<'_>) -> Extent
     ensures entries { result.entries ≡ length (entries_of log.now.left) }
-    ensures left { result.left ≡ length (rest_of log.now.left) }
+    ensures left { result.left ≡ length (rest_of_log log.now.left) }
 {
     // The proof needs that what is left is a slice, and so shorter than 2 ^ 63 bytes.
     let _ = log.rest().len();
@@ -59,7 +59,7 @@ fn print(alloc: Global, name: &[u8], extent: Extent) -> Result<Text, AllocError>
 fn renew(alloc: Global, log_file: &str, log: &LogView<'_>) -> Result<Migration, StopCause>
     ensures answer { (new_name : List ℕ)
         → TellsResult (work_of_migration new_name) (work_unless_grown log_file.now new_name (log.now.head, log.now.left)) result }
-    ensures cause { (old new : Counts) → IfErr result (Raises old new) }
+    ensures cause { (old new : Counts) → IfErr result (RaisesCount old new) }
     ensures still { (n : ℕ) → (reads_after n result ≡ n) × (writes_after n result ≡ n) }
 {
     let extent = extent_of(log);
@@ -80,7 +80,7 @@ pub(crate) fn take_migration<F: Files>(
     ensures answer { (new_name : List ℕ) → WhenTold (F.told files.old) (λ folder. TellsResult (work_of_migration new_name) (migrate_outcome log_file.now new_name folder) result) }
     ensures same { F.told files.new ≡ F.told files.old }
     ensures counts { CountsFaults (F.counts files.old) (F.counts files.new) result }
-    ensures cause { IfErr result (Raises (F.counts files.old) (F.counts files.new)) }
+    ensures cause { IfErr result (RaisesCount (F.counts files.old) (F.counts files.new)) }
 {
     let bytes = take_log(alloc, log_file, files)?;
     let log = begin_log(alloc, log_file, &bytes)?;

@@ -6,9 +6,9 @@ use Rattle.std.proofs.Math.Bool.{or_assoc}
 use Rattle.std.specs.Prelude.{◌&&◌, ◌||◌, OnOk, nat_eq, option_map, slice_get}
 use Rattle.std.specs.List.{list_all, list_any}
 use Rattle.watch_expr.specs.declared.reads.Place.{Place}
-use Rattle.watch_expr.specs.Reads.{is_low}
+use Rattle.watch_expr.specs.Reads.{is_low_place}
 use Rattle.page_watch.specs.declared.places.NodePlaces.{NodePlaces}
-use Rattle.page_watch.specs.Places.{AddsPlace, AreUnion, Covers, is_in_order, places_in}
+use Rattle.page_watch.specs.Places.{AddsPlace, AreUnion, CoversPlaces, is_in_order, places_in}
 use Rattle.page_watch.specs.Touch.{node_of}
 use Rattle.page_watch.proofs.OneNode.{and-true}
 
@@ -44,7 +44,7 @@ adds_one old new place (inr there) p = ap (list_any p) there.0 ∙ or-self (list
 
 module _ (node : ℕ) where
   abbrev own : Place → Bool
-  own l = is_low l && nat_eq (node_of l) node
+  own l = is_low_place l && nat_eq (node_of l) node
 
   adds_own : (old new : List Place) (place : Place) → AddsPlace old new place → own place ≡ true → list_all own old ≡ true → list_all own new ≡ true
   adds_own old new place (inl more) this all =
@@ -93,13 +93,13 @@ same_number : (m n : ℕ) → n ≡ m → nat_eq m n ≡ true
 same_number m n same = grind (arith, nat_tests)
 
 pub set_order : (nodes : List NodePlaces) (k : ℕ) (n : NodePlaces) (new : NodePlaces) (place : Place) → k < length nodes → get_or nodes k n ≡ n
-    → n.node ≡ node_of place → new.node ≡ n.node → AddsPlace n.places.items new.places.items place → is_low place ≡ true → list_all is_in_order nodes ≡ true
+    → n.node ≡ node_of place → new.node ≡ n.node → AddsPlace n.places.items new.places.items place → is_low_place place ≡ true → list_all is_in_order nodes ≡ true
     → list_all is_in_order (set nodes k new) ≡ true
 set_order nodes k n new place below here own node adds low all =
     let before : is_in_order n ≡ true = sym (ap is_in_order here) ∙ in_order_at nodes k n below all in
-    let this = both-true (is_low place) (nat_eq (node_of place) n.node) low (same_number (node_of place) n.node own) in
+    let this = both-true (is_low_place place) (nat_eq (node_of place) n.node) low (same_number (node_of place) n.node own) in
     let after = adds_own n.node n.places.items new.places.items place adds this before in
-    set_in_order nodes k new all (ap (λ (m : ℕ). list_all (λ l. is_low l && nat_eq (node_of l) m) new.places.items) node ∙ after)
+    set_in_order nodes k new all (ap (λ (m : ℕ). list_all (λ l. is_low_place l && nat_eq (node_of l) m) new.places.items) node ∙ after)
 
 -- ---- place after place
 
@@ -113,11 +113,11 @@ union_more places i d new old first below one so_far p =
     ∙ regroup (list_any p first) (list_any p (take i places)) (p (get_or places i d))
     ∙ ap (λ (b : Bool). list_any p first || b) (sym (list_any_more p places i d below))
 
-low_next : (places : List Place) (i : ℕ) → list_all is_low (drop i places) ≡ true → list_all is_low (drop (suc i) places) ≡ true
+low_next : (places : List Place) (i : ℕ) → list_all is_low_place (drop i places) ≡ true → list_all is_low_place (drop (suc i) places) ≡ true
 low_next [] zero low = refl
 low_next [] (suc i) low = refl
-low_next (l ∷ places) zero low = (and-true (is_low l) (list_all is_low places) low).1
+low_next (l ∷ places) zero low = (and-true (is_low_place l) (list_all is_low_place places) low).1
 low_next (l ∷ places) (suc i) low = low_next places i low
 
-pub low_behind : (places : List Place) (i : ℕ) → list_all is_low (drop i places) ≡ true → list_all is_low (drop (i + 1) places) ≡ true
-low_behind places i low = ap (λ (n : ℕ). list_all is_low (drop n places)) (add-one i) ∙ low_next places i low
+pub low_behind : (places : List Place) (i : ℕ) → list_all is_low_place (drop i places) ≡ true → list_all is_low_place (drop (i + 1) places) ≡ true
+low_behind places i low = ap (λ (n : ℕ). list_all is_low_place (drop n places)) (add-one i) ∙ low_next places i low

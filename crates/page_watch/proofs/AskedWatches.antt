@@ -7,11 +7,11 @@ use Rattle.std.specs.Prelude.{All, ◌||◌, count_by, nat_eq}
 use Rattle.std.specs.List.{AllByRecursion, list_any}
 use Rattle.watch_expr.specs.declared.reads.Place.{Place}
 use Rattle.watch_expr.specs.Expression.{Expression}
-use Rattle.watch_expr.specs.Reads.{ReadsTell, reads}
+use Rattle.watch_expr.specs.Reads.{ReadsTell, reads_of_expression}
 use Rattle.watch_expr.specs.View.{Node}
-use Rattle.page_watch.specs.Places.{AreUnion, Covers, places_of}
+use Rattle.page_watch.specs.Places.{AreUnion, CoversPlaces, places_of}
 use Rattle.page_watch.specs.Touch.{MarksTell, meets}
-use Rattle.page_watch.specs.Watched.{Stands, Watched, watch_after_event, evaluated}
+use Rattle.page_watch.specs.Watched.{WatchStands, Watched, watch_after_event, evaluated_watch}
 use Rattle.page_watch.proofs.OneNode.{or-false}
 use Rattle.page_watch.proofs.WatchStays.{keeps}
 
@@ -43,23 +43,23 @@ more_place p (v ∷ ws) w none here =
     list_any-append p v.places (places_of (ws ++ w ∷ [])) ∙ neither (list_any p v.places) (list_any p (places_of (ws ++ w ∷ []))) both.0 (more_place p ws w both.1 here)
 
 -- with the places of one watch more those of all are there
-pub covers_more : (old new : List Place) (ws : List Watched) (w : Watched) → AreUnion new old w.places → Covers old (places_of ws) → Covers new (places_of (ws ++ w ∷ []))
+pub covers_more : (old new : List Place) (ws : List Watched) (w : Watched) → AreUnion new old w.places → CoversPlaces old (places_of ws) → CoversPlaces new (places_of (ws ++ w ∷ []))
 covers_more old new ws w union covers p none =
     let both = or-false (list_any p old) (list_any p w.places) (sym (union p) ∙ none) in
     more_place p ws w (covers p both.0) both.1
 
-pub union_covers : (old new others : List Place) → AreUnion new old others → Covers new old
+pub union_covers : (old new others : List Place) → AreUnion new old others → CoversPlaces new old
 union_covers old new others union p none = (or-false (list_any p old) (list_any p others) (sym (union p) ∙ none)).0
 
-pub union_covers_both : (old new others was : List Place) → AreUnion new old others → Covers (new ++ was) others
+pub union_covers_both : (old new others was : List Place) → AreUnion new old others → CoversPlaces (new ++ was) others
 union_covers_both old new others was union p none =
     let apart = or-false (list_any p new) (list_any p was) (sym (list_any-append p new was) ∙ none) in
     (or-false (list_any p old) (list_any p others) (sym (union p) ∙ apart.0)).1
 
-pub covers_last : (all was : List Place) → Covers (all ++ was) was
+pub covers_last : (all was : List Place) → CoversPlaces (all ++ was) was
 covers_last all was p none = (or-false (list_any p all) (list_any p was) (sym (list_any-append p all was) ∙ none)).1
 
-pub covers_itself : (all : List Place) → Covers all all
+pub covers_itself : (all : List Place) → CoversPlaces all all
 covers_itself all p none = none
 
 -- ---- one after the other
@@ -83,17 +83,17 @@ same_length f (x ∷ xs) (suc n) = ap suc (same_length f xs n)
 -- the first of them were asked, their evaluations were counted, and the places of all are held
 pub record AreAsked (f : Watched → Watched) (test : Watched → Bool) (whole : List Watched) (first : ℕ) (n : ℕ) (now : List Watched) (held : List Place) (count : ℕ) : Type 0 where
   pub watches : now ≡ map f (take n whole) ++ drop n whole
-  pub covers : Covers held (places_of now)
+  pub covers : CoversPlaces held (places_of now)
   pub steps : count ≡ first + count_by test (take n whole)
 
 module _ (f : Watched → Watched) (test : Watched → Bool) (whole : List Watched) (first n : ℕ) (now : List Watched) (held : List Place) (count : ℕ) (so_far : AreAsked f test whole first n now held count) (d : Watched) (below : n < length whole) where
   pub this_one : get_or now n d ≡ get_or whole n d
   this_one = ap (λ (ws : List Watched). get_or ws n d) so_far.watches ∙ item_here f whole n d below
 
-  pub stands_here : (nodes : List Node) (w : Watched) → get_or now n d ≡ w → All (λ w. Stands w nodes) whole → Stands w nodes
-  stands_here nodes w here stand = subst (λ (v : Watched). Stands v nodes) (sym this_one ∙ here) (stand n d below)
+  pub stands_here : (nodes : List Node) (w : Watched) → get_or now n d ≡ w → All (λ w. WatchStands w nodes) whole → WatchStands w nodes
+  stands_here nodes w here stand = subst (λ (v : Watched). WatchStands v nodes) (sym this_one ∙ here) (stand n d below)
 
-  pub one_more : (w new : Watched) (more : List Place) (next : ℕ) → get_or now n d ≡ w → new ≡ f w → Covers more held → Covers (more ++ w.places) new.places
+  pub one_more : (w new : Watched) (more : List Place) (next : ℕ) → get_or now n d ≡ w → new ≡ f w → CoversPlaces more held → CoversPlaces (more ++ w.places) new.places
       → next ≡ count + cond (test w) 1 0 → AreAsked f test whole first (n + 1) (set now n new) more next
   one_more w new more next here is all places counts =
       let same : get_or whole n d ≡ w = sym this_one ∙ here in
@@ -118,36 +118,36 @@ module _ (law : ReadsTell) (states : ℕ → List Node) (at : ℕ) (marks : Plac
   abbrev new : List Node
   new = states at
 
-  stands_by : (w : Watched) (b : Bool) → meets marks at w.places ≡ b → Stands w old → Stands (cond b (evaluated new w.expression) w) new
+  stands_by : (w : Watched) (b : Bool) → meets marks at w.places ≡ b → WatchStands w old → WatchStands (cond b (evaluated_watch new w.expression) w) new
   stands_by w true is stood = record { value = refl; places = refl; sound = tells.sound }
   stands_by w false is stood = keeps law states at marks w tells some stood is
 
-  pub stands_after : (w after : Watched) → after ≡ watch_after_event marks at new w → Stands w old → Stands after new
-  stands_after w after is stood = subst (λ (v : Watched). Stands v new) (sym is) (stands_by w (meets marks at w.places) refl stood)
+  pub stands_after : (w after : Watched) → after ≡ watch_after_event marks at new w → WatchStands w old → WatchStands after new
+  stands_after w after is stood = subst (λ (v : Watched). WatchStands v new) (sym is) (stands_by w (meets marks at w.places) refl stood)
 
-  all_stand : (ws : List Watched) → AllByRecursion (λ (w : Watched). Stands w old) ws → AllByRecursion (λ (w : Watched). Stands w new) (map (watch_after_event marks at new) ws)
+  all_stand : (ws : List Watched) → AllByRecursion (λ (w : Watched). WatchStands w old) ws → AllByRecursion (λ (w : Watched). WatchStands w new) (map (watch_after_event marks at new) ws)
   all_stand [] stood = tt
   all_stand (w ∷ ws) stood = (stands_by w (meets marks at w.places) refl stood.0, all_stand ws stood.1)
 
-  pub stand_now : (ws : List Watched) → All (λ w. Stands w old) ws → All (λ w. Stands w new) (map (watch_after_event marks at new) ws)
-  stand_now ws stood = All-from_recursion (λ w. Stands w new) (map (watch_after_event marks at new) ws) (all_stand ws (recursion_from_All (λ w. Stands w old) ws stood))
+  pub stand_now : (ws : List Watched) → All (λ w. WatchStands w old) ws → All (λ w. WatchStands w new) (map (watch_after_event marks at new) ws)
+  stand_now ws stood = All-from_recursion (λ w. WatchStands w new) (map (watch_after_event marks at new) ws) (all_stand ws (recursion_from_All (λ w. WatchStands w old) ws stood))
 
   -- the evaluations are those at places that were read
-  counts_same : (ws : List Watched) → AllByRecursion (λ (w : Watched). Stands w old) ws
-      → count_by (λ w. meets marks at w.places) ws ≡ count_by (λ w. meets marks at (reads old w.expression)) ws
+  counts_same : (ws : List Watched) → AllByRecursion (λ (w : Watched). WatchStands w old) ws
+      → count_by (λ w. meets marks at w.places) ws ≡ count_by (λ w. meets marks at (reads_of_expression old w.expression)) ws
   counts_same [] stood = refl
   counts_same (w ∷ ws) stood =
       sum_by-cons (λ (w : Watched). cond (meets marks at w.places) 1 0) w ws
       ∙ ap (λ (ls : List Place). cond (meets marks at ls) 1 0 + count_by (λ w. meets marks at w.places) ws) stood.0.places
-      ∙ ap (λ (n : ℕ). cond (meets marks at (reads old w.expression)) 1 0 + n) (counts_same ws stood.1)
-      ∙ sym (sum_by-cons (λ (w : Watched). cond (meets marks at (reads old w.expression)) 1 0) w ws)
+      ∙ ap (λ (n : ℕ). cond (meets marks at (reads_of_expression old w.expression)) 1 0 + n) (counts_same ws stood.1)
+      ∙ sym (sum_by-cons (λ (w : Watched). cond (meets marks at (reads_of_expression old w.expression)) 1 0) w ws)
 
-  pub counts : (ws : List Watched) → All (λ w. Stands w old) ws
-      → count_by (λ w. meets marks at w.places) ws ≡ count_by (λ w. meets marks at (reads old w.expression)) ws
-  counts ws stood = counts_same ws (recursion_from_All (λ w. Stands w old) ws stood)
+  pub counts : (ws : List Watched) → All (λ w. WatchStands w old) ws
+      → count_by (λ w. meets marks at w.places) ws ≡ count_by (λ w. meets marks at (reads_of_expression old w.expression)) ws
+  counts ws stood = counts_same ws (recursion_from_All (λ w. WatchStands w old) ws stood)
 
   -- where nothing was touched, each is as it was
-  as_it_was : (w : Watched) (b : Bool) → b ≡ false → cond b (evaluated new w.expression) w ≡ w
+  as_it_was : (w : Watched) (b : Bool) → b ≡ false → cond b (evaluated_watch new w.expression) w ≡ w
   as_it_was w true none = absurd (cc)
   as_it_was w false none = refl
 
@@ -164,14 +164,14 @@ module _ (law : ReadsTell) (states : ℕ → List Node) (at : ℕ) (marks : Plac
             ∙ ap (λ (b : Bool). cond b 1 0 + count_by (λ w. meets marks at w.places) ws) both.0 ∙ nothing_more rest.1,
       )
 
-  pub none_stand : (ws : List Watched) → list_any (λ (l : Place). nat_eq (marks l) at) (places_of ws) ≡ false → All (λ w. Stands w old) ws → All (λ w. Stands w new) ws
-  none_stand ws none stood = subst (λ (vs : List Watched). All (λ w. Stands w new) vs) (none_asked ws none).0 (stand_now ws stood)
+  pub none_stand : (ws : List Watched) → list_any (λ (l : Place). nat_eq (marks l) at) (places_of ws) ≡ false → All (λ w. WatchStands w old) ws → All (λ w. WatchStands w new) ws
+  none_stand ws none stood = subst (λ (vs : List Watched). All (λ w. WatchStands w new) vs) (none_asked ws none).0 (stand_now ws stood)
 
-  pub none_counted : (ws : List Watched) → list_any (λ (l : Place). nat_eq (marks l) at) (places_of ws) ≡ false → All (λ w. Stands w old) ws
-      → count_by (λ w. meets marks at (reads old w.expression)) ws ≡ 0
+  pub none_counted : (ws : List Watched) → list_any (λ (l : Place). nat_eq (marks l) at) (places_of ws) ≡ false → All (λ w. WatchStands w old) ws
+      → count_by (λ w. meets marks at (reads_of_expression old w.expression)) ws ≡ 0
   none_counted ws none stood = sym (counts ws stood) ∙ (none_asked ws none).1
 
-expression_by : (w : Watched) (nodes : List Node) (b : Bool) → (cond b (evaluated nodes w.expression) w).expression ≡ w.expression
+expression_by : (w : Watched) (nodes : List Node) (b : Bool) → (cond b (evaluated_watch nodes w.expression) w).expression ≡ w.expression
 expression_by w nodes true = refl
 expression_by w nodes false = refl
 

@@ -8,7 +8,7 @@ use Rattle.std.specs.Prelude.{◌&&◌, ◌||◌, ◌==◌, nat_eq}
 use Rattle.std.specs.List.{list_all, list_any}
 use Rattle.watch_expr.specs.declared.reads.Place.{Place}
 use Rattle.watch_expr.specs.declared.reads.Place.TheVariants as place
-use Rattle.watch_expr.specs.Reads.{is_low}
+use Rattle.watch_expr.specs.Reads.{is_low_place}
 use Rattle.page_watch.specs.declared.places.NodePlaces.{NodePlaces}
 use Rattle.page_watch.specs.Places.{is_in_order, places_in}
 use Rattle.page_watch.specs.Touch.{IsOnlyNode, meets, node_of}
@@ -46,15 +46,15 @@ none_met marks at o moves tells is (l ∷ places) =
 
 -- ---- of another node
 
-pub not_marked : (marks : Place → ℕ) (at node : ℕ) (l : Place) → IsOnlyNode marks at node → (node_of l ≡ node → ⊥) → false ≡ (is_low l && nat_eq (marks l) at)
-not_marked marks at node l only other = and-false (is_low l) (nat_eq (marks l) at) (unlike (marks l) at (λ e. other (only l e)))
+pub not_marked : (marks : Place → ℕ) (at node : ℕ) (l : Place) → IsOnlyNode marks at node → (node_of l ≡ node → ⊥) → false ≡ (is_low_place l && nat_eq (marks l) at)
+not_marked marks at node l only other = and-false (is_low_place l) (nat_eq (marks l) at) (unlike (marks l) at (λ e. other (only l e)))
 
 module _ (marks : Place → ℕ) (at node : ℕ) (only : IsOnlyNode marks at node) where
-  unmet : (n : ℕ) (places : List Place) → (n ≡ node → ⊥) → list_all (λ l. is_low l && nat_eq (node_of l) n) places ≡ true → false ≡ meets marks at places
+  unmet : (n : ℕ) (places : List Place) → (n ≡ node → ⊥) → list_all (λ l. is_low_place l && nat_eq (node_of l) n) places ≡ true → false ≡ meets marks at places
   unmet n [] other order = refl
   unmet n (l ∷ places) other order =
-      let all = and-true (is_low l && nat_eq (node_of l) n) (list_all (λ l. is_low l && nat_eq (node_of l) n) places) order in
-      let this = and-true (is_low l) (nat_eq (node_of l) n) all.0 in
+      let all = and-true (is_low_place l && nat_eq (node_of l) n) (list_all (λ l. is_low_place l && nat_eq (node_of l) n) places) order in
+      let this = and-true (is_low_place l) (nat_eq (node_of l) n) all.0 in
       let own : node_of l ≡ n = eqb-true (node_of l) n this.1 in
       unmet n places other all.1
       ∙ ap (λ (b : Bool). b || meets marks at places) (sym (unlike (marks l) at (λ e. other (sym own ∙ only l e))))
@@ -62,11 +62,11 @@ module _ (marks : Place → ℕ) (at node : ℕ) (only : IsOnlyNode marks at nod
   pub unmet_in : (n : NodePlaces) → (n.node ≡ node → ⊥) → is_in_order n ≡ true → false ≡ meets marks at n.places.items
   unmet_in n other order = unmet n.node n.places.items other order
 
-pub low_in : (n : ℕ) (places : List Place) → list_all (λ l. is_low l && nat_eq (node_of l) n) places ≡ true → list_all is_low places ≡ true
+pub low_in : (n : ℕ) (places : List Place) → list_all (λ l. is_low_place l && nat_eq (node_of l) n) places ≡ true → list_all is_low_place places ≡ true
 low_in n [] order = refl
 low_in n (l ∷ places) order =
-    let all = and-true (is_low l && nat_eq (node_of l) n) (list_all (λ l. is_low l && nat_eq (node_of l) n) places) order in
-    ap (λ (b : Bool). b && list_all is_low places) (and-true (is_low l) (nat_eq (node_of l) n) all.0).0 ∙ low_in n places all.1
+    let all = and-true (is_low_place l && nat_eq (node_of l) n) (list_all (λ l. is_low_place l && nat_eq (node_of l) n) places) order in
+    ap (λ (b : Bool). b && list_all is_low_place places) (and-true (is_low_place l) (nat_eq (node_of l) n) all.0).0 ∙ low_in n places all.1
 
 -- ---- node after node
 

@@ -3,7 +3,7 @@ use Rattle.std.specs.Prelude.{◌≡◌, ℕ, ◌-◌, ◌<◌, ◌≤◌, ◌==
 use Rattle.std.specs.List.{list_any}
 use Rattle.watch_expr.specs.declared.reads.Place.{Place}
 use Rattle.watch_expr.specs.declared.reads.Place.TheVariants as place
-use Rattle.watch_expr.specs.Reads.{AreMemories, SameAt}
+use Rattle.watch_expr.specs.Reads.{AreMemories, SameAtPlace}
 use Rattle.watch_expr.specs.View.{Node}
 
 -- the node that a place is of
@@ -20,7 +20,7 @@ pub record MarksTell (states : ℕ → List Node) (at : ℕ) (marks : Place → 
   pub sound : AreMemories (states at)
   pub no_later : (l : Place) → marks l ≤ at
   pub moves : (l : Place) → 0 < at → marks l ≡ at → marks (place.Motion (node_of l)) ≡ at
-  pub unmarked : (l : Place) → 0 < at → (marks l ≡ at → ⊥) → AreMemories (states (at - 1)) → SameAt (states (at - 1)) (states at) l
+  pub unmarked : (l : Place) → 0 < at → (marks l ≡ at → ⊥) → AreMemories (states (at - 1)) → SameAtPlace (states (at - 1)) (states at) l
 
 -- some place of these has this mark
 abbrev pub meets : (Place → ℕ) → ℕ → List Place → Bool

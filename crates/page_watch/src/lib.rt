@@ -3,7 +3,7 @@
 //! A `TouchView` tells the state at its position, and the last position at which an event touched each place. Contracts
 //! see the states at all positions up to its own and the mark of each place, tied by `MarksTell` of `specs/Touch`: what the
 //! last event did not touch is as it was just before. Contracts see a `Watch` as its expression with a value and the places
-//! that it was read from (`specs/Watched`); it `Stands` for a state where both are those of the expression there.
+//! that it was read from (`specs/Watched`); it `WatchStands` for a state where both are those of the expression there.
 //!
 //! `Watch::after_event` is promised to leave the watch standing for the state at the view's position, to answer exactly
 //! where the value changed, and to evaluate, which ticks the counter, exactly where a place that was read has the position's

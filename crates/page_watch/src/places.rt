@@ -1,9 +1,9 @@
 // The places that several watches were read from, by node.
 ghost use Rattle.std.specs.Prelude.{◌≡◌, ◌<◌, ◌∷◌, [], IfOk, IfSome, IsTrue, OnOk, Some, length, option_map, slice_get, true};
 ghost use Rattle.std.specs.List.{list_all};
-ghost use Rattle.page_watch.specs.Places.{AddsPlace, AreUnion, Covers, is_in_order, places_in};
+ghost use Rattle.page_watch.specs.Places.{AddsPlace, AreUnion, CoversPlaces, is_in_order, places_in};
 ghost use Rattle.page_watch.specs.Touch.{IsOnlyNode, MarksTell, meets};
-ghost use Rattle.watch_expr.specs.Reads.{is_low};
+ghost use Rattle.watch_expr.specs.Reads.{is_low_place};
 
 use crate::touched::{is_met, node_of};
 use crate::view::TouchView;
@@ -51,7 +51,7 @@ impl AllPlaces {
 
     /// These places more.
     pub(crate) fn with(self, alloc: Global, places: &[Place]) -> Result<AllPlaces, AllocError>
-        requires { list_all is_low places.now ≡ true }
+        requires { list_all is_low_place places.now ≡ true }
         ensures { IfOk result (λ all. AreUnion all self places.now) }
     {
         let mut nodes = self.nodes;
@@ -77,7 +77,7 @@ impl AllPlaces {
 
 // One place more.
 fn add(alloc: Global, nodes: &mut Vec<NodePlaces>, place: Place) -> Result<(), AllocError>
-    requires low { is_low place ≡ true }
+    requires low { is_low_place place ≡ true }
     requires order { list_all is_in_order nodes.old.items ≡ true }
     ensures order { OnOk result (list_all is_in_order nodes.new.items ≡ true) }
     ensures union { OnOk result (AreUnion (places_in nodes.new.items) (places_in nodes.old.items) (place ∷ [])) }
@@ -118,7 +118,7 @@ fn add_to(places: &mut Vec<Place>, place: Place) -> Result<(), AllocError>
 }
 
 fn holds(places: &[Place], place: Place) -> bool
-    ensures { IsTrue result → Covers places.now (place ∷ []) }
+    ensures { IsTrue result → CoversPlaces places.now (place ∷ []) }
 {
     for other in places {
         if *other == place {

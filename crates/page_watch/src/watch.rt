@@ -2,9 +2,9 @@
 ghost use Rattle.std.specs.Prelude.{◌≡◌, ◌+◌, ◌-◌, ◌<◌, IfOk, OnOk, if◌then◌else◌};
 ghost use Rattle.page_watch.specs.Firing.{change_of, is_same_value};
 ghost use Rattle.page_watch.specs.Touch.{meets};
-ghost use Rattle.page_watch.specs.Watched.{Stands, watch_after_event};
+ghost use Rattle.page_watch.specs.Watched.{WatchStands, watch_after_event};
 ghost use Rattle.watch_expr.specs.Expression.{expression_of};
-ghost use Rattle.watch_expr.specs.Reads.{no_variables, reads};
+ghost use Rattle.watch_expr.specs.Reads.{no_variables, reads_of_expression};
 ghost use Rattle.watch_expr.specs.Value.{value};
 
 use crate::touched::is_touched;
@@ -51,7 +51,7 @@ impl Watch {
         steps: &mut Steps<L>,
     ) -> Result<Watch, AllocError>
         ensures expression { IfOk result (λ w. w.expression ≡ expression_of expr) }
-        ensures stands { IfOk result (λ w. Stands w (V.states v.now (V.at v.now))) }
+        ensures stands { IfOk result (λ w. WatchStands w (V.states v.now (V.at v.now))) }
         ensures steps { steps.new ≡ steps.old + 1 }
     {
         let _ = v.position();
@@ -68,11 +68,11 @@ impl Watch {
         steps: &mut Steps<L>,
     ) -> Result<Option<Change>, AllocError>
         requires position { 0 < V.at v.now }
-        requires stands { Stands self.old (V.states v.now (V.at v.now - 1)) }
+        requires stands { WatchStands self.old (V.states v.now (V.at v.now - 1)) }
         ensures expression { OnOk result (self.new.expression ≡ self.old.expression) }
-        ensures stands { OnOk result (Stands self.new (V.states v.now (V.at v.now))) }
+        ensures stands { OnOk result (WatchStands self.new (V.states v.now (V.at v.now))) }
         ensures fires { IfOk result (λ change. change ≡ change_of (value (V.states v.now (V.at v.now - 1)) no_variables self.old.expression) (value (V.states v.now (V.at v.now)) no_variables self.old.expression)) }
-        ensures steps { steps.new ≡ steps.old + (if meets (V.marks v.now) (V.at v.now) (reads (V.states v.now (V.at v.now - 1)) self.old.expression) then 1 else 0) }
+        ensures steps { steps.new ≡ steps.old + (if meets (V.marks v.now) (V.at v.now) (reads_of_expression (V.states v.now (V.at v.now - 1)) self.old.expression) then 1 else 0) }
     {
         watch_expr::laws::reads_tell();
         let _ = v.position();
@@ -89,7 +89,7 @@ impl Watch {
         steps: &mut Steps<L>,
     ) -> Result<bool, AllocError>
         requires position { 0 < V.at v.now }
-        requires stands { Stands self.old (V.states v.now (V.at v.now - 1)) }
+        requires stands { WatchStands self.old (V.states v.now (V.at v.now - 1)) }
         ensures watch { OnOk result (self.new ≡ watch_after_event (V.marks v.now) (V.at v.now) (V.states v.now (V.at v.now)) self.old) }
         ensures evaluates { IfOk result (λ evaluates. evaluates ≡ meets (V.marks v.now) (V.at v.now) self.old.places) }
         ensures steps { steps.new ≡ steps.old + (if meets (V.marks v.now) (V.at v.now) self.old.places then 1 else 0) }

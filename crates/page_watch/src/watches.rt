@@ -1,10 +1,10 @@
 // Several watches over one view.
 ghost use Rattle.std.specs.Prelude.{◌≡◌, ◌+◌, ◌-◌, ◌<◌, ◌++◌, ◌∷◌, [], All, IfOk, IsFalse, OnOk, count_by, Some, length, map, slice_get, if◌then◌else◌};
-ghost use Rattle.page_watch.specs.Places.{Covers, places_of};
+ghost use Rattle.page_watch.specs.Places.{CoversPlaces, places_of};
 ghost use Rattle.page_watch.specs.Touch.{meets};
-ghost use Rattle.page_watch.specs.Watched.{Stands, watch_after_event};
+ghost use Rattle.page_watch.specs.Watched.{WatchStands, watch_after_event};
 ghost use Rattle.watch_expr.specs.Expression.{expression_of};
-ghost use Rattle.watch_expr.specs.Reads.{reads};
+ghost use Rattle.watch_expr.specs.Reads.{reads_of_expression};
 
 use crate::places::AllPlaces;
 use crate::view::TouchView;
@@ -32,11 +32,11 @@ impl Model for Watches {
 
     ghost coded = { Prim.hlevel (codes, expression_code) };
 
-    ghost use Rattle.page_watch.specs.Places.{Covers, places_of};
+    ghost use Rattle.page_watch.specs.Places.{CoversPlaces, places_of};
 
     ghost view = { λ w. w.watches.items };
 
-    ghost invariant = { λ w. Covers w.places (places_of w.watches.items) };
+    ghost invariant = { λ w. CoversPlaces w.places (places_of w.watches.items) };
 }
 
 impl Watches {
@@ -59,7 +59,7 @@ impl Watches {
         steps: &mut Steps<L>,
     ) -> Result<Watches, AllocError>
         ensures expressions { IfOk result (λ done. map (λ w. w.expression) done ≡ map (λ w. w.expression) self ++ expression_of expr ∷ []) }
-        ensures stand { IfOk result (λ done. All (λ w. Stands w (V.states v.now (V.at v.now))) self → All (λ w. Stands w (V.states v.now (V.at v.now))) done) }
+        ensures stand { IfOk result (λ done. All (λ w. WatchStands w (V.states v.now (V.at v.now))) self → All (λ w. WatchStands w (V.states v.now (V.at v.now))) done) }
         ensures steps { steps.new ≡ steps.old + 1 }
     {
         watch_expr::laws::reads_low();
@@ -97,11 +97,11 @@ impl Watches {
         steps: &mut Steps<L>,
     ) -> Result<(Watches, bool), AllocError>
         requires position { 0 < V.at v.now }
-        requires stand { All (λ w. Stands w (V.states v.now (V.at v.now - 1))) self }
+        requires stand { All (λ w. WatchStands w (V.states v.now (V.at v.now - 1))) self }
         ensures expressions { IfOk result (λ done. map (λ w. w.expression) done.0 ≡ map (λ w. w.expression) self) }
-        ensures stand { IfOk result (λ done. All (λ w. Stands w (V.states v.now (V.at v.now))) done.0) }
+        ensures stand { IfOk result (λ done. All (λ w. WatchStands w (V.states v.now (V.at v.now))) done.0) }
         ensures same { IfOk result (λ done. IsFalse done.1 → done.0 ≡ self) }
-        ensures steps { OnOk result (steps.new ≡ steps.old + count_by (λ w. meets (V.marks v.now) (V.at v.now) (reads (V.states v.now (V.at v.now - 1)) w.expression)) self) }
+        ensures steps { OnOk result (steps.new ≡ steps.old + count_by (λ w. meets (V.marks v.now) (V.at v.now) (reads_of_expression (V.states v.now (V.at v.now - 1)) w.expression)) self) }
     {
         watch_expr::laws::reads_low();
         watch_expr::laws::reads_tell();
@@ -124,10 +124,10 @@ fn ask_all<V: TouchView, L: Ledger>(
     steps: &mut Steps<L>,
 ) -> Result<(Vec<Watch>, AllPlaces), AllocError>
     requires position { 0 < V.at v.now }
-    requires stand { All (λ w. Stands w (V.states v.now (V.at v.now - 1))) watches.items }
-    requires covers { Covers places (places_of watches.items) }
+    requires stand { All (λ w. WatchStands w (V.states v.now (V.at v.now - 1))) watches.items }
+    requires covers { CoversPlaces places (places_of watches.items) }
     ensures watches { IfOk result (λ done. done.0.items ≡ map (watch_after_event (V.marks v.now) (V.at v.now) (V.states v.now (V.at v.now))) watches.items) }
-    ensures covers { IfOk result (λ done. Covers done.1 (places_of done.0.items)) }
+    ensures covers { IfOk result (λ done. CoversPlaces done.1 (places_of done.0.items)) }
     ensures steps { OnOk result (steps.new ≡ steps.old + count_by (λ w. meets (V.marks v.now) (V.at v.now) w.places) watches.items) }
 {
     let mut watches = watches;
@@ -146,10 +146,10 @@ fn ask_one<V: TouchView, L: Ledger>(
     steps: &mut Steps<L>,
 ) -> Result<AllPlaces, AllocError>
     requires position { 0 < V.at v.now }
-    requires stands { Stands watch.old (V.states v.now (V.at v.now - 1)) }
+    requires stands { WatchStands watch.old (V.states v.now (V.at v.now - 1)) }
     ensures watch { OnOk result (watch.new ≡ watch_after_event (V.marks v.now) (V.at v.now) (V.states v.now (V.at v.now)) watch.old) }
-    ensures all { IfOk result (λ all. Covers all places) }
-    ensures places { IfOk result (λ all. Covers (all ++ watch.old.places) watch.new.places) }
+    ensures all { IfOk result (λ all. CoversPlaces all places) }
+    ensures places { IfOk result (λ all. CoversPlaces (all ++ watch.old.places) watch.new.places) }
     ensures steps { OnOk result (steps.new ≡ steps.old + (if meets (V.marks v.now) (V.at v.now) watch.old.places then 1 else 0)) }
 {
     watch_expr::laws::reads_low();

@@ -5,16 +5,16 @@ use Rattle.std.proofs.lemmas.Bool.Decides.{nat_tests}
 use Rattle.lib_calls.specs.declared.entry.Entry.{Entry}
 use Rattle.lib_calls.specs.Entry.{IsShaped}
 use Rattle.call_log.specs.Entry.{encoding, encodings}
-use Rattle.call_log.specs.Laws.{IsCommon, NoLonger}
+use Rattle.call_log.specs.Laws.{IsCommonEntry, NoLonger}
 use Rattle.call_log.specs.declared.version.Version.{Version}
 use Rattle.call_log.specs.declared.version.Version.TheVariants.{One, Two}
 use Rattle.guest_process.specs.declared.divergence.Divergence.{Divergence}
 use Rattle.guest_process.specs.Fits.{StateFits}
 use Rattle.guest_process.specs.Legal.{reason}
 use Rattle.guest_process.specs.Next.{next}
-use Rattle.guest_process.specs.Numbers.{HasNumbers, LegalNumbers}
-use Rattle.guest_process.specs.OneEvent.{IsKept, Rises}
-use Rattle.guest_process.specs.Replay.{accepted, reach, reach_then}
+use Rattle.guest_process.specs.Numbers.{HasLegalNumbers, LegalNumbers}
+use Rattle.guest_process.specs.OneEvent.{IsKeptByEvents, Rises}
+use Rattle.guest_process.specs.Replay.{accepted, reach_of_entries, reach_with_entry}
 use Rattle.guest_process.specs.State.{State}
 use Rattle.proc_replay.specs.Sizes.{AcceptedNoLonger}
 use Rattle.proc_replay.proofs.OneTurn.{one_accepted}
@@ -26,7 +26,7 @@ sent_low : (sender count clock : ℕ) → (nat_lt sender count && nat_le 1 clock
 sent_low sender count clock tests = grind (arith, nat_tests)
 
 -- the numbers of a legal entry are no greater than those of an event
-common : (S : State) (e : Entry) → StateFits S → HasNumbers S e → IsCommon S.clock e
+common : (S : State) (e : Entry) → StateFits S → HasLegalNumbers S e → IsCommonEntry S.clock e
 common S e s numbers = record {
   thread = omega (arith, numbers.thread);
   outgoing = numbers.outgoing;
@@ -50,7 +50,7 @@ module _ (no_longer : NoLonger) (numbers : LegalNumbers) where
 
   -- ---- entry by entry
 
-  module _ (rises : Rises) (kept : IsKept) where
+  module _ (rises : Rises) (kept : IsKeptByEvents) where
     -- one legal entry in front
     one_more : (S : State) (e : Entry) (es : List Entry) (v : Version) (n : ℕ) → StateFits S → IsShaped e → reason S e ≡ None
         → length (encodings Two (next S e).clock (take n es)) ≤ length (encodings v (next S e).clock es)
@@ -68,7 +68,7 @@ module _ (no_longer : NoLonger) (numbers : LegalNumbers) where
     first_accepted S e es v n s shaped few behind None legal =
         one_more S e es v n s shaped legal (behind (kept S e s legal) (omega (arith, few, one_accepted S e es legal)))
     first_accepted S e es v n s shaped few behind (Some why) differs =
-        let none : accepted S (e ∷ es) ≡ 0 = ap (λ o. (reach_then o (reach (next S e) es)).accepted) differs in
+        let none : accepted S (e ∷ es) ≡ 0 = ap (λ o. (reach_with_entry o (reach_of_entries (next S e) es)).accepted) differs in
         absurd (omega (arith, few, none))
 
     no_longer_from : (es : List Entry) (S : State) (v : Version) (n : ℕ) → StateFits S → All IsShaped es → n ≤ accepted S es

@@ -6,16 +6,16 @@ use Rattle.lib_calls.specs.declared.entry.EntryView.{EntryView}
 use Rattle.call_log.specs.Head.{Head}
 use Rattle.call_log.specs.Limits.{least_entry}
 use Rattle.call_log.specs.Log.{Log, Unread, entry_at}
-use Rattle.call_log.specs.Walk.{IsEnd, EntryLeads}
+use Rattle.call_log.specs.Walk.{IsEndOfLog, EntryLeads}
 use Rattle.guest_process.specs.declared.divergence.Divergence.{Divergence}
 use Rattle.guest_process.specs.Legal.{reason}
 use Rattle.guest_process.specs.Next.{next}
 use Rattle.guest_process.specs.declared.verdict.Verdict.{Verdict}
 use Rattle.guest_process.specs.State.{State}
 use Rattle.proc_replay.specs.declared.turn.Turn.TheVariants as code
-use Rattle.proc_replay.specs.Course.{Tells, outcome}
+use Rattle.proc_replay.specs.Course.{TellsVerdict, outcome_of_replay}
 use Rattle.proc_replay.specs.Inside.{IsAhead}
-use Rattle.proc_replay.specs.Replaying.{Diverges, Makes, Replaying, after, after_at, move_by, moved, replaying, turn, turn_at}
+use Rattle.proc_replay.specs.Replaying.{Diverges, Makes, Replaying, after_replay_turn, after_at, move_by, moved, replaying, turn, turn_at}
 use Rattle.proc_replay.proofs.OneTurn.{cases}
 use Rattle.proc_replay.proofs.TurnAfterTurn.{same_entry}
 
@@ -42,9 +42,9 @@ pub legal_entry : (S : State) (log behind : Log) (v : EntryView) → entry_at lo
     → IsAhead (replaying S log) (code.Event v) behind
 legal_entry S log behind v is head legal =
     let r = replaying S log in
-    let left : (after r).left ≡ behind.left = ap (λ (s : Replaying). s.left) (ap (after_at r) is ∙ ap (moved r (entry_of v) behind.left) legal) in record {
+    let left : (after_replay_turn r).left ≡ behind.left = ap (λ (s : Replaying). s.left) (ap (after_at r) is ∙ ap (moved r (entry_of v) behind.left) legal) in record {
       tells = sym (ap (turn_at S) is ∙ ap (move_by S (entry_of v)) legal);
-      leaves = λ e makes. same_log behind.head log.head behind.left (after r).left head (sym left);
+      leaves = λ e makes. same_log behind.head log.head behind.left (after_replay_turn r).left head (sym left);
     }
 
 -- ---- what the turn leaves
@@ -52,26 +52,26 @@ legal_entry S log behind v is head legal =
 -- the entry of the event is legal, and what is left is shorter
 pub record IsMade (r : Replaying) (e : Entry) : Type 0 where
   pub legal : reason r.state e ≡ None
-  pub moves : after r ≡ record { head = r.head; state = next r.state e; left = (after r).left }
-  pub shorter : length (after r).left.bytes + least_entry ≤ length r.left.bytes
+  pub moves : after_replay_turn r ≡ record { head = r.head; state = next r.state e; left = (after_replay_turn r).left }
+  pub shorter : length (after_replay_turn r).left.bytes + least_entry ≤ length r.left.bytes
 
-module _ (step : EntryLeads) (end : IsEnd) where
+module _ (step : EntryLeads) (end : IsEndOfLog) where
   pub made : (r : Replaying) (e : Entry) → turn r ≡ Makes e → IsMade r e
   made r e is = elim (cases step end r) [
     | inl g ↦
         let same : g.entry ≡ e = same_entry g.entry e (sym g.makes ∙ is) in
-        let left : (after r).left ≡ g.behind = ap (λ (s : Replaying). s.left) g.moves in
+        let left : (after_replay_turn r).left ≡ g.behind = ap (λ (s : Replaying). s.left) g.moves in
         subst (IsMade r) same (record {
           legal = g.legal;
           moves = g.moves ∙ ap (λ (behind : Unread). record { head = r.head; state = next r.state g.entry; left = behind }) (sym left);
           shorter = omega (arith, g.shorter, ap (λ (behind : Unread). length behind.bytes) left);
         })
-    | inr s ↦ absurd (subst (λ t. Tells t r.left.bytes (outcome r).verdict) is s.tells)
+    | inr s ↦ absurd (subst (λ t. TellsVerdict t r.left.bytes (outcome_of_replay r).verdict) is s.tells)
   ]
 
   -- a turn that tells a verdict leaves all as it is
-  pub stays : (r : Replaying) (v : Verdict) → Tells (turn r) r.left.bytes v → after r ≡ r
+  pub stays : (r : Replaying) (v : Verdict) → TellsVerdict (turn r) r.left.bytes v → after_replay_turn r ≡ r
   stays r v tells = elim (cases step end r) [
-    | inl g ↦ absurd (subst (λ t. Tells t r.left.bytes v) g.makes tells)
+    | inl g ↦ absurd (subst (λ t. TellsVerdict t r.left.bytes v) g.makes tells)
     | inr s ↦ s.stays
   ]

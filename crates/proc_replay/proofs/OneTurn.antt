@@ -2,17 +2,17 @@
 use Rattle.std.proofs.Common.{◌≡◌, ◌⊎◌, inl, inr, ℕ, suc, ◌+◌, ◌≤◌, List, [], ◌∷◌, length, take, Option, Some, None, refl, sym, ap, ◌∙◌, arith}
 use Rattle.lib_calls.specs.declared.entry.Entry.{Entry}
 use Rattle.call_log.specs.Limits.{least_entry}
-use Rattle.call_log.specs.Log.{Unread, entry_at, entries_of, rest_of}
-use Rattle.call_log.specs.Walk.{IsEnd, EntryLeads}
+use Rattle.call_log.specs.Log.{Unread, entry_at, entries_of, rest_of_log}
+use Rattle.call_log.specs.Walk.{IsEndOfLog, EntryLeads}
 use Rattle.guest_process.specs.declared.divergence.Divergence.{Divergence}
 use Rattle.guest_process.specs.EventCount.{CountsEvents}
 use Rattle.guest_process.specs.Legal.{reason}
 use Rattle.guest_process.specs.Next.{next}
 use Rattle.guest_process.specs.declared.verdict.Verdict.TheVariants.{Diverged}
-use Rattle.guest_process.specs.Replay.{Reach, accepted, left_over, reach, reach_then, state_after, verdict_of}
+use Rattle.guest_process.specs.Replay.{ReplayReach, accepted, left_over, reach_of_entries, reach_with_entry, state_after, verdict_of}
 use Rattle.guest_process.specs.State.{State}
-use Rattle.proc_replay.specs.Replaying.{Replaying, Makes, Ends, Diverges, after, after_at, move_by, moved, turn, turn_at}
-use Rattle.proc_replay.specs.Course.{Tells, ahead, further, outcome, outcome_at, outcome_by}
+use Rattle.proc_replay.specs.Replaying.{Replaying, Makes, Ends, Diverges, after_replay_turn, after_at, move_by, moved, turn, turn_at}
+use Rattle.proc_replay.specs.Course.{TellsVerdict, entries_ahead, further_reach, outcome_of_replay, replay_outcome_at, outcome_by}
 
 -- the turn makes the event of this entry
 pub record Goes (r : Replaying) : Type 0 where
@@ -21,17 +21,17 @@ pub record Goes (r : Replaying) : Type 0 where
   pub legal : reason r.state entry ≡ None
   pub shorter : length behind.bytes + least_entry ≤ length r.left.bytes
   pub entries : entries_of r.left ≡ entry ∷ entries_of behind
-  pub rest : rest_of r.left ≡ rest_of behind
+  pub rest : rest_of_log r.left ≡ rest_of_log behind
   pub makes : turn r ≡ Makes entry
-  pub moves : after r ≡ record { head = r.head; state = next r.state entry; left = behind }
+  pub moves : after_replay_turn r ≡ record { head = r.head; state = next r.state entry; left = behind }
 
 -- the turn makes no event, and tells the verdict
 pub record Stands (r : Replaying) : Type 0 where
   pub none : accepted r.state (entries_of r.left) ≡ 0
-  pub stays : after r ≡ r
-  pub tells : Tells (turn r) r.left.bytes (outcome r).verdict
+  pub stays : after_replay_turn r ≡ r
+  pub tells : TellsVerdict (turn r) r.left.bytes (outcome_of_replay r).verdict
 
-pub cases : EntryLeads → IsEnd → (r : Replaying) → Goes r ⊎ Stands r
+pub cases : EntryLeads → IsEndOfLog → (r : Replaying) → Goes r ⊎ Stands r
 cases step end r = by_entry (entry_at r.left) refl
   where
     by_reason : (e : Entry) (behind : Unread) → entry_at r.left ≡ Some (e, behind) → (o : Option Divergence) → reason r.state e ≡ o → Goes r ⊎ Stands r
@@ -50,13 +50,13 @@ cases step end r = by_entry (entry_at r.left) refl
     by_reason e behind found (Some why) differs =
         let here = step r.left e behind found in
         let turns : turn r ≡ Diverges (r.state.events + 1) why = ap (turn_at r.state) found ∙ ap (move_by r.state e) differs in
-        let reaches : reach r.state (entries_of r.left) ≡ record { accepted = 0; divergence = Some why } =
-        ap (reach r.state) here.entries ∙ ap (λ o. reach_then o (reach (next r.state e) (entries_of behind))) differs in
+        let reaches : reach_of_entries r.state (entries_of r.left) ≡ record { accepted = 0; divergence = Some why } =
+        ap (reach_of_entries r.state) here.entries ∙ ap (λ o. reach_with_entry o (reach_of_entries (next r.state e) (entries_of behind))) differs in
         let at : suc (r.state.events + 0) ≡ r.state.events + 1 = omega arith in
-        let verdict : (outcome r).verdict ≡ Diverged (r.state.events + 1) why =
-        ap (λ (far : Reach). verdict_of (further r.state.events far) (rest_of r.left)) reaches ∙ ap (λ n. Diverged n why) at in
+        let verdict : (outcome_of_replay r).verdict ≡ Diverged (r.state.events + 1) why =
+        ap (λ (far : ReplayReach). verdict_of (further_reach r.state.events far) (rest_of_log r.left)) reaches ∙ ap (λ n. Diverged n why) at in
         inr (record {
-          none = ap (λ (far : Reach). far.accepted) reaches;
+          none = ap (λ (far : ReplayReach). far.accepted) reaches;
           stays = ap (after_at r) found ∙ ap (moved r e behind) differs;
           tells = rw turns verdict;
         })
@@ -65,8 +65,8 @@ cases step end r = by_entry (entry_at r.left) refl
     by_entry None none =
         let here = end r.left none in
         let turns : turn r ≡ Ends = ap (turn_at r.state) none in
-        let verdict : (outcome r).verdict ≡ left_over r.left.bytes =
-        ap (λ es. verdict_of (further r.state.events (reach r.state es)) (rest_of r.left)) here.entries ∙ ap left_over here.rest in
+        let verdict : (outcome_of_replay r).verdict ≡ left_over r.left.bytes =
+        ap (λ es. verdict_of (further_reach r.state.events (reach_of_entries r.state es)) (rest_of_log r.left)) here.entries ∙ ap left_over here.rest in
         inr (record {
           none = ap (accepted r.state) here.entries;
           stays = ap (after_at r) none;
@@ -76,36 +76,36 @@ cases step end r = by_entry (entry_at r.left) refl
 
 -- ---- what a legal entry in front changes
 
-pub one_further : (S : State) (e : Entry) (es : List Entry) → reason S e ≡ None → reach S (e ∷ es) ≡ reach_then None (reach (next S e) es)
-one_further S e es legal = ap (λ o. reach_then o (reach (next S e) es)) legal
+pub one_further : (S : State) (e : Entry) (es : List Entry) → reason S e ≡ None → reach_of_entries S (e ∷ es) ≡ reach_with_entry None (reach_of_entries (next S e) es)
+one_further S e es legal = ap (λ o. reach_with_entry o (reach_of_entries (next S e) es)) legal
 
 pub one_accepted : (S : State) (e : Entry) (es : List Entry) → reason S e ≡ None → accepted S (e ∷ es) ≡ suc (accepted (next S e) es)
-one_accepted S e es legal = ap (λ (far : Reach). far.accepted) (one_further S e es legal)
+one_accepted S e es legal = ap (λ (far : ReplayReach). far.accepted) (one_further S e es legal)
 
 -- ---- the outcome of a replay
 
-equal : (f g : Reach) (S T : State) (x y : List ℕ) → f ≡ g → S ≡ T → x ≡ y → outcome_by f S x ≡ outcome_by g T y
+equal : (f g : ReplayReach) (S T : State) (x y : List ℕ) → f ≡ g → S ≡ T → x ≡ y → outcome_by f S x ≡ outcome_by g T y
 equal f g S T x y a b c = rw (a, b, c) refl
 
 -- an event that was made is one of those before the rest
-made_before : (n m : ℕ) (far : Reach) → n ≡ m + 1 → further n far ≡ further m (reach_then None far)
+made_before : (n m : ℕ) (far : ReplayReach) → n ≡ m + 1 → further_reach n far ≡ further_reach m (reach_with_entry None far)
 made_before n m far one = let all : n + far.accepted ≡ m + suc far.accepted = omega (arith, one) in ap (λ k. record far { accepted = k }) all
 
 -- a turn that makes an event leaves it
-pub goes_same : CountsEvents → (r : Replaying) → Goes r → outcome (after r) ≡ outcome r
+pub goes_same : CountsEvents → (r : Replaying) → Goes r → outcome_of_replay (after_replay_turn r) ≡ outcome_of_replay r
 goes_same counted r g =
     let S = next r.state g.entry in
     let es = entries_of g.behind in
     let one = one_further r.state g.entry es g.legal in
-    ap outcome g.moves
-    ∙ equal _ (further r.state.events (reach r.state (g.entry ∷ es))) _ _ _ _
-    (made_before S.events r.state.events (reach S es) (counted r.state g.entry g.legal) ∙ ap (further r.state.events) (sym one))
-    (ap (λ (far : Reach). state_after r.state (g.entry ∷ es) far.accepted) (sym one))
+    ap outcome_of_replay g.moves
+    ∙ equal _ (further_reach r.state.events (reach_of_entries r.state (g.entry ∷ es))) _ _ _ _
+    (made_before S.events r.state.events (reach_of_entries S es) (counted r.state g.entry g.legal) ∙ ap (further_reach r.state.events) (sym one))
+    (ap (λ (far : ReplayReach). state_after r.state (g.entry ∷ es) far.accepted) (sym one))
     (sym g.rest)
-    ∙ ap (λ all. outcome_at r.state all (rest_of r.left)) (sym g.entries)
+    ∙ ap (λ all. replay_outcome_at r.state all (rest_of_log r.left)) (sym g.entries)
 
 -- where it stands it is there
-pub stands_at : (r : Replaying) → Stands r → outcome r ≡ record { accepted = r.state.events; last = r.state; verdict = (outcome r).verdict; rest = rest_of r.left }
+pub stands_at : (r : Replaying) → Stands r → outcome_of_replay r ≡ record { accepted = r.state.events; last = r.state; verdict = (outcome_of_replay r).verdict; rest = rest_of_log r.left }
 stands_at r s =
     let made : r.state.events + accepted r.state (entries_of r.left) ≡ r.state.events = omega (arith, s.none) in
     rw (made, s.none) refl
@@ -113,13 +113,13 @@ stands_at r s =
 -- ---- what is ahead
 
 -- a turn that makes an event makes the first of them
-pub goes_ahead : (r : Replaying) (g : Goes r) → ahead r ≡ g.entry ∷ ahead (after r)
+pub goes_ahead : (r : Replaying) (g : Goes r) → entries_ahead r ≡ g.entry ∷ entries_ahead (after_replay_turn r)
 goes_ahead r g =
     let es = entries_of g.behind in
     ap (λ all. take (accepted r.state all) all) g.entries
     ∙ ap (λ n. take n (g.entry ∷ es)) (one_accepted r.state g.entry es g.legal)
-    ∙ ap (λ (s : Replaying). g.entry ∷ ahead s) (sym g.moves)
+    ∙ ap (λ (s : Replaying). g.entry ∷ entries_ahead s) (sym g.moves)
 
 -- where it stands nothing is ahead
-pub stands_ahead : (r : Replaying) → Stands r → ahead r ≡ []
+pub stands_ahead : (r : Replaying) → Stands r → entries_ahead r ≡ []
 stands_ahead r s = ap (λ n. take n (entries_of r.left)) s.none

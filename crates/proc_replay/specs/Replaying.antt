@@ -21,20 +21,20 @@ replaying S log = record { head = log.head; state = S; left = log.left }
 
 -- what the next turn is: the event of an entry is made, or no entry comes next, or the entry with this
 -- number, from 1 on, is not legal
-pub data Move : Type 0 where
-  Makes : (entry : Entry) → Move
-  Ends : Move
-  Diverges : (at : ℕ) → (why : Divergence) → Move
+pub data ReplayMove : Type 0 where
+  Makes : (entry : Entry) → ReplayMove
+  Ends : ReplayMove
+  Diverges : (at : ℕ) → (why : Divergence) → ReplayMove
 
-abbrev pub move_by : State → Entry → Option Divergence → Move
+abbrev pub move_by : State → Entry → Option Divergence → ReplayMove
 move_by S e None = Makes e
 move_by S e (Some why) = Diverges (S.events + 1) why
 
-abbrev pub turn_at : State → Option (Entry × Unread) → Move
+abbrev pub turn_at : State → Option (Entry × Unread) → ReplayMove
 turn_at S None = Ends
 turn_at S (Some x) = move_by S x.0 (reason S x.0)
 
-abbrev pub turn : Replaying → Move
+abbrev pub turn : Replaying → ReplayMove
 turn r = turn_at r.state (entry_at r.left)
 
 -- where the entry is legal its event is made, and else nothing changes
@@ -47,8 +47,8 @@ after_at r None = r
 after_at r (Some x) = moved r x.0 x.1 (reason r.state x.0)
 
 -- what is there after the turn
-abbrev pub after : Replaying → Replaying
-after r = after_at r (entry_at r.left)
+abbrev pub after_replay_turn : Replaying → Replaying
+after_replay_turn r = after_at r (entry_at r.left)
 
 -- a log has fewer than 2 ^ 63 bytes, and each event took some of them
 pub record IsRoomy (S : State) (log : Log) : Type 0 where

@@ -3,7 +3,7 @@ ghost use Rattle.std.specs.Prelude.{◌≡◌, ◌*◌, ◌<◌, ◌^◌, IfOk, 
 ghost use Rattle.call_log.specs.Head.{head_of};
 ghost use Rattle.call_log.specs.Limits.{least_entry};
 ghost use Rattle.proc_replay.specs.Inside.{IsAhead};
-ghost use Rattle.proc_replay.specs.Replaying.{IsRoomy, after, replaying, turn};
+ghost use Rattle.proc_replay.specs.Replaying.{IsRoomy, after_replay_turn, replaying, turn};
 ghost use Rattle.proc_replay.specs.Seen.{move_of};
 
 use crate::turn::Turn;
@@ -79,7 +79,7 @@ impl<'m, 'a> Replayer<'m, 'a> {
     #[inline(always)]
     pub fn next_event(self) -> Result<(Replayer<'m, 'a>, Turn<'a>), AllocError>
         ensures turn { IfOk result (λ r. move_of r.1 ≡ turn self.entry) }
-        ensures after { IfOk result (λ r. r.0 ≡ after self.entry) }
+        ensures after { IfOk result (λ r. r.0 ≡ after_replay_turn self.entry) }
     {
         call_log::laws::entry_by_entry();
         guest_process::laws::counting();

@@ -3,7 +3,7 @@ use Rattle.std.proofs.Common.{◌≡◌, ◌∙◌, ◌++◌, ℕ, zero, suc, Li
 use Rattle.std.proofs.lemmas.List.{take-append-drop, take_all}
 use Rattle.std.proofs.lemmas.Option.{same_Some}
 use Rattle.fri_outside.specs.Outside.{Folder, with_file}
-use Rattle.fri_outside.specs.Several.{AreFronts, with_files}
+use Rattle.fri_outside.specs.Several.{AreFileFronts, with_files}
 use Rattle.process_files.specs.Parts.{AreMadeInPart, made_in_part}
 
 -- ---- as fronts
@@ -12,7 +12,7 @@ abbrev a_file : List ℕ → List ℕ → Option (List ℕ × List ℕ)
 a_file name bytes = Some (name, bytes)
 
 -- a part of these files
-pub part_fronts : (files : List (List ℕ × List ℕ)) (n m : ℕ) → AreFronts (made_in_part files n m) files
+pub part_fronts : (files : List (List ℕ × List ℕ)) (n m : ℕ) → AreFileFronts (made_in_part files n m) files
 part_fronts [] zero m place name bytes at = cc
 part_fronts [] (suc n) m place name bytes at = cc
 part_fronts (file ∷ files) zero m zero name bytes at =
@@ -58,10 +58,10 @@ front_cut x (y ∷ xs) ys (suc n) m =
     let rest = front_cut y xs ys n m in
     (suc rest.0, rest.1, ap (λ fs. x ∷ fs) rest.2)
 
-pub front_part : (xs ys : List (List ℕ × List ℕ)) (before after : Option Folder) → AreMadeInPart xs before after → AreMadeInPart (xs ++ ys) before after
-front_part xs ys before after (inl same) = inl same
-front_part [] ys before after (inr (n, m, is)) = inl (is ∙ ap (λ fs. with_files fs before) (no_part n m))
-front_part (x ∷ xs) ys before after (inr (n, m, is)) =
+pub files_front_part : (xs ys : List (List ℕ × List ℕ)) (before after : Option Folder) → AreMadeInPart xs before after → AreMadeInPart (xs ++ ys) before after
+files_front_part xs ys before after (inl same) = inl same
+files_front_part [] ys before after (inr (n, m, is)) = inl (is ∙ ap (λ fs. with_files fs before) (no_part n m))
+files_front_part (x ∷ xs) ys before after (inr (n, m, is)) =
     let cut = front_cut x xs ys n m in
     inr (cut.0, cut.1, is ∙ ap (λ fs. with_files fs before) (sym cut.2))
 
@@ -72,8 +72,8 @@ after_cut (x ∷ xs) ys n m =
     let rest = after_cut xs ys n m in
     (suc rest.0, ap (λ fs. x ∷ fs) rest.1)
 
-pub after_part : (xs ys : List (List ℕ × List ℕ)) (before now after : Option Folder) → now ≡ with_files xs before → AreMadeInPart ys now after → AreMadeInPart (xs ++ ys) before after
-after_part xs ys before now after made (inl same) = whole_part xs ys before after (same ∙ made)
-after_part xs ys before now after made (inr (n, m, is)) =
+pub files_after_part : (xs ys : List (List ℕ × List ℕ)) (before now after : Option Folder) → now ≡ with_files xs before → AreMadeInPart ys now after → AreMadeInPart (xs ++ ys) before after
+files_after_part xs ys before now after made (inl same) = whole_part xs ys before after (same ∙ made)
+files_after_part xs ys before now after made (inr (n, m, is)) =
     let cut = after_cut xs ys n m in
     inr (cut.0, m, is ∙ ap (with_files (made_in_part ys n m)) made ∙ sym (files_after xs (made_in_part ys n m) before) ∙ ap (λ fs. with_files fs before) (sym cut.1))

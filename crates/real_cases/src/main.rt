@@ -15,7 +15,7 @@ use std::os::unix::fs::symlink;
 use std::rt::Files;
 
 /// The most bytes of a schedule that is read.
-const SCHEDULE_LIMIT: usize = 16_777_216;
+const MOST_SCHEDULE: usize = 16_777_216;
 
 /// A device that takes no byte.
 const FULL: &str = "/dev/full";
@@ -107,9 +107,9 @@ fn refuse<R: Files + Print + AllocGlobal>(rt: &R) -> io::Result<()> {
     play(rt, "replay ping.wasm schedule", "")?;
     play(rt, "replay . ping.log", "")?;
     play(rt, "record .", "")?;
-    write_long(rt, "long", SCHEDULE_LIMIT)?;
+    write_long(rt, "long", MOST_SCHEDULE)?;
     play(rt, "record long", "")?;
-    write_long(rt, "longer", SCHEDULE_LIMIT + 1)?;
+    write_long(rt, "longer", MOST_SCHEDULE + 1)?;
     play(rt, "record longer", "")
 }
 

@@ -8,11 +8,11 @@ use Rattle.guest_process.specs.State.{State}
 use Rattle.schedule_text.specs.Laws.{GivesSchedules}
 use Rattle.schedule_text.specs.Reading.{ScheduleRefusal, BadLineAt, TooManyRuns, schedule_of}
 use Rattle.schedule_text.specs.Schedule.{IsWellFormed, Schedule}
-use Rattle.group_record.specs.Answer.{StoppedWhere, first_states}
-use Rattle.group_record.specs.Files.{InHeads, IsStopped}
+use Rattle.group_record.specs.Answer.{StoppedWhereBegun, first_states}
+use Rattle.group_record.specs.Files.{InHeads, IsStoppedRecording}
 use Rattle.group_record.specs.Images.{images_of}
 use Rattle.group_record.specs.Laws.{Agreement, Beginning, CutAgreement, Delivery, TakesDrawn, TakesWaiting}
-use Rattle.group_record.specs.Logs.{logs}
+use Rattle.group_record.specs.Logs.{logs_of_steps}
 use Rattle.group_record.specs.Run.{log_of}
 use Rattle.command_run.specs.declared.refusal.WorkText.{WorkText}
 use Rattle.command_run.specs.declared.refusal.StopCause.{StopCause}
@@ -22,24 +22,24 @@ use Rattle.command_run.specs.Call.{IsAnswerResult, MakesWorkFiles}
 use Rattle.record_command.specs.Expected.{group_outcome, modules_of, record_outcome, schedule_in, schedule_or_refusal}
 use Rattle.schedule_text.specs.Limits.{most_schedule}
 use Rattle.command_run.specs.Outcome.{CommandOutcome, file_of, writes_of}
-use Rattle.record_command.specs.Seen.{Gathers}
+use Rattle.record_command.specs.Seen.{GathersFromFolder}
 use Rattle.record_command.proofs.GatheredOutcome.{gathered}
 use Rattle.record_command.proofs.GroupOutcome.{group_writes}
 use Rattle.command_run.specs.Laws.{ReadsModules}
-use Rattle.command_run.specs.OutcomeLaws.{follows, same_Ok}
+use Rattle.command_run.specs.OutcomeLaws.{result_follows, same_Ok_value}
 use Rattle.record_command.proofs.GroupModules.{modules_valid}
 use Rattle.record_command.proofs.StoppedFiles.{images_are_no_logs, logs_apart, logs_stand}
 
 -- ---- a schedule that was read
 
 read_by : (name : List ℕ) (r : Result Schedule ScheduleRefusal) (schedule : Schedule) → schedule_or_refusal name r ≡ Ok schedule → r ≡ Ok schedule
-read_by name (Ok s) schedule is = ap (λ (s : Schedule). Ok s) (same_Ok (schedule_or_refusal name (Ok s)) s schedule refl is)
+read_by name (Ok s) schedule is = ap (λ (s : Schedule). Ok s) (same_Ok_value (schedule_or_refusal name (Ok s)) s schedule refl is)
 read_by name (Err (BadLineAt line)) schedule is = cc
 read_by name (Err TooManyRuns) schedule is = cc
 
 pub schedule_formed : GivesSchedules → (folder : Folder) (name : List ℕ) (schedule : Schedule) → schedule_in folder name ≡ Ok schedule → IsWellFormed schedule
 schedule_formed gives folder name schedule is =
-    let bytes = follows (file_of folder name most_schedule) _ schedule is in
+    let bytes = result_follows (file_of folder name most_schedule) _ schedule is in
     ((gives bytes.given schedule).0 (read_by name (schedule_of bytes.given) schedule bytes.comes)).0.formed
 
 -- ---- its logs agree with it
@@ -70,15 +70,15 @@ record IsOne (schedule : Schedule) (modules : List Module) {folder : Folder} {na
   schedules : schedule ≡ r.schedule
   modules_same : modules ≡ r.modules
 
-pub gathers_it : {folder : Folder} {name : List ℕ} (r : IsRecordable folder name) → Gathers folder name r.schedule r.modules
+pub gathers_it : {folder : Folder} {name : List ℕ} (r : IsRecordable folder name) → GathersFromFolder folder name r.schedule r.modules
 gathers_it r = record { spelled = r.spelled; found = r.found }
 
-one_recording : {folder : Folder} {name : List ℕ} (schedule : Schedule) (modules : List Module) → Gathers folder name schedule modules → (r : IsRecordable folder name) → IsOne schedule modules r
+one_recording : {folder : Folder} {name : List ℕ} (schedule : Schedule) (modules : List Module) → GathersFromFolder folder name schedule modules → (r : IsRecordable folder name) → IsOne schedule modules r
 one_recording {folder} {name} schedule modules g r =
-    let schedules : schedule ≡ r.schedule = same_Ok (schedule_in folder name) schedule r.schedule g.spelled r.spelled in
+    let schedules : schedule ≡ r.schedule = same_Ok_value (schedule_in folder name) schedule r.schedule g.spelled r.spelled in
     record {
       schedules = schedules;
-      modules_same = same_Ok (modules_of folder r.schedule.processes) modules r.modules (ap (λ (s : Schedule). modules_of folder s.processes) (sym schedules) ∙ g.found) r.found;
+      modules_same = same_Ok_value (modules_of folder r.schedule.processes) modules r.modules (ap (λ (s : Schedule). modules_of folder s.processes) (sym schedules) ∙ g.found) r.found;
     }
 
 -- ---- what stands of it
@@ -88,17 +88,17 @@ pub moment_before : RecordingsAgree → (told after : Option Folder) (images : B
 moment_before agree told after images name same before is r = (InHeads 0 (λ p. 0) (same ∙ is), agree before name r)
 
 -- where the recording was stopped or reached its end
-pub moment_then : RecordingsAgree → (told middle after : Option Folder) (images : Bool) (name : List ℕ) (schedule : Schedule) (modules : List Module) → WhenTold told (λ folder. Gathers folder name schedule modules)
-    → middle ≡ told → StoppedWhere schedule images (first_states schedule modules) middle after → WhenTold told (λ before. LeavesMoment images name before after)
+pub moment_then : RecordingsAgree → (told middle after : Option Folder) (images : Bool) (name : List ℕ) (schedule : Schedule) (modules : List Module) → WhenTold told (λ folder. GathersFromFolder folder name schedule modules)
+    → middle ≡ told → StoppedWhereBegun schedule images (first_states schedule modules) middle after → WhenTold told (λ before. LeavesMoment images name before after)
 moment_then agree told middle after images name schedule modules gathers same stopped before is r = (here, agree before name r) where
   one : IsOne schedule modules r
   one = one_recording schedule modules (gathers before is) r
 
-  here : IsStopped (group_in r) (steps_in r) (images_of images (group_in r) (run_in r)) (Some before) after
-  here = subst (λ (s : Result (List State) ℕ). StoppedWhere r.schedule images s (Some before) after) r.begins
-      (subst (λ (m : List Module). StoppedWhere r.schedule images (first_states r.schedule m) (Some before) after) one.modules_same
-      (subst (λ (s : Schedule). StoppedWhere s images (first_states s modules) (Some before) after) one.schedules
-      (subst (λ (t : Option Folder). StoppedWhere schedule images (first_states schedule modules) t after) (same ∙ is) stopped)))
+  here : IsStoppedRecording (group_in r) (steps_in r) (images_of images (group_in r) (run_in r)) (Some before) after
+  here = subst (λ (s : Result (List State) ℕ). StoppedWhereBegun r.schedule images s (Some before) after) r.begins
+      (subst (λ (m : List Module). StoppedWhereBegun r.schedule images (first_states r.schedule m) (Some before) after) one.modules_same
+      (subst (λ (s : Schedule). StoppedWhereBegun s images (first_states s modules) (Some before) after) one.schedules
+      (subst (λ (t : Option Folder). StoppedWhereBegun schedule images (first_states schedule modules) t after) (same ∙ is) stopped)))
 
 -- at an answer the files of the outcome are made
 made_at_end : (result : Result WorkText StopCause) (files : List (List ℕ × List ℕ)) (before after : Option Folder) → IsAnswerResult result → MakesWorkFiles result files before after → after ≡ with_files files before
@@ -110,7 +110,7 @@ made_at_end (Err refusal.WriteFault) files before after end makes = absurd end
 made_at_end (Err refusal.NoMemory) files before after end makes = absurd end
 
 -- those of a recording are its logs, and after them the images that were asked for
-recording_writes : {folder : Folder} {name : List ℕ} (images : Bool) (r : IsRecordable folder name) → writes_of (record_outcome images name folder) ≡ logs (group_in r) (steps_in r) ++ images_of images (group_in r) (run_in r)
+recording_writes : {folder : Folder} {name : List ℕ} (images : Bool) (r : IsRecordable folder name) → writes_of (record_outcome images name folder) ≡ logs_of_steps (group_in r) (steps_in r) ++ images_of images (group_in r) (run_in r)
 recording_writes {folder} {name} images r =
     ap writes_of (gathered folder images name r.schedule r.modules (gathers_it r) ∙ ap (group_outcome images name r.schedule) r.begins)
     ∙ group_writes images name r.schedule r.first

@@ -10,12 +10,12 @@ use Rattle.guest_process.specs.State.{State}
 use Rattle.schedule_text.specs.declared.process.ProcessLine.{ProcessLine}
 use Rattle.group_record.specs.Answer.{first_states_from, with_first_state}
 use Rattle.command_run.specs.declared.refusal.StopCause.{StopCause}
-use Rattle.command_run.specs.Call.{StopsAs}
+use Rattle.command_run.specs.Call.{StopsAsCause}
 use Rattle.record_command.specs.Expected.{modules_of}
 use Rattle.command_run.specs.Inputs.{module_in}
 use Rattle.command_run.specs.Laws.{ReadsModules}
 use Rattle.command_run.specs.Outcome.{CommandStop, and_then}
-use Rattle.command_run.specs.OutcomeLaws.{follows, stops_then, value_or}
+use Rattle.command_run.specs.OutcomeLaws.{result_follows, stops_before_next, ok_value_or}
 
 -- ---- all modules
 
@@ -32,12 +32,12 @@ no_module : All IsValid []
 no_module k d below = absurd (omega (arith, below))
 
 pub modules_valid : ReadsModules → (folder : Folder) (lines : List ProcessLine) (ms : List Module) → modules_of folder lines ≡ Ok ms → AreModules lines ms
-modules_valid reads folder [] ms is = subst (AreModules []) (ap (value_or []) is) (record { count = refl; valid = no_module })
+modules_valid reads folder [] ms is = subst (AreModules []) (ap (ok_value_or []) is) (record { count = refl; valid = no_module })
 modules_valid reads folder (line ∷ lines) ms is =
-    let first = follows (module_in folder line.«module») _ ms is in
-    let rest = follows (modules_of folder lines) _ ms first.comes in
+    let first = result_follows (module_in folder line.«module») _ ms is in
+    let rest = result_follows (modules_of folder lines) _ ms first.comes in
     let known = modules_valid reads folder lines rest.given rest.is_given in
-    subst (AreModules (line ∷ lines)) (ap (value_or []) rest.comes) (record {
+    subst (AreModules (line ∷ lines)) (ap (ok_value_or []) rest.comes) (record {
       count = ap suc known.count;
       valid = valid_too first.given rest.given (reads.valid folder line.«module» first.given first.is_given) known.valid;
     })
@@ -82,8 +82,8 @@ one_further folder ms line lines m is =
     ∙ with_one ms m (modules_of folder lines)
 
 -- a module at which there is a stop
-pub one_stops : (folder : Folder) (ms : List Module) (line : ProcessLine) (lines : List ProcessLine) (e : StopCause) → StopsAs (module_in folder line.«module») e → StopsAs (prefixed ms (modules_of folder (line ∷ lines))) e
-one_stops folder ms line lines e stops = stops_then (modules_of folder (line ∷ lines)) _ e (stops_then (module_in folder line.«module») _ e stops)
+pub one_stops : (folder : Folder) (ms : List Module) (line : ProcessLine) (lines : List ProcessLine) (e : StopCause) → StopsAsCause (module_in folder line.«module») e → StopsAsCause (prefixed ms (modules_of folder (line ∷ lines))) e
+one_stops folder ms line lines e stops = stops_before_next (modules_of folder (line ∷ lines)) _ e (stops_before_next (module_in folder line.«module») _ e stops)
 
 -- so many of the modules were taken
 pub record AreTaken (told : Option Folder) (lines : List ProcessLine) (index : ℕ) (ms : List Module) : Type 0 where
@@ -103,9 +103,9 @@ one_taken told lines index ms line m taken next found = record {
 }
 
 pub taking_stops : (told : Option Folder) (lines : List ProcessLine) (index : ℕ) (ms : List Module) (line : ProcessLine) (e : StopCause) → AreTaken told lines index ms → drop index lines ≡ line ∷ drop (index + 1) lines
-    → WhenTold told (λ folder. StopsAs (module_in folder line.«module») e) → WhenTold told (λ folder. StopsAs (modules_of folder lines) e)
+    → WhenTold told (λ folder. StopsAsCause (module_in folder line.«module») e) → WhenTold told (λ folder. StopsAsCause (modules_of folder lines) e)
 taking_stops told lines index ms line e taken next stops folder is =
-    subst (λ (r : Result (List Module) CommandStop). StopsAs r e) (sym (taken.so_far folder is ∙ ap (λ (rest : List ProcessLine). prefixed ms (modules_of folder rest)) next))
+    subst (λ (r : Result (List Module) CommandStop). StopsAsCause r e) (sym (taken.so_far folder is ∙ ap (λ (rest : List ProcessLine). prefixed ms (modules_of folder rest)) next))
     (one_stops folder ms line (drop (index + 1) lines) e (stops folder is))
 
 pub all_taken : (told : Option Folder) (lines : List ProcessLine) (index : ℕ) (ms : List Module) → AreTaken told lines index ms → drop index lines ≡ [] → WhenTold told (λ folder. modules_of folder lines ≡ Ok ms)

@@ -3,7 +3,7 @@ use Rattle.std.proofs.Common.{◌≡◌, ◌<◌, ◌++◌, ℕ, Bool, true, fal
 use Rattle.std.specs.Prelude.{is_none}
 use Rattle.fri_outside.specs.Laws.{KeepsFiles}
 use Rattle.fri_outside.specs.Outside.{Folder}
-use Rattle.fri_outside.specs.Several.{ChangesOnly, with_files}
+use Rattle.fri_outside.specs.Several.{ChangesOnlyFiles, with_files}
 use Rattle.guest_process.specs.State.{State}
 use Rattle.wasm_types.specs.Modules.{Module}
 use Rattle.schedule_text.specs.Schedule.{Schedule}
@@ -11,19 +11,19 @@ use Rattle.group_record.specs.declared.error.RecordError.{RecordError}
 use Rattle.group_record.specs.declared.error.RecordError.TheVariants as errors
 use Rattle.group_record.specs.declared.summary.Summary.{Summary}
 use Rattle.group_record.specs.declared.summary.SummaryLine.{SummaryLine}
-use Rattle.group_record.specs.Answer.{RecordAnswers, StoppedWhere, IsSummary, first_states, group_of, summary_lines}
-use Rattle.group_record.specs.Files.{Between, InImages, IsStopped, change}
+use Rattle.group_record.specs.Answer.{RecordAnswers, StoppedWhereBegun, IsSummary, first_states, group_of, summary_lines}
+use Rattle.group_record.specs.Files.{Between, InImages, IsStoppedRecording, change}
 use Rattle.group_record.specs.Images.{images_of, images as all_images}
 use Rattle.process_files.specs.Parts.{made_in_part}
-use Rattle.group_record.specs.Logs.{logs}
-use Rattle.group_record.specs.Run.{GroupStart, Progress, run}
+use Rattle.group_record.specs.Logs.{logs_of_steps}
+use Rattle.group_record.specs.Run.{GroupStart, RunProgress, run}
 use Rattle.command_run.specs.declared.refusal.WorkText.TheVariants as answered
 use Rattle.command_run.specs.declared.refusal.Reason.TheVariants as reason
 use Rattle.command_run.specs.declared.refusal.StopCause.{StopCause}
 use Rattle.command_run.specs.declared.refusal.StopCause.TheVariants as refusal
 use Rattle.command_run.specs.Call.{MakesWorkFiles, TellsOutcome}
 use Rattle.record_command.specs.Expected.{group_outcome}
-use Rattle.command_run.specs.Outcome.{Refuses, nothing_done, writes_of}
+use Rattle.command_run.specs.Outcome.{Refuses, no_work_done, writes_of}
 use Rattle.record_command.specs.Record.{outcome_by_room, recorded_work, run_outcome, summary_text, written_before}
 use Rattle.record_command.specs.Seen.{RefusesAs}
 use Rattle.record_command.proofs.FileFronts.{all_made}
@@ -31,23 +31,23 @@ use Rattle.command_run.specs.FileLaws.{same_changes}
 use Rattle.record_command.proofs.GroupModules.{fails_within}
 use Rattle.record_command.proofs.StoppedFiles.{stopped_changes}
 
-abbrev run_of : Schedule → List State → Progress
+abbrev run_of : Schedule → List State → RunProgress
 run_of schedule first = run (group_of schedule first) schedule.items
 
 abbrev files_of : Bool → Schedule → List State → List (List ℕ × List ℕ)
-files_of images schedule first = logs (group_of schedule first) (run_of schedule first).steps ++ images_of images (group_of schedule first) (run_of schedule first)
+files_of images schedule first = logs_of_steps (group_of schedule first) (run_of schedule first).steps ++ images_of images (group_of schedule first) (run_of schedule first)
 
 -- where a log was full, there are no images
-no_images : (images : Bool) (group : GroupStart) (done : Progress) (item : ℕ) → done.full ≡ Some item → images_of images group done ≡ []
+no_images : (images : Bool) (group : GroupStart) (done : RunProgress) (item : ℕ) → done.full ≡ Some item → images_of images group done ≡ []
 no_images true group done item full = ap (λ (f : Option ℕ). cond (is_none f) (all_images group done.steps) []) full
 no_images false group done item full = refl
 
-full_writes : (images : Bool) (group : GroupStart) (done : Progress) (item : ℕ) → done.full ≡ Some item → logs group done.steps ≡ logs group done.steps ++ images_of images group done
+full_writes : (images : Bool) (group : GroupStart) (done : RunProgress) (item : ℕ) → done.full ≡ Some item → logs_of_steps group done.steps ≡ logs_of_steps group done.steps ++ images_of images group done
 full_writes images group done item full =
-    sym (append-nil (logs group done.steps)) ∙ ap (λ (files : List (List ℕ × List ℕ)). logs group done.steps ++ files) (sym (no_images images group done item full))
+    sym (append-nil (logs_of_steps group done.steps)) ∙ ap (λ (files : List (List ℕ × List ℕ)). logs_of_steps group done.steps ++ files) (sym (no_images images group done item full))
 
 -- whether or not a log is full, all logs are written, and after them the images
-writes_by_room : (images : Bool) (name : List ℕ) (group : GroupStart) (done : Progress) (full : Option ℕ) → done.full ≡ full → writes_of (outcome_by_room images name group done full) ≡ logs group done.steps ++ images_of images group done
+writes_by_room : (images : Bool) (name : List ℕ) (group : GroupStart) (done : RunProgress) (full : Option ℕ) → done.full ≡ full → writes_of (outcome_by_room images name group done full) ≡ logs_of_steps group done.steps ++ images_of images group done
 writes_by_room images name group done None room = refl
 writes_by_room images name group done (Some item) full = full_writes images group done item full
 
@@ -63,7 +63,7 @@ writes_at images name schedule states first is = sym (ap writes_of (ap (group_ou
 
 -- ---- the whole run was recorded
 
-same_text : (images : Bool) (group : GroupStart) (done : Progress) (summary : Summary) → IsSummary group done summary
+same_text : (images : Bool) (group : GroupStart) (done : RunProgress) (summary : Summary) → IsSummary group done summary
     → summary_text summary.lines.items summary.acted summary.idle ≡ (recorded_work images group done).text
 same_text images group done summary told =
     ap (λ (lines : List SummaryLine). summary_text lines summary.acted summary.idle) told.lines
@@ -88,7 +88,7 @@ done_makes images name schedule states summary before after (first, is, done) =
 
 -- the same where there was no memory for the text
 pub done_changes : KeepsFiles → (images : Bool) (name : List ℕ) (schedule : Schedule) (states : Result (List State) ℕ) (summary : Summary) (before after : Option Folder) → RecordAnswers schedule images states (Ok summary) (change before after)
-    → ChangesOnly before (writes_of (group_outcome images name schedule states)) after
+    → ChangesOnlyFiles before (writes_of (group_outcome images name schedule states)) after
 done_changes keeps images name schedule states summary before after answers = all_made keeps _ before after (done_makes images name schedule states summary before after answers)
 
 -- ---- it was not
@@ -107,7 +107,7 @@ full_tells images name schedule states item file before after (first, is, full) 
 pub error_tells : (images : Bool) (name : List ℕ) (schedule : Schedule) (states : Result (List State) ℕ) (error : RecordError) (e : StopCause) (before after : Option Folder) → RecordAnswers schedule images states (Err error) (change before after) → RefusesAs name schedule error e
     → TellsOutcome (group_outcome images name schedule states) (Err e)
 error_tells images name schedule states (errors.BadSegment p) (refusal.Refused file why) before after answers (named, is) =
-    (nothing_done, rw (named, is) (ap (group_outcome images name schedule) answers.0), refl)
+    (no_work_done, rw (named, is) (ap (group_outcome images name schedule) answers.0), refl)
 error_tells images name schedule states (errors.BadSegment p) refusal.NoMemory before after answers named = tt
 error_tells images name schedule states (errors.BadSegment p) other before after answers named = absurd named
 error_tells images name schedule states (errors.LogFull item) (refusal.Refused file why) before after answers (named, is) =
@@ -117,11 +117,11 @@ error_tells images name schedule states (errors.LogFull item) other before after
 error_tells images name schedule states errors.WriteFault e before after answers is = subst (λ (r : StopCause). TellsOutcome (group_outcome images name schedule states) (Err r)) (sym is) tt
 error_tells images name schedule states errors.NoMemory e before after answers is = subst (λ (r : StopCause). TellsOutcome (group_outcome images name schedule states) (Err r)) (sym is) tt
 
-where_changes : KeepsFiles → (images : Bool) (name : List ℕ) (schedule : Schedule) (states : Result (List State) ℕ) (before after : Option Folder) → StoppedWhere schedule images states before after
-    → ChangesOnly before (writes_of (group_outcome images name schedule states)) after
+where_changes : KeepsFiles → (images : Bool) (name : List ℕ) (schedule : Schedule) (states : Result (List State) ℕ) (before after : Option Folder) → StoppedWhereBegun schedule images states before after
+    → ChangesOnlyFiles before (writes_of (group_outcome images name schedule states)) after
 where_changes keeps images name schedule (Err p) before after same = same_changes before after _ same
 where_changes keeps images name schedule (Ok first) before after stopped =
-    subst (λ (files : List (List ℕ × List ℕ)). ChangesOnly before files after) (sym (group_writes images name schedule first))
+    subst (λ (files : List (List ℕ × List ℕ)). ChangesOnlyFiles before files after) (sym (group_writes images name schedule first))
     (stopped_changes keeps (group_of schedule first) (run_of schedule first).steps (images_of images (group_of schedule first) (run_of schedule first)) before after stopped)
 
 full_makes : (images : Bool) (name : List ℕ) (schedule : Schedule) (states : Result (List State) ℕ) (item : ℕ) (before after : Option Folder) → RecordAnswers schedule images states (Err (errors.LogFull item)) (change before after)
@@ -147,20 +147,20 @@ error_makes keeps images name schedule states errors.NoMemory e before after ans
 -- ---- whatever it answers, the files are those of a moment of the run
 
 at_first : (images : Bool) (schedule : Schedule) (states : Result (List State) ℕ) (first : List State) (before after : Option Folder) → states ≡ Ok first
-    → IsStopped (group_of schedule first) (run_of schedule first).steps (images_of images (group_of schedule first) (run_of schedule first)) before after → StoppedWhere schedule images states before after
-at_first images schedule states first before after is stopped = subst (λ (s : Result (List State) ℕ). StoppedWhere schedule images s before after) (sym is) stopped
+    → IsStoppedRecording (group_of schedule first) (run_of schedule first).steps (images_of images (group_of schedule first) (run_of schedule first)) before after → StoppedWhereBegun schedule images states before after
+at_first images schedule states first before after is stopped = subst (λ (s : Result (List State) ℕ). StoppedWhereBegun schedule images s before after) (sym is) stopped
 
 -- all of these files are a part of them
 whole_part : (files : List (List ℕ × List ℕ)) → files ≡ made_in_part files (length files) 0
 whole_part [] = refl
 whole_part (file ∷ files) = ap (λ (rest : List (List ℕ × List ℕ)). file ∷ rest) (whole_part files)
 
-pub answer_stops : (images : Bool) (schedule : Schedule) (states : Result (List State) ℕ) (result : Result Summary RecordError) (before after : Option Folder) → RecordAnswers schedule images states result (change before after) → StoppedWhere schedule images states before after
+pub answer_stops : (images : Bool) (schedule : Schedule) (states : Result (List State) ℕ) (result : Result Summary RecordError) (before after : Option Folder) → RecordAnswers schedule images states result (change before after) → StoppedWhereBegun schedule images states before after
 answer_stops images schedule states (Ok summary) before after (first, is, done) =
     let files = images_of images (group_of schedule first) (run_of schedule first) in
     at_first images schedule states first before after is
-    (InImages (length files) 0 (done.files ∙ ap (λ (some : List (List ℕ × List ℕ)). with_files (logs (group_of schedule first) (run_of schedule first).steps ++ some) before) (whole_part files)))
-answer_stops images schedule states (Err (errors.BadSegment p)) before after (is, same) = subst (λ (s : Result (List State) ℕ). StoppedWhere schedule images s before after) (sym is) same
+    (InImages (length files) 0 (done.files ∙ ap (λ (some : List (List ℕ × List ℕ)). with_files (logs_of_steps (group_of schedule first) (run_of schedule first).steps ++ some) before) (whole_part files)))
+answer_stops images schedule states (Err (errors.BadSegment p)) before after (is, same) = subst (λ (s : Result (List State) ℕ). StoppedWhereBegun schedule images s before after) (sym is) same
 answer_stops images schedule states (Err (errors.LogFull item)) before after (first, is, full) = at_first images schedule states first before after is (Between (run_of schedule first).steps ([], refl) full.files)
 answer_stops images schedule states (Err errors.WriteFault) before after stopped = stopped
 answer_stops images schedule states (Err errors.NoMemory) before after stopped = stopped

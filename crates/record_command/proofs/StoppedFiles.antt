@@ -8,7 +8,7 @@ use Rattle.std.proofs.lemmas.List.{append_cancel_right, drop_at, length-map, tak
 use Rattle.std.proofs.lemmas.Option.{same_Some}
 use Rattle.fri_outside.specs.Laws.{KeepsFiles}
 use Rattle.fri_outside.specs.Outside.{Folder, with_file}
-use Rattle.fri_outside.specs.Several.{AreApart, AreFronts, ChangesOnly, IsLeft, grown, with_files}
+use Rattle.fri_outside.specs.Several.{AreApartNames, AreFileFronts, ChangesOnlyFiles, IsLeftFile, files_with_grown_piece, with_files}
 use Rattle.call_log.specs.declared.version.Version.{Version}
 use Rattle.call_log.specs.declared.version.Version.TheVariants.{Two}
 use Rattle.call_log.specs.Entry.{clock_after, encoding, encodings}
@@ -18,12 +18,12 @@ use Rattle.guest_process.specs.Live.{Event}
 use Rattle.schedule_text.specs.declared.process.ProcessLine.{ProcessLine}
 use Rattle.group_world.specs.History.{Act, History}
 use Rattle.group_world.specs.History as world
-use Rattle.group_record.specs.Files.{IsStopped, InHeads, Between, InEntry, InImages, heads_cut}
+use Rattle.group_record.specs.Files.{IsStoppedRecording, InHeads, Between, InEntry, InImages, heads_cut}
 use Rattle.group_record.specs.Images.{images, images_from, images_of}
 use Rattle.process_files.specs.Images.{mem_name, out_name}
 use Rattle.process_files.specs.Parts.{made_in_part}
-use Rattle.group_record.specs.Logs.{files_from, log_name, logs}
-use Rattle.group_record.specs.Run.{GroupStart, Had, IsMoment, Progress, Step, act_of, entries, entry_bytes, head_of_log, history, log_of, name_of_process, size}
+use Rattle.group_record.specs.Logs.{files_from, log_name, logs_of_steps}
+use Rattle.group_record.specs.Run.{GroupStart, Had, IsMoment, RunProgress, RunStep, act_of, entries_of_steps, entry_bytes, head_of_log, history_of_steps, log_of, name_of_process, processes_in_group}
 use Rattle.record_command.specs.Agreement.{LeavesLogs}
 use Rattle.record_command.proofs.FileFronts.{all_made}
 
@@ -57,13 +57,13 @@ log_with : (head : List ℕ) (es more : List Entry) → head ++ encodings Two 0 
 log_with head es more =
     ap (λ (bytes : List ℕ). head ++ bytes) (encodings-append Two 0 es more) ∙ sym (append_assoc head (encodings Two 0 es) (encodings Two (clock_after 0 es) more))
 
-step_grows : (group : GroupStart) (step : Step) (steps : List Step) (p : ℕ) → IsGrown (log_of group (step ∷ steps) p) (log_of group steps p)
+step_grows : (group : GroupStart) (step : RunStep) (steps : List RunStep) (p : ℕ) → IsGrown (log_of group (step ∷ steps) p) (log_of group steps p)
 unfolding IsGrown
 step_grows group step steps p =
-    let m = one_more (act_of step) (history steps) p in
-    (encodings Two (clock_after 0 (entries steps p)) m.0, ap (λ (es : List Entry). head_bytes (head_of_log group p) ++ encodings Two 0 es) m.1 ∙ log_with (head_bytes (head_of_log group p)) (entries steps p) m.0)
+    let m = one_more (act_of step) (history_of_steps steps) p in
+    (encodings Two (clock_after 0 (entries_of_steps steps p)) m.0, ap (λ (es : List Entry). head_bytes (head_of_log group p) ++ encodings Two 0 es) m.1 ∙ log_with (head_bytes (head_of_log group p)) (entries_of_steps steps p) m.0)
 
-steps_grow : (group : GroupStart) (later early : List Step) (p : ℕ) → IsGrown (log_of group (later ++ early) p) (log_of group early p)
+steps_grow : (group : GroupStart) (later early : List RunStep) (p : ℕ) → IsGrown (log_of group (later ++ early) p) (log_of group early p)
 unfolding IsGrown
 steps_grow group [] early p = ([], sym (append-nil (log_of group early p)))
 steps_grow group (step ∷ later) early p =
@@ -71,11 +71,11 @@ steps_grow group (step ∷ later) early p =
     let rest = steps_grow group later early p in
     (rest.0 ++ last.0, last.1 ∙ ap (λ (bytes : List ℕ). bytes ++ last.0) rest.1 ∙ append_assoc (log_of group early p) rest.0 last.0)
 
-log_grows : (group : GroupStart) (early steps : List Step) → IsMoment early steps → (p : ℕ) → IsGrown (log_of group steps p) (log_of group early p)
-log_grows group early steps (later, is) p = subst (λ (s : List Step). IsGrown (log_of group s p) (log_of group early p)) (sym is) (steps_grow group later early p)
+log_grows : (group : GroupStart) (early steps : List RunStep) → IsMoment early steps → (p : ℕ) → IsGrown (log_of group steps p) (log_of group early p)
+log_grows group early steps (later, is) p = subst (λ (s : List RunStep). IsGrown (log_of group s p) (log_of group early p)) (sym is) (steps_grow group later early p)
 
 -- the entry of an event follows the log
-event_log : (group : GroupStart) (early : List Step) (p : ℕ) (e : Event) → log_of group (Had p e ∷ early) p ≡ log_of group early p ++ entry_bytes group early p e
+event_log : (group : GroupStart) (early : List RunStep) (p : ℕ) (e : Event) → log_of group (Had p e ∷ early) p ≡ log_of group early p ++ entry_bytes group early p e
 unfolding IsGrown
 event_log group early p e =
     let log = log_of group early p in
@@ -83,7 +83,7 @@ event_log group early p e =
     grown.1 ∙ ap (λ (bytes : List ℕ). log ++ bytes) (sym (ap (drop (length log)) grown.1 ∙ drop_at log grown.0 (length log) refl))
 
 -- after a first part of that entry comes the rest of it, and then what follows
-entry_grows : (group : GroupStart) (steps later early : List Step) (p n : ℕ) (e : Event) → steps ≡ later ++ (Had p e ∷ early) → IsGrown (log_of group steps p) (log_of group early p ++ take n (entry_bytes group early p e))
+entry_grows : (group : GroupStart) (steps later early : List RunStep) (p n : ℕ) (e : Event) → steps ≡ later ++ (Had p e ∷ early) → IsGrown (log_of group steps p) (log_of group early p ++ take n (entry_bytes group early p e))
 unfolding IsGrown
 entry_grows group steps later early p n e is =
     let rest = steps_grow group later (Had p e ∷ early) p in
@@ -91,20 +91,20 @@ entry_grows group steps later early p n e is =
     let more = entry_bytes group early p e in
     let cut = take-append-drop n more in (
       drop n more ++ rest.0,
-      ap (λ (s : List Step). log_of group s p) is ∙ rest.1
+      ap (λ (s : List RunStep). log_of group s p) is ∙ rest.1
           ∙ ap (λ (bytes : List ℕ). bytes ++ rest.0) (event_log group early p e ∙ ap (λ (bytes : List ℕ). log ++ bytes) (sym cut)
           ∙ sym (append_assoc log (take n more) (drop n more)))
           ∙ append_assoc (log ++ take n more) (drop n more) rest.0,
     )
 
 -- a first part of a head
-head_grows : (group : GroupStart) (steps : List Step) (cut : ℕ → ℕ) (p : ℕ) → IsGrown (log_of group steps p) (heads_cut group cut p)
+head_grows : (group : GroupStart) (steps : List RunStep) (cut : ℕ → ℕ) (p : ℕ) → IsGrown (log_of group steps p) (heads_cut group cut p)
 unfolding IsGrown
 head_grows group steps cut p =
     let head = head_bytes (head_of_log group p) in (
-      drop (cut p) head ++ encodings Two 0 (entries steps p),
-      ap (λ (bytes : List ℕ). bytes ++ encodings Two 0 (entries steps p)) (sym (take-append-drop (cut p) head))
-          ∙ append_assoc (take (cut p) head) (drop (cut p) head) (encodings Two 0 (entries steps p)),
+      drop (cut p) head ++ encodings Two 0 (entries_of_steps steps p),
+      ap (λ (bytes : List ℕ). bytes ++ encodings Two 0 (entries_of_steps steps p)) (sym (take-append-drop (cut p) head))
+          ∙ append_assoc (take (cut p) head) (drop (cut p) head) (encodings Two 0 (entries_of_steps steps p)),
     )
 
 -- ---- the files of a part of the run
@@ -117,14 +117,14 @@ unfolding IsGrown
 first_front name part whole n bytes (more, is) at =
     (more, ap (a_file name) is ∙ ap (λ (file : List ℕ × List ℕ). a_file file.0 (file.1 ++ more)) (same_Some _ _ at))
 
-files_fronts : (q : ℕ) (names : List (List ℕ)) (parts wholes : ℕ → List ℕ) → ((p : ℕ) → IsGrown (wholes p) (parts p)) → AreFronts (files_from q names parts) (files_from q names wholes)
+files_fronts : (q : ℕ) (names : List (List ℕ)) (parts wholes : ℕ → List ℕ) → ((p : ℕ) → IsGrown (wholes p) (parts p)) → AreFileFronts (files_from q names parts) (files_from q names wholes)
 files_fronts q [] parts wholes grow place n bytes at = cc
 files_fronts q (name ∷ names) parts wholes grow zero n bytes at = first_front (log_name name) (parts q) (wholes q) n bytes (grow q) at
 files_fronts q (name ∷ names) parts wholes grow (suc place) n bytes at = files_fronts (suc q) names parts wholes grow place n bytes at
 
 -- the same where one of the files has a piece more
 grown_fronts : (q : ℕ) (names : List (List ℕ)) (parts wholes : ℕ → List ℕ) (p : ℕ) (piece : List ℕ) → ((p : ℕ) → IsGrown (wholes p) (parts p)) → IsGrown (wholes (q + p)) (parts (q + p) ++ piece)
-    → AreFronts (grown (files_from q names parts) p piece) (files_from q names wholes)
+    → AreFileFronts (files_with_grown_piece (files_from q names parts) p piece) (files_from q names wholes)
 grown_fronts q [] parts wholes p piece grow more place n bytes at = cc
 grown_fronts q (name ∷ names) parts wholes zero piece grow more zero n bytes at =
     let here : q + 0 ≡ q = omega arith in
@@ -141,7 +141,7 @@ taken_at (suc many) [] k x at = cc
 taken_at (suc many) (y ∷ xs) zero x at = at
 taken_at (suc many) (y ∷ xs) (suc k) x at = taken_at many xs k x at
 
-taken_fronts : (many : ℕ) (files whole : List (List ℕ × List ℕ)) → AreFronts files whole → AreFronts (take many files) whole
+taken_fronts : (many : ℕ) (files whole : List (List ℕ × List ℕ)) → AreFileFronts files whole → AreFileFronts (take many files) whole
 taken_fronts many files whole fronts place n bytes at = fronts place n bytes (taken_at many files place (n, bytes) at)
 
 -- with more files after the whole ones
@@ -150,18 +150,18 @@ further_at [] more k x at = cc
 further_at (y ∷ whole) more zero x at = at
 further_at (y ∷ whole) more (suc k) x at = further_at whole more k x at
 
-pub fronts_of_more : (files whole more : List (List ℕ × List ℕ)) → AreFronts files whole → AreFronts files (whole ++ more)
+pub fronts_of_more : (files whole more : List (List ℕ × List ℕ)) → AreFileFronts files whole → AreFileFronts files (whole ++ more)
 fronts_of_more files whole more fronts place n bytes at =
     let f = fronts place n bytes at in (f.0, further_at whole more place (n, bytes ++ f.0) f.1)
 
 -- after the same files
-pub fronts_behind : (first files whole : List (List ℕ × List ℕ)) → AreFronts files whole → AreFronts (first ++ files) (first ++ whole)
+pub fronts_behind : (first files whole : List (List ℕ × List ℕ)) → AreFileFronts files whole → AreFileFronts (first ++ files) (first ++ whole)
 fronts_behind [] files whole fronts place n bytes at = fronts place n bytes at
 fronts_behind (file ∷ first) files whole fronts zero n bytes at = ([], at ∙ ap (a_file n) (sym (append-nil bytes)))
 fronts_behind (file ∷ first) files whole fronts (suc place) n bytes at = fronts_behind first files whole fronts place n bytes at
 
 -- a part of these files
-pub part_fronts : (files : List (List ℕ × List ℕ)) (n m : ℕ) → AreFronts (made_in_part files n m) files
+pub part_fronts : (files : List (List ℕ × List ℕ)) (n m : ℕ) → AreFileFronts (made_in_part files n m) files
 unfolding IsGrown
 part_fronts [] zero m place name bytes at = cc
 part_fronts [] (suc n) m place name bytes at = cc
@@ -172,19 +172,19 @@ part_fronts (file ∷ files) (suc n) m zero name bytes at = ([], at ∙ ap (a_fi
 part_fronts (file ∷ files) (suc n) m (suc place) name bytes at = part_fronts files n m place name bytes at
 
 -- where a recording was stopped, each log and image is as before or has some of its front, and no other file changes
-pub stopped_changes : KeepsFiles → (group : GroupStart) (steps : List Step) (images : List (List ℕ × List ℕ)) (before after : Option Folder) → IsStopped group steps images before after
-    → ChangesOnly before (logs group steps ++ images) after
+pub stopped_changes : KeepsFiles → (group : GroupStart) (steps : List RunStep) (images : List (List ℕ × List ℕ)) (before after : Option Folder) → IsStoppedRecording group steps images before after
+    → ChangesOnlyFiles before (logs_of_steps group steps ++ images) after
 stopped_changes keeps group steps images before after (InHeads many cut is) =
-    subst (ChangesOnly before (logs group steps ++ images)) (sym is)
-    (keeps.left before _ _ (fronts_of_more _ (logs group steps) images
+    subst (ChangesOnlyFiles before (logs_of_steps group steps ++ images)) (sym is)
+    (keeps.left before _ _ (fronts_of_more _ (logs_of_steps group steps) images
     (taken_fronts many _ _ (files_fronts 0 group.names (heads_cut group cut) (log_of group steps) (head_grows group steps cut)))))
 stopped_changes keeps group steps images before after (Between early front is) =
-    subst (ChangesOnly before (logs group steps ++ images)) (sym is)
-    (keeps.left before _ _ (fronts_of_more _ (logs group steps) images
+    subst (ChangesOnlyFiles before (logs_of_steps group steps ++ images)) (sym is)
+    (keeps.left before _ _ (fronts_of_more _ (logs_of_steps group steps) images
     (files_fronts 0 group.names (log_of group early) (log_of group steps) (log_grows group early steps front))))
 stopped_changes keeps group steps images before after (InEntry early later p n e at short is) =
-    subst (ChangesOnly before (logs group steps ++ images)) (sym is)
-    (keeps.left before _ _ (fronts_of_more _ (logs group steps) images
+    subst (ChangesOnlyFiles before (logs_of_steps group steps ++ images)) (sym is)
+    (keeps.left before _ _ (fronts_of_more _ (logs_of_steps group steps) images
     (grown_fronts 0 group.names (log_of group early) (log_of group steps) p (take n (entry_bytes group early p e))
     (log_grows group early steps (later ++ (Had p e ∷ []), at ∙ sym (append_assoc later (Had p e ∷ []) early))) entry))) where
       here : p ≡ 0 + p
@@ -193,8 +193,8 @@ stopped_changes keeps group steps images before after (InEntry early later p n e
       entry : IsGrown (log_of group steps (0 + p)) (log_of group early (0 + p) ++ take n (entry_bytes group early p e))
       entry = subst (λ (k : ℕ). IsGrown (log_of group steps k) (log_of group early k ++ take n (entry_bytes group early p e))) here (entry_grows group steps later early p n e at)
 stopped_changes keeps group steps images before after (InImages n m is) =
-    subst (ChangesOnly before (logs group steps ++ images)) (sym is)
-    (keeps.left before _ _ (fronts_behind (logs group steps) (made_in_part images n m) images (part_fronts images n m)))
+    subst (ChangesOnlyFiles before (logs_of_steps group steps ++ images)) (sym is)
+    (keeps.left before _ _ (fronts_behind (logs_of_steps group steps) (made_in_part images n m) images (part_fronts images n m)))
 
 -- ---- the whole run's logs
 
@@ -215,7 +215,7 @@ name_at q (name ∷ names) bytes zero d below = refl
 name_at q (name ∷ names) bytes (suc i) d below = name_at (suc q) names bytes i d (omega (arith, below))
 
 -- processes with names that differ have logs of names that differ
-pub logs_apart : (lines : List ProcessLine) (q : ℕ) (bytes : ℕ → List ℕ) → AllPairs (λ a b. a.name ≢ b.name) lines → AreApart (files_from q (map (λ line. line.name) lines) bytes)
+pub logs_apart : (lines : List ProcessLine) (q : ℕ) (bytes : ℕ → List ℕ) → AllPairs (λ a b. a.name ≢ b.name) lines → AreApartNames (files_from q (map (λ line. line.name) lines) bytes)
 logs_apart lines q bytes apart i j d before within same =
     let names = map (λ (line : ProcessLine). line.name) lines in
     let none : ProcessLine = record { name = []; «module» = [] } in
@@ -251,7 +251,7 @@ out_is_no_log : (name other : List ℕ) → out_name name ≡ log_name other →
 out_is_no_log name other same =
     let ends : 116 ≡ 103 = sym (ends_in name 46 111 117 116) ∙ ap last_of same ∙ ends_in other 46 108 111 103 in omega (arith, ends)
 
-image_is_no_log : (group : GroupStart) (steps : List Step) (p : ℕ) (names : List (List ℕ)) (name bytes : List ℕ) (k : ℕ) → k < length (images_from group steps p names)
+image_is_no_log : (group : GroupStart) (steps : List RunStep) (p : ℕ) (names : List (List ℕ)) (name bytes : List ℕ) (k : ℕ) → k < length (images_from group steps p names)
     → slice_index_or (images_from group steps p names) k (log_name name, bytes) ≡ (log_name name, bytes) → ⊥
 image_is_no_log group steps p [] name bytes k inside at = omega (arith, inside)
 image_is_no_log group steps p (other ∷ names) name bytes zero inside at = mem_is_no_log other name (ap (λ (file : List ℕ × List ℕ). file.0) at)
@@ -263,20 +263,20 @@ among_if true files file among = among
 among_if false files file (k, inside, at) = absurd (omega (arith, inside))
 
 -- no image has the name of a log
-pub images_are_no_logs : (asked : Bool) (group : GroupStart) (done : Progress) (name bytes : List ℕ) → Contains (images_of asked group done) (log_name name, bytes) → ⊥
+pub images_are_no_logs : (asked : Bool) (group : GroupStart) (done : RunProgress) (name bytes : List ℕ) → Contains (images_of asked group done) (log_name name, bytes) → ⊥
 images_are_no_logs asked group done name bytes among = no_log (among_if (asked && is_none done.full) (images group done.steps) (log_name name, bytes) among) where
   no_log : Contains (images group done.steps) (log_name name, bytes) → ⊥
   no_log (k, inside, at) = image_is_no_log group done.steps 0 group.names name bytes k inside at
 
-kept_behind : (old new : Folder) (more : List (List ℕ × List ℕ)) (name : List ℕ) → ((bytes : List ℕ) → Contains more (name, bytes) → ⊥) → IsLeft old more new name → get new name ≡ get old name
+kept_behind : (old new : Folder) (more : List (List ℕ × List ℕ)) (name : List ℕ) → ((bytes : List ℕ) → Contains more (name, bytes) → ⊥) → IsLeftFile old more new name → get new name ≡ get old name
 kept_behind old new more name others (inl same) = same
 kept_behind old new more name others (inr (bytes, among, part)) = absurd (others bytes among)
 
 -- files that have the names of the logs stand in the folder, whatever was made after them under other names
-pub files_stand : KeepsFiles → (group : GroupStart) (files : List (List ℕ × List ℕ)) (bytes : ℕ → List ℕ) (more : List (List ℕ × List ℕ)) (before after : Folder) → AreApart files
-    → ((p : ℕ) → p < size group → slice_get files p ≡ Some (log_name (name_of_process group p), bytes p))
+pub files_stand : KeepsFiles → (group : GroupStart) (files : List (List ℕ × List ℕ)) (bytes : ℕ → List ℕ) (more : List (List ℕ × List ℕ)) (before after : Folder) → AreApartNames files
+    → ((p : ℕ) → p < processes_in_group group → slice_get files p ≡ Some (log_name (name_of_process group p), bytes p))
     → ((name bytes : List ℕ) → Contains more (log_name name, bytes) → ⊥) → with_files (files ++ more) (Some before) ≡ Some after
-    → (p : ℕ) → p < size group → get after (log_name (name_of_process group p)) ≡ Some (bytes p)
+    → (p : ℕ) → p < processes_in_group group → get after (log_name (name_of_process group p)) ≡ Some (bytes p)
 files_stand keeps group files bytes more before after apart have others made p below =
     let stands = keeps.stands before files apart in
     let name = log_name (name_of_process group p) in
@@ -285,13 +285,13 @@ files_stand keeps group files bytes more before after apart have others made p b
     ap (λ (s : Folder). get s name) (same_Some _ _ changes.1) ∙ kept_behind stands.0 changes.0 more name (others (name_of_process group p)) (changes.2 name)
     ∙ stands.2.held p _ _ (have p below)
 
-pub log_at : (group : GroupStart) (steps : List Step) (p : ℕ) → p < size group → slice_get (logs group steps) p ≡ Some (log_name (name_of_process group p), log_of group steps p)
+pub log_at : (group : GroupStart) (steps : List RunStep) (p : ℕ) → p < processes_in_group group → slice_get (logs_of_steps group steps) p ≡ Some (log_name (name_of_process group p), log_of group steps p)
 log_at group steps p below =
     let whole : 0 + p ≡ p = omega arith in
     file_at 0 group.names (log_of group steps) p below ∙ ap (λ (k : ℕ). a_file (log_name (name_of_process group p)) (log_of group steps k)) whole
 
 -- so the logs that were made stand
-pub logs_stand : KeepsFiles → (group : GroupStart) (steps : List Step) (more : List (List ℕ × List ℕ)) (before after : Folder) → AreApart (logs group steps)
-    → ((name bytes : List ℕ) → Contains more (log_name name, bytes) → ⊥) → with_files (logs group steps ++ more) (Some before) ≡ Some after → LeavesLogs group steps after
+pub logs_stand : KeepsFiles → (group : GroupStart) (steps : List RunStep) (more : List (List ℕ × List ℕ)) (before after : Folder) → AreApartNames (logs_of_steps group steps)
+    → ((name bytes : List ℕ) → Contains more (log_name name, bytes) → ⊥) → with_files (logs_of_steps group steps ++ more) (Some before) ≡ Some after → LeavesLogs group steps after
 logs_stand keeps group steps more before after apart others made p below =
-    files_stand keeps group (logs group steps) (log_of group steps) more before after apart (log_at group steps) others made p below
+    files_stand keeps group (logs_of_steps group steps) (log_of group steps) more before after apart (log_at group steps) others made p below

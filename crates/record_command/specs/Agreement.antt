@@ -9,11 +9,11 @@ use Rattle.guest_process.specs.Live.{Event}
 use Rattle.guest_process.specs.State.{State}
 use Rattle.schedule_text.specs.Schedule.{Schedule}
 use Rattle.group_record.specs.Answer.{first_states, group_of}
-use Rattle.group_record.specs.Files.{IsStopped, heads_cut}
+use Rattle.group_record.specs.Files.{IsStoppedRecording, heads_cut}
 use Rattle.group_record.specs.Images.{images_of}
-use Rattle.group_record.specs.Laws.{RandomIsDrawn, TakesDatagram, TellsCut, WaitingIsTaken}
+use Rattle.group_record.specs.Laws.{RandomIsDrawn, TakesDatagram, TellsCutLogs, WaitingIsTaken}
 use Rattle.group_record.specs.Logs.{TellsEvents, files_of, log_name}
-use Rattle.group_record.specs.Run.{GroupStart, Had, IsMoment, Progress, Step, entries, entry_bytes, log_of, name_of_process, run, size}
+use Rattle.group_record.specs.Run.{GroupStart, Had, IsMoment, RunProgress, RunStep, entries_of_steps, entry_bytes, log_of, name_of_process, run, processes_in_group}
 use Rattle.record_command.specs.Expected.{modules_of, schedule_in}
 
 -- the files spell a schedule and modules with which its processes begin
@@ -29,47 +29,47 @@ pub record IsRecordable (folder : Folder) (schedule_name : List ℕ) : Type 0 wh
 abbrev pub group_in : {folder : Folder} {schedule_name : List ℕ} → IsRecordable folder schedule_name → GroupStart
 group_in r = group_of r.schedule r.first
 
-abbrev pub run_in : {folder : Folder} {schedule_name : List ℕ} → IsRecordable folder schedule_name → Progress
+abbrev pub run_in : {folder : Folder} {schedule_name : List ℕ} → IsRecordable folder schedule_name → RunProgress
 run_in r = run (group_in r) r.schedule.items
 
-abbrev pub steps_in : {folder : Folder} {schedule_name : List ℕ} → IsRecordable folder schedule_name → List Step
+abbrev pub steps_in : {folder : Folder} {schedule_name : List ℕ} → IsRecordable folder schedule_name → List RunStep
 steps_in r = (run_in r).steps
 
 -- each process has its log afterwards
-abbrev pub LeavesLogs : GroupStart → List Step → Folder → Type 0
-LeavesLogs group steps after = (p : ℕ) → p < size group → get after (log_name (name_of_process group p)) ≡ Some (log_of group steps p)
+abbrev pub LeavesLogs : GroupStart → List RunStep → Folder → Type 0
+LeavesLogs group steps after = (p : ℕ) → p < processes_in_group group → get after (log_name (name_of_process group p)) ≡ Some (log_of group steps p)
 
 -- what may be after the log of process p at a moment of a run with all these steps: nothing, or a first part of the
 -- entry of the process's next event, and not all of it
-pub data MayFollow (group : GroupStart) (all steps : List Step) (p : ℕ) (cut : List ℕ) : Type 0 where
-  Nothing : cut ≡ [] → MayFollow group all steps p cut
-  Front : (later early : List Step) → (e : Event) → (n : ℕ) → all ≡ later ++ (Had p e ∷ early) → entries early p ≡ entries steps p
-      → n < length (entry_bytes group early p e) → cut ≡ take n (entry_bytes group early p e) → MayFollow group all steps p cut
+pub data MayFollowLog (group : GroupStart) (all steps : List RunStep) (p : ℕ) (cut : List ℕ) : Type 0 where
+  Nothing : cut ≡ [] → MayFollowLog group all steps p cut
+  Front : (later early : List RunStep) → (e : Event) → (n : ℕ) → all ≡ later ++ (Had p e ∷ early) → entries_of_steps early p ≡ entries_of_steps steps p
+      → n < length (entry_bytes group early p e) → cut ≡ take n (entry_bytes group early p e) → MayFollowLog group all steps p cut
 
 -- each process has its log afterwards, with this much of one more entry after it
-abbrev pub LeavesCut : GroupStart → List Step → (ℕ → List ℕ) → Folder → Type 0
-LeavesCut group steps cut after = (p : ℕ) → p < size group → get after (log_name (name_of_process group p)) ≡ Some (log_of group steps p ++ cut p)
+abbrev pub LeavesCut : GroupStart → List RunStep → (ℕ → List ℕ) → Folder → Type 0
+LeavesCut group steps cut after = (p : ℕ) → p < processes_in_group group → get after (log_name (name_of_process group p)) ≡ Some (log_of group steps p ++ cut p)
 
 -- not all logs are there, or not with their whole heads
-abbrev pub IsInHeads : GroupStart → Folder → Folder → Type 0
-IsInHeads group before after = (many : ℕ) × (cut : ℕ → ℕ) × (Some after ≡ with_files (take many (files_of group (heads_cut group cut))) (Some before))
+abbrev pub IsStoppedInHeads : GroupStart → Folder → Folder → Type 0
+IsStoppedInHeads group before after = (many : ℕ) × (cut : ℕ → ℕ) × (Some after ≡ with_files (take many (files_of group (heads_cut group cut))) (Some before))
 
 -- the logs are those of a moment of a run with all these steps, with at most a first part of one more entry after each
-pub record IsAtMoment (group : GroupStart) (all : List Step) (after : Folder) : Type 0 where
-  pub steps : List Step
+pub record IsAtMomentOfRun (group : GroupStart) (all : List RunStep) (after : Folder) : Type 0 where
+  pub steps : List RunStep
   pub is_moment : IsMoment steps all
   pub cut : ℕ → List ℕ
-  pub may_follow : (p : ℕ) → p < size group → MayFollow group all steps p (cut p)
+  pub may_follow : (p : ℕ) → p < processes_in_group group → MayFollowLog group all steps p (cut p)
   pub logs : LeavesCut group steps cut after
 
 -- at each moment of the run the logs tell its events, also the log after which a part of the next entry stands. Each
 -- datagram that was taken came first in the mailbox, and from outside or by a send that an item delivered; what waits
 -- is taken, and so are the first of the random bytes
-pub record LogsAgree (group : GroupStart) (steps : List Step) : Type 0 where
-  pub logs : (early : List Step) → IsMoment early steps → (p : ℕ) → p < size group → TellsEvents group early p
-  pub cut : TellsCut group steps
-  pub datagrams : (later early : List Step) (p : ℕ) (e : Event) → steps ≡ later ++ (Had p e ∷ early) → IsTrue (is_taken e.entry)
-      → TakesDatagram (size group) early p e
+pub record LogsAgree (group : GroupStart) (steps : List RunStep) : Type 0 where
+  pub logs : (early : List RunStep) → IsMoment early steps → (p : ℕ) → p < processes_in_group group → TellsEvents group early p
+  pub cut : TellsCutLogs group steps
+  pub datagrams : (later early : List RunStep) (p : ℕ) (e : Event) → steps ≡ later ++ (Had p e ∷ early) → IsTrue (is_taken e.entry)
+      → TakesDatagram (processes_in_group group) early p e
   pub waiting : WaitingIsTaken group steps
   pub random : RandomIsDrawn group steps
 
@@ -87,4 +87,4 @@ LeavesRecording schedule_name before after =
 abbrev pub LeavesMoment : Bool → List ℕ → Folder → Option Folder → Type 0
 LeavesMoment images schedule_name before after =
     (r : IsRecordable before schedule_name)
-    → IsStopped (group_in r) (steps_in r) (images_of images (group_in r) (run_in r)) (Some before) after × LogsAgree (group_in r) (steps_in r)
+    → IsStoppedRecording (group_in r) (steps_in r) (images_of images (group_in r) (run_in r)) (Some before) after × LogsAgree (group_in r) (steps_in r)

@@ -1,10 +1,10 @@
 -- What is so of all recordings.
 use Rattle.std.specs.Prelude.{◌≡◌, ◌⊎◌, ℕ, Bool, List, Some, Ok}
 use Rattle.fri_outside.specs.Outside.{Folder}
-use Rattle.group_record.specs.Files.{IsStopped}
+use Rattle.group_record.specs.Files.{IsStoppedRecording}
 use Rattle.group_record.specs.Images.{images_of}
 use Rattle.command_run.specs.Outcome.{CommandWork}
-use Rattle.record_command.specs.Agreement.{IsAtMoment, IsInHeads, IsRecordable, LeavesMoment, group_in, run_in, steps_in}
+use Rattle.record_command.specs.Agreement.{IsAtMomentOfRun, IsStoppedInHeads, IsRecordable, LeavesMoment, group_in, run_in, steps_in}
 use Rattle.record_command.specs.Expected.{record_outcome}
 use Rattle.record_command.specs.Valid.{RecordsWhole}
 
@@ -20,5 +20,5 @@ RecordingsRest = (images : Bool) (schedule_name : List ℕ) (folder : Folder) �
 -- wherever a recording was stopped after its heads, its logs are those of a moment of its run
 abbrev pub RecordingsStand : Type 0
 RecordingsStand = (images : Bool) (schedule_name : List ℕ) (before after : Folder) (r : IsRecordable before schedule_name)
-    → IsStopped (group_in r) (steps_in r) (images_of images (group_in r) (run_in r)) (Some before) (Some after)
-    → IsInHeads (group_in r) before after ⊎ IsAtMoment (group_in r) (steps_in r) after
+    → IsStoppedRecording (group_in r) (steps_in r) (images_of images (group_in r) (run_in r)) (Some before) (Some after)
+    → IsStoppedInHeads (group_in r) before after ⊎ IsAtMomentOfRun (group_in r) (steps_in r) after

@@ -2,7 +2,7 @@
 use Rattle.std.specs.Prelude.{◌≡◌, ℕ, suc, ◌≤◌, List, [], ◌∷◌, length, None, Ok}
 use Rattle.fri_outside.specs.Outside.{Folder}
 use Rattle.wasm_types.specs.Modules.{Module}
-use Rattle.schedule_text.specs.Grammar.{Spells}
+use Rattle.schedule_text.specs.Grammar.{SpellsSchedule}
 use Rattle.schedule_text.specs.Schedule.{Schedule, run_count}
 use Rattle.schedule_text.specs.declared.process.ProcessLine.{ProcessLine}
 use Rattle.guest_process.specs.State.{State}
@@ -15,7 +15,7 @@ use Rattle.schedule_text.specs.Limits.{most_runs, most_schedule}
 pub record IsScheduleFile (folder : Folder) (name : List ℕ) (schedule : Schedule) : Type 0 where
   pub bytes : List ℕ
   pub stands : IsFileWithin folder name most_schedule bytes
-  pub spelled : Spells bytes schedule
+  pub spelled : SpellsSchedule bytes schedule
   pub few : run_count schedule.items ≤ most_runs
 
 -- these files are the modules of the processes from p on of a group of `count`, and each process begins

@@ -3,7 +3,7 @@ ghost use Rattle.std.specs.Prelude.{◌≡◌, All, length, map, IfOk, IfErr};
 ghost use Rattle.fri_outside.specs.Outside.{WhenTold};
 ghost use Rattle.wasm_types.specs.Modules.{module_of as shown};
 ghost use Rattle.schedule_text.specs.Schedule.{IsProcess, IsSchedule};
-ghost use Rattle.command_run.specs.Call.{CountsFaults, Raises, TellsResult};
+ghost use Rattle.command_run.specs.Call.{CountsFaults, RaisesCount, TellsResult};
 ghost use Rattle.command_run.specs.Inputs.{module_in};
 ghost use Rattle.command_run.specs.Kept.{AreOfFiles};
 ghost use Rattle.record_command.specs.Expected.{modules_of, schedule_in};
@@ -27,7 +27,7 @@ fn take_module_of<F: Files>(
     ensures kept { AreOfFiles (F.told files.old) modules.new }
     ensures same { F.told files.new ≡ F.told files.old }
     ensures counts { CountsFaults (F.counts files.old) (F.counts files.new) result }
-    ensures cause { IfErr result (Raises (F.counts files.old) (F.counts files.new)) }
+    ensures cause { IfErr result (RaisesCount (F.counts files.old) (F.counts files.new)) }
 {
     let file = String::from_utf8_lossy(alloc, line.module.as_slice())?;
     modules.take(alloc, &file, files)
@@ -44,7 +44,7 @@ pub fn take_modules<F: Files>(
     ensures count { IfOk result (λ modules. length modules.items ≡ length lines.now) }
     ensures same { F.told files.new ≡ F.told files.old }
     ensures counts { CountsFaults (F.counts files.old) (F.counts files.new) result }
-    ensures cause { IfErr result (Raises (F.counts files.old) (F.counts files.new)) }
+    ensures cause { IfErr result (RaisesCount (F.counts files.old) (F.counts files.new)) }
 {
     let mut read = ModuleFiles::new(alloc);
     let mut modules = Vec::new(alloc);
@@ -64,7 +64,7 @@ pub fn take_schedule<F: Files>(
     ensures answer { WhenTold (F.told files.old) (λ folder. TellsResult (λ schedule. schedule) (schedule_in folder name.now) result) }
     ensures same { F.told files.new ≡ F.told files.old }
     ensures counts { CountsFaults (F.counts files.old) (F.counts files.new) result }
-    ensures cause { IfErr result (Raises (F.counts files.old) (F.counts files.new)) }
+    ensures cause { IfErr result (RaisesCount (F.counts files.old) (F.counts files.new)) }
 {
     let bytes = take_file(alloc, name, MOST_SCHEDULE, files)?;
     match read_schedule(alloc, &bytes) {

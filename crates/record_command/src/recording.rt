@@ -3,11 +3,11 @@
 ghost use Rattle.std.specs.Prelude.{◌≡◌, ◌<◌, ℕ, false, length, map, option_map, IfErr, IfOk};
 ghost use Rattle.fri_outside.specs.Outside.{WhenTold};
 ghost use Rattle.wasm_types.specs.Modules.{module_of as shown};
-ghost use Rattle.group_record.specs.Answer.{StoppedWhere, first_states};
+ghost use Rattle.group_record.specs.Answer.{StoppedWhereBegun, first_states};
 ghost use Rattle.command_run.specs.Outcome.{writes_of};
 ghost use Rattle.record_command.specs.Expected.{group_outcome, module_name, record_outcome};
 ghost use Rattle.record_command.specs.Agreement.{LeavesMoment, LeavesRecording};
-ghost use Rattle.command_run.specs.Call.{CountsFaults, TellsOutcome, MakesWorkFiles, KeepsFolder, DivergesOnlyIf, IsAnswerResult, RefusesFile, Raises};
+ghost use Rattle.command_run.specs.Call.{CountsFaults, TellsOutcome, MakesWorkFiles, KeepsFolder, DivergesOnlyIf, IsAnswerResult, RefusesFile, RaisesCount};
 ghost use Rattle.record_command.specs.Seen.{GathersInputs, RefusesAs};
 
 use crate::inputs::{take_modules, take_schedule};
@@ -66,7 +66,7 @@ fn gather<F: Files>(alloc: Global, schedule_file: &str, files: &mut F) -> Result
     ensures count { IfOk result (λ inputs. length inputs.modules.items ≡ length inputs.schedule.processes) }
     ensures same { F.told files.new ≡ F.told files.old }
     ensures counts { CountsFaults (F.counts files.old) (F.counts files.new) result }
-    ensures cause { IfErr result (Raises (F.counts files.old) (F.counts files.new)) }
+    ensures cause { IfErr result (RaisesCount (F.counts files.old) (F.counts files.new)) }
 {
     let schedule = take_schedule(alloc, schedule_file, files)?;
     let modules = take_modules(alloc, schedule.processes(), files)?;
@@ -86,11 +86,11 @@ fn record_group<F: Files>(
     ensures tells { TellsOutcome (group_outcome images schedule_file.now schedule.now (first_states schedule.now (map shown modules.now))) result }
     ensures makes { MakesWorkFiles result (writes_of (group_outcome images schedule_file.now schedule.now (first_states schedule.now (map shown modules.now))))
         (F.told files.old) (F.told files.new) }
-    ensures stopped { StoppedWhere schedule.now images (first_states schedule.now (map shown modules.now)) (F.told files.old) (F.told files.new) }
+    ensures stopped { StoppedWhereBegun schedule.now images (first_states schedule.now (map shown modules.now)) (F.told files.old) (F.told files.new) }
     ensures keeps { KeepsFolder result (F.told files.old) (F.told files.new) }
     ensures done { DivergesOnlyIf false result }
     ensures counts { CountsFaults (F.counts files.old) (F.counts files.new) result }
-    ensures cause { IfErr result (Raises (F.counts files.old) (F.counts files.new)) }
+    ensures cause { IfErr result (RaisesCount (F.counts files.old) (F.counts files.new)) }
 {
     fri_outside::laws::keeps_files();
     match run_record(alloc, schedule, modules, files, images) {
@@ -118,7 +118,7 @@ pub fn record<F: Files>(
     ensures recorded { IsAnswerResult result → WhenTold (F.told files.old) (λ before. WhenTold (F.told files.new) (LeavesRecording schedule_file.now before)) }
     ensures moment { WhenTold (F.told files.old) (λ before. LeavesMoment images schedule_file.now before (F.told files.new)) }
     ensures counts { CountsFaults (F.counts files.old) (F.counts files.new) result }
-    ensures cause { IfErr result (Raises (F.counts files.old) (F.counts files.new)) }
+    ensures cause { IfErr result (RaisesCount (F.counts files.old) (F.counts files.new)) }
 {
     fri_outside::laws::keeps_files();
     schedule_text::laws::exact_outcome();

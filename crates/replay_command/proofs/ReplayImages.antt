@@ -4,7 +4,7 @@ use Rattle.std.specs.Prelude.{All}
 use Rattle.std.proofs.lemmas.Option.{same_Some, slice_get_read}
 use Rattle.fri_outside.specs.Laws.{KeepsFiles}
 use Rattle.fri_outside.specs.Outside.{Folder}
-use Rattle.fri_outside.specs.Several.{AreFronts, ChangesOnly, with_files}
+use Rattle.fri_outside.specs.Several.{AreFileFronts, ChangesOnlyFiles, with_files}
 use Rattle.call_log.specs.Head.{Head, IsHead}
 use Rattle.fri_text.specs.Name.{is_name}
 use Rattle.process_files.specs.PartLaws.{part_fronts}
@@ -12,13 +12,13 @@ use Rattle.process_files.specs.Images.{image_files}
 use Rattle.process_files.specs.Parts.{AreMadeInPart, made_in_part}
 use Rattle.proc_replay.specs.Replaying.{Replaying}
 use Rattle.group_state.specs.declared.image.Image.{Image}
-use Rattle.group_state.specs.Image.{image_of, left_memory, left_print}
-use Rattle.command_run.specs.FileLaws.{fronts_behind, fronts_of_more, with_more}
+use Rattle.group_state.specs.Image.{image_of, memory_of_image, print_of_image}
+use Rattle.command_run.specs.FileLaws.{fronts_behind, fronts_of_more, with_more_files}
 use Rattle.replay_command.specs.Report.{images_in}
 
 -- the two files of a process
 abbrev pub files_of : Replaying → List (List ℕ × List ℕ)
-files_of r = image_files r.head.name (left_memory r) (left_print r)
+files_of r = image_files r.head.name (memory_of_image r) (print_of_image r)
 
 -- ---- the log of a node
 
@@ -44,7 +44,7 @@ own_files start node r head memory printed image within read headed leaves has p
   is = slice_get_read start (length start) node r refl within read;
   own = ap (λ (h : Head). image_files h.name memory printed) headed
       ∙ ap (λ (memory : List ℕ). image_files r.head.name memory printed) (has ∙ ap (λ (i : Image). i.memory) leaves)
-      ∙ ap (λ (printed : List ℕ). image_files r.head.name (left_memory r) printed) (prints ∙ ap (λ (i : Image). i.printed) leaves);
+      ∙ ap (λ (printed : List ℕ). image_files r.head.name (memory_of_image r) printed) (prints ∙ ap (λ (i : Image). i.printed) leaves);
 }
 
 -- ---- the files of the first nodes
@@ -74,38 +74,38 @@ pub one_made : (start : List Replaying) (node : ℕ) (files : List (List ℕ × 
 one_made start node files before mid after a so_far made =
     let first = images_in (take node start) in
     let next : suc node ≡ node + 1 = omega arith in
-    made ∙ ap (λ (f : List (List ℕ × List ℕ)). with_files f mid) a.own ∙ ap (with_files (files_of a.replay)) so_far ∙ sym (with_more first (files_of a.replay) before)
+    made ∙ ap (λ (f : List (List ℕ × List ℕ)). with_files f mid) a.own ∙ ap (with_files (files_of a.replay)) so_far ∙ sym (with_more_files first (files_of a.replay) before)
     ∙ ap (λ (f : List (List ℕ × List ℕ)). with_files f before) (sym (more_images start node a.replay a.is))
     ∙ ap (λ (k : ℕ). with_files (images_in (take k start)) before) next
 
-no_fronts : (files : List (List ℕ × List ℕ)) → AreFronts [] files
+no_fronts : (files : List (List ℕ × List ℕ)) → AreFileFronts [] files
 no_fronts files place name bytes at = cc
 
 -- those of the first nodes alone
-pub first_made : KeepsFiles → (start : List Replaying) (node : ℕ) (before mid : Option Folder) → mid ≡ with_files (images_in (take node start)) before → ChangesOnly before (images_in start) mid
+pub first_made : KeepsFiles → (start : List Replaying) (node : ℕ) (before mid : Option Folder) → mid ≡ with_files (images_in (take node start)) before → ChangesOnlyFiles before (images_in start) mid
 first_made keeps start node before mid so_far =
     let first = images_in (take node start) in
     let rest = images_in (drop node start) in
     let made : mid ≡ with_files (first ++ []) before = so_far ∙ ap (λ (files : List (List ℕ × List ℕ)). with_files files before) (sym (append-nil first)) in
-    subst (λ (t : Option Folder). ChangesOnly before (images_in start) t) (sym made)
+    subst (λ (t : Option Folder). ChangesOnlyFiles before (images_in start) t) (sym made)
     (keeps.left before (first ++ []) (images_in start)
-    (subst (AreFronts (first ++ [])) (sym (images_before start node)) (fronts_behind first [] rest (no_fronts rest))))
+    (subst (AreFileFronts (first ++ [])) (sym (images_before start node)) (fronts_behind first [] rest (no_fronts rest))))
 
 part_of_own : KeepsFiles → (start : List Replaying) (node : ℕ) (r : Replaying) (before mid after : Option Folder) → slice_get start node ≡ Some r → mid ≡ with_files (images_in (take node start)) before
-    → AreMadeInPart (files_of r) mid after → ChangesOnly before (images_in start) after
+    → AreMadeInPart (files_of r) mid after → ChangesOnlyFiles before (images_in start) after
 part_of_own keeps start node r before mid after is so_far (inl same) = first_made keeps start node before after (same ∙ so_far)
 part_of_own keeps start node r before mid after is so_far (inr (n, m, made)) =
     let first = images_in (take node start) in
     let part = made_in_part (files_of r) n m in
     let rest = images_in (drop (suc node) start) in
-    let all : after ≡ with_files (first ++ part) before = made ∙ ap (with_files part) so_far ∙ sym (with_more first part before) in
-    subst (λ (t : Option Folder). ChangesOnly before (images_in start) t) (sym all)
+    let all : after ≡ with_files (first ++ part) before = made ∙ ap (with_files part) so_far ∙ sym (with_more_files first part before) in
+    subst (λ (t : Option Folder). ChangesOnlyFiles before (images_in start) t) (sym all)
     (keeps.left before (first ++ part) (images_in start)
-    (subst (AreFronts (first ++ part)) (sym (images_around start node r is))
+    (subst (AreFileFronts (first ++ part)) (sym (images_around start node r is))
     (fronts_behind first part (files_of r ++ rest) (fronts_of_more part (files_of r) rest (part_fronts (files_of r) n m)))))
 
 -- and a part of the next one's
 pub part_made : KeepsFiles → (start : List Replaying) (node : ℕ) (files : List (List ℕ × List ℕ)) (before mid after : Option Folder) → AreOwn start node files → mid ≡ with_files (images_in (take node start)) before
-    → AreMadeInPart files mid after → ChangesOnly before (images_in start) after
+    → AreMadeInPart files mid after → ChangesOnlyFiles before (images_in start) after
 part_made keeps start node files before mid after a so_far part =
     part_of_own keeps start node a.replay before mid after a.is so_far (subst (λ (f : List (List ℕ × List ℕ)). AreMadeInPart f mid after) a.own part)

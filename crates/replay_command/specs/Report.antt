@@ -10,10 +10,10 @@ use Rattle.proc_replay.specs.Replaying.{Replaying}
 use Rattle.process_files.specs.Images.{image_files}
 use Rattle.group_state.specs.declared.report.ReportLine.{ReportLine}
 use Rattle.group_state.specs.declared.tally.GroupCounts.{GroupCounts}
-use Rattle.group_state.specs.Image.{left_memory, left_print}
+use Rattle.group_state.specs.Image.{memory_of_image, print_of_image}
 use Rattle.group_state.specs.Place.{group_count}
-use Rattle.group_state.specs.Report.{all_accepted, report_line}
-use Rattle.group_state.specs.Tally.{tally}
+use Rattle.group_state.specs.Report.{all_accepted_events, report_line}
+use Rattle.group_state.specs.Tally.{tally_of_events}
 use Rattle.end_text.specs.Ends.{end_text}
 use Rattle.command_run.specs.Outcome.{CommandOutcome, CommandWork, and_then}
 use Rattle.log_pairs.specs.Pairs.{Pair, replays_of_pairs}
@@ -59,12 +59,12 @@ is_divergence said.Whole = false
 is_divergence (said.Left bytes) = false
 
 -- whether a log diverged
-abbrev pub diverges : List ReportLine → Bool
-diverges lines = list_any (λ line. is_divergence line.verdict) lines
+abbrev pub some_log_diverges : List ReportLine → Bool
+some_log_diverges lines = list_any (λ line. is_divergence line.verdict) lines
 
 -- the files of what each process leaves
 abbrev pub images_in : List Replaying → List (List ℕ × List ℕ)
-images_in start = flat_map (λ r. image_files r.head.name (left_memory r) (left_print r)) start
+images_in start = flat_map (λ r. image_files r.head.name (memory_of_image r) (print_of_image r)) start
 
 abbrev pub images_if : Bool → List Replaying → List (List ℕ × List ℕ)
 images_if images start = if images then images_in start else []
@@ -72,9 +72,9 @@ images_if images start = if images then images_in start else []
 -- the work of a replay of these logs: what is said of them all, after the images that were asked for
 abbrev pub replay_work : Bool → List Replaying → CommandWork
 replay_work images start = record {
-  text = report_text (map report_line start) (tally (group_count start) (all_accepted start));
+  text = report_text (map report_line start) (tally_of_events (group_count start) (all_accepted_events start));
   writes = images_if images start;
-  diverged = diverges (map report_line start);
+  diverged = some_log_diverges (map report_line start);
 }
 
 -- the outcome of `replay`, given the files

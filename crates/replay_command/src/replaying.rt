@@ -2,7 +2,7 @@
 ghost use Rattle.std.specs.Prelude.{◌≡◌, All, List, map, option_map, IfErr};
 ghost use Rattle.fri_outside.specs.Outside.{WhenTold};
 ghost use Rattle.call_log.specs.Head.{IsHead};
-ghost use Rattle.command_run.specs.Call.{CountsFaults, KeepsFolder, MakesWorkFiles, MakesAll, Raises, TellsOutcome};
+ghost use Rattle.command_run.specs.Call.{CountsFaults, KeepsFolder, MakesWorkFiles, MakesAllFiles, RaisesCount, TellsOutcome};
 ghost use Rattle.command_run.specs.Outcome.{writes_of};
 ghost use Rattle.replay_command.specs.Report.{images_if, images_in, replay_outcome};
 ghost use Rattle.log_pairs.specs.Seen.{pair_of};
@@ -24,9 +24,9 @@ fn write_images<F: Files>(
 ) -> Result<(), StopCause>
     requires heads { All (λ r. IsHead r.head) parts.now }
     requires fresh { All (λ r. r.state.events ≡ 0) parts.now }
-    ensures made { MakesAll result (images_in parts.now) (F.told files.old) (F.told files.new) }
+    ensures made { MakesAllFiles result (images_in parts.now) (F.told files.old) (F.told files.new) }
     ensures counts { CountsFaults (F.counts files.old) (F.counts files.new) result }
-    ensures cause { IfErr result (Raises (F.counts files.old) (F.counts files.new)) }
+    ensures cause { IfErr result (RaisesCount (F.counts files.old) (F.counts files.new)) }
 {
     fri_outside::laws::keeps_files();
     for part in parts {
@@ -51,9 +51,9 @@ fn write_asked<F: Files>(
 ) -> Result<(), StopCause>
     requires heads { All (λ r. IsHead r.head) parts.now }
     requires fresh { All (λ r. r.state.events ≡ 0) parts.now }
-    ensures made { MakesAll result (images_if images parts.now) (F.told files.old) (F.told files.new) }
+    ensures made { MakesAllFiles result (images_if images parts.now) (F.told files.old) (F.told files.new) }
     ensures counts { CountsFaults (F.counts files.old) (F.counts files.new) result }
-    ensures cause { IfErr result (Raises (F.counts files.old) (F.counts files.new)) }
+    ensures cause { IfErr result (RaisesCount (F.counts files.old) (F.counts files.new)) }
 {
     if images {
         write_images(alloc, parts, files)
@@ -75,7 +75,7 @@ pub fn replay<F: Files>(
         MakesWorkFiles result (writes_of outcome) (F.told files.old) (F.told files.new)) }
     ensures keeps { KeepsFolder result (F.told files.old) (F.told files.new) }
     ensures counts { CountsFaults (F.counts files.old) (F.counts files.new) result }
-    ensures cause { IfErr result (Raises (F.counts files.old) (F.counts files.new)) }
+    ensures cause { IfErr result (RaisesCount (F.counts files.old) (F.counts files.new)) }
 {
     fri_outside::laws::keeps_files();
     let all = load_all(alloc, pairs, files)?;

@@ -1,7 +1,7 @@
 // The report of a replay.
 ghost use Rattle.std.specs.Prelude.{◌≡◌, ◌++◌, IfOk, OnOk};
 ghost use Rattle.group_state.specs.Report.{counts_in};
-ghost use Rattle.replay_command.specs.Report.{count_text, divergence_text, diverges, group_text, is_divergence, report_line_text, report_text, verdict_text};
+ghost use Rattle.replay_command.specs.Report.{count_text, divergence_text, some_log_diverges, group_text, is_divergence, report_line_text, report_text, verdict_text};
 ghost use Rattle.replay_command.specs.Seen.{PrintsAtEnd};
 
 use command_run::WorkText;
@@ -91,22 +91,22 @@ fn is_divergence(verdict: Verdict) -> bool
 }
 
 // Whether a log diverged.
-fn diverges(lines: &[ReportLine]) -> bool
-    ensures { result ≡ diverges lines.now }
+fn some_log_diverges(lines: &[ReportLine]) -> bool
+    ensures { result ≡ some_log_diverges lines.now }
 {
     lines.iter().any(|line| is_divergence(line.verdict))
 }
 
 /// A line for each log, and the counts of the group; and whether a log diverged.
 pub fn print_report(alloc: Global, report: &Report) -> Result<WorkText, AllocError>
-    ensures { IfOk result (PrintsAtEnd (report_text report.now.lines.items (counts_in report.now)) (diverges report.now.lines.items)) }
+    ensures { IfOk result (PrintsAtEnd (report_text report.now.lines.items (counts_in report.now)) (some_log_diverges report.now.lines.items)) }
 {
     let mut text = Text::new(alloc);
     for line in &report.lines {
         push_line(alloc, &mut text, line)?;
     }
     push_counts(&mut text, report)?;
-    if diverges(&report.lines) {
+    if some_log_diverges(&report.lines) {
         Ok(WorkText::Diverged(text))
     } else {
         Ok(WorkText::Done(text))

@@ -17,11 +17,11 @@ use Rattle.group_order.specs.Order.{NodeEvent, of_node}
 use Rattle.group_world.specs.History.{put_last_if}
 use Rattle.schedule_text.specs.declared.item.Item.{Item}
 use Rattle.schedule_text.specs.declared.item.Item.TheVariants as item
-use Rattle.group_record.specs.Run.{GroupStart, Had, Step, after_items, attempts, entries, event_of_try, had, head_of_log, history, log_has_room, process_after, size, unless_full}
+use Rattle.group_record.specs.Run.{GroupStart, Had, RunStep, after_items, run_attempts, entries_of_steps, event_of_try, had_event, head_of_log, history_of_steps, log_has_room, process_after, processes_in_group, unless_log_full}
 use Rattle.group_record.specs.RunLaws.{after_had}
 use Rattle.proc_replay.specs.Replaying.{Replaying}
-use Rattle.group_state.specs.Laws.{IsStep}
-use Rattle.group_state.specs.Place.{events, states}
+use Rattle.group_state.specs.Laws.{IsStepOfGroup}
+use Rattle.group_state.specs.Place.{events_of_replays, states_of_nodes}
 use Rattle.schedule_back.specs.Back.{items_of, signal_items, world_items}
 use Rattle.schedule_back.proofs.ProcessRanges.{AllFit, get_set}
 use Rattle.schedule_back.proofs.NodeFronts.{of_more, take_more}
@@ -29,33 +29,33 @@ use Rattle.schedule_back.proofs.AnswerItems.{AreReady, are_ready, at_rest, regro
 use Rattle.schedule_back.proofs.WorldsAround.{AreQuiet, env_around, quiet_after}
 
 -- the run is where the group of the logs comes after its first k events, and nothing waits anywhere
-pub record IsAt (start : List Replaying) (group : GroupStart) (k : ℕ) (steps : List Step) : Type 0 where
-  pub states : (p : ℕ) → process_after group steps p ≡ slice_get (states start k) p
-  pub logs : (p : ℕ) → entries steps p ≡ of_node p (take k (events start))
-  pub quiet : AreQuiet (size group) (history steps)
+pub record IsAt (start : List Replaying) (group : GroupStart) (k : ℕ) (steps : List RunStep) : Type 0 where
+  pub states : (p : ℕ) → process_after group steps p ≡ slice_get (states_of_nodes start k) p
+  pub logs : (p : ℕ) → entries_of_steps steps p ≡ of_node p (take k (events_of_replays start))
+  pub quiet : AreQuiet (processes_in_group group) (history_of_steps steps)
 
 -- each log has room for the first events, however many
 abbrev pub HaveRoom : List Replaying → GroupStart → Type 0
-HaveRoom start group = (p : ℕ) → p < length start → (k : ℕ) → length (head_bytes (head_of_log group p) ++ encodings Two 0 (of_node p (take k (events start)))) ≤ most_log
+HaveRoom start group = (p : ℕ) → p < length start → (k : ℕ) → length (head_bytes (head_of_log group p) ++ encodings Two 0 (of_node p (take k (events_of_replays start)))) ≤ most_log
 
 -- these items, whatever follows them, make these steps
-abbrev pub Moves : GroupStart → List Step → List Item → List Step → Type 0
+abbrev pub Moves : GroupStart → List RunStep → List Item → List RunStep → Type 0
 Moves group steps items after = (rest : List Item) (n : ℕ) → (m : ℕ) × (after_items group n (items ++ rest) (at_rest steps) ≡ after_items group m rest (at_rest after))
 
 -- ---- the try
 
 -- a try of a thread that makes this event, for which the log has room
-pub tried : (group : GroupStart) (steps : List Step) (p thread : ℕ) (e : Event) → event_of_try group steps p thread ≡ Some e → log_has_room group steps p e ≡ true
+pub tried : (group : GroupStart) (steps : List RunStep) (p thread : ℕ) (e : Event) → event_of_try group steps p thread ≡ Some e → log_has_room group steps p e ≡ true
     → (rest : List Item) (n : ℕ) → after_items group n (item.Run p thread 1 ∷ rest) (at_rest steps) ≡ after_items group (suc n) rest (at_rest (Had p e ∷ steps))
-unfolding attempts
+unfolding run_attempts
 tried group steps p thread e is room rest n =
-    ap (λ (try : Option Event). after_items group (suc n) rest (unless_full (at_rest steps) (had group n p try (at_rest steps)))) is
+    ap (λ (try : Option Event). after_items group (suc n) rest (unless_log_full (at_rest steps) (had_event group n p try (at_rest steps)))) is
     ∙ ap (λ (b : Bool). after_items group (suc n) rest (cond b (at_rest (Had p e ∷ steps)) (record (at_rest steps) { full = Some n }))) room
 
 -- ---- an event
 
-module _ (possible : Possible) (start : List Replaying) (group : GroupStart) (k : ℕ) (e : NodeEvent Entry) (steps : List Step)
-    (here : slice_get (events start) k ≡ Some e) (s : IsStep start k e) (fit : AllFit (states start k)) (count : length (states start k) ≡ length start)
+module _ (possible : Possible) (start : List Replaying) (group : GroupStart) (k : ℕ) (e : NodeEvent Entry) (steps : List RunStep)
+    (here : slice_get (events_of_replays start) k ≡ Some e) (s : IsStepOfGroup start k e) (fit : AllFit (states_of_nodes start k)) (count : length (states_of_nodes start k) ≡ length start)
     (room : HaveRoom start group) (at : IsAt start group k steps) where
   abbrev p : ℕ
   p = e.node
@@ -66,40 +66,40 @@ module _ (possible : Possible) (start : List Replaying) (group : GroupStart) (k 
   abbrev event : Event
   event = record { state = next s.state x; entry = x }
 
-  ready : AreReady group (size group) steps p x
-  ready = are_ready group (size group) steps p x at.quiet s.shaped.reply
+  ready : AreReady group (processes_in_group group) steps p x
+  ready = are_ready group (processes_in_group group) steps p x at.quiet s.shaped.reply
 
-  abbrev after : List Step
+  abbrev after : List RunStep
   after = Had p event ∷ ready.after
 
-  logs_after : (q : ℕ) → entries after q ≡ of_node q (take (suc k) (events start))
+  logs_after : (q : ℕ) → entries_of_steps after q ≡ of_node q (take (suc k) (events_of_replays start))
   logs_after q =
       ap (λ (es : List Entry). put_last_if (p == q) es x) (ready.comes.logs q ∙ at.logs q)
       ∙ by_test (p == q)
-      ∙ sym (of_more q (take k (events start)) e)
-      ∙ ap (of_node q) (sym (take_more (events start) k e here)) where
-        by_test : (b : Bool) → put_last_if b (of_node q (take k (events start))) x ≡ cond b (of_node q (take k (events start)) ++ x ∷ []) (of_node q (take k (events start)))
+      ∙ sym (of_more q (take k (events_of_replays start)) e)
+      ∙ ap (of_node q) (sym (take_more (events_of_replays start) k e here)) where
+        by_test : (b : Bool) → put_last_if b (of_node q (take k (events_of_replays start))) x ≡ cond b (of_node q (take k (events_of_replays start)) ++ x ∷ []) (of_node q (take k (events_of_replays start)))
         by_test true = refl
         by_test false = refl
 
-  states_after : (q : ℕ) → process_after group after q ≡ slice_get (states start (suc k)) q
+  states_after : (q : ℕ) → process_after group after q ≡ slice_get (states_of_nodes start (suc k)) q
   states_after q =
       after_had group ready.after p q event
       ∙ ap (λ (o : Option State). cond (p == q) (Some (next s.state x)) o) (ready.comes.states q ∙ at.states q)
-      ∙ sym (get_set (states start k) p s.state (next s.state x) s.stands q)
+      ∙ sym (get_set (states_of_nodes start k) p s.state (next s.state x) s.stands q)
       ∙ ap (λ (ss : List State). slice_get ss q) (sym s.after)
 
   has_room : log_has_room group ready.after p event ≡ true
   has_room =
-      let within : p < length start = omega (arith, slice_get_within (states start k) p s.state s.stands, count) in
+      let within : p < length start = omega (arith, slice_get_within (states_of_nodes start k) p s.state s.stands, count) in
       le-leb _ _ (subst (λ es. length (head_bytes (head_of_log group p) ++ encodings Two 0 es) ≤ most_log) (sym (logs_after p)) (room p within (suc k)))
 
   try_is : event_of_try group ready.after p x.thread ≡ Some event
   try_is =
       ap (λ (o : Option State). option_and_then (λ S. live S x.thread (around ready.after)) o) (ready.comes.states p ∙ at.states p ∙ s.stands)
       ∙ possible s.state x (fit p s.state s.stands) s.legal (around ready.after) ready.ready.supplies where
-        around : List Step → Env
-        around steps = env_around (size group) (history steps) p
+        around : List RunStep → Env
+        around steps = env_around (processes_in_group group) (history_of_steps steps) p
 
   moves : Moves group steps (items_of p x) after
   moves rest n =
@@ -111,5 +111,5 @@ module _ (possible : Possible) (start : List Replaying) (group : GroupStart) (k 
       (suc first.0, ap (λ items. after_items group n items (at_rest steps)) same ∙ first.1 ∙ tried group ready.after p x.thread event try_is has_room rest first.0)
 
   -- after the items of the event the run stands where the group stands after one event more
-  pub stepped : (after : List Step) × Moves group steps (items_of e.node e.entry) after × IsAt start group (suc k) after
-  stepped = (after, moves, record { states = states_after; logs = logs_after; quiet = quiet_after (size group) (history ready.after) p x ready.ready })
+  pub stepped : (after : List RunStep) × Moves group steps (items_of e.node e.entry) after × IsAt start group (suc k) after
+  stepped = (after, moves, record { states = states_after; logs = logs_after; quiet = quiet_after (processes_in_group group) (history_of_steps ready.after) p x ready.ready })

@@ -5,7 +5,7 @@ use Rattle.std.specs.List.{AllByRecursion}
 use Rattle.std.proofs.lemmas.List.Elements.{recursion_from_All}
 use Rattle.std.proofs.lemmas.Option.{same_Some}
 use Rattle.proc_replay.specs.Replaying.{Replaying}
-use Rattle.group_state.specs.Place.{AreParts, Ascends, group_count}
+use Rattle.group_state.specs.Place.{AreParts, AscendsByProcess, group_count}
 use Rattle.proc_replay.specs.AtHead.{IsAtHead}
 
 abbrev process_of : Replaying → ℕ
@@ -18,7 +18,7 @@ abbrev From : ℕ → List Replaying → Type 0
 From k rs = AllByRecursion (λ r. k ≤ process_of r) rs
 
 -- so many numbers above the first have room below n
-room : (n : ℕ) (r : Replaying) (rs : List Replaying) → Ascends (r ∷ rs) → process_of r < n → Below n rs → process_of r + length rs < n
+room : (n : ℕ) (r : Replaying) (rs : List Replaying) → AscendsByProcess (r ∷ rs) → process_of r < n → Below n rs → process_of r + length rs < n
 room n r [] up first below = omega (arith, first)
 room n r (s ∷ rs) up first below = omega (arith, up.0.0, room n s rs up.1 below.0 below.1)
 
@@ -26,7 +26,7 @@ after_first : (k : ℕ) (r : Replaying) (rs : List Replaying) → process_of r �
 after_first k r [] is above = tt
 after_first k r (s ∷ rs) is above = (omega (arith, is, above.0), after_first k r rs is above.1)
 
-numbered : (k n : ℕ) (rs : List Replaying) → Ascends rs → From k rs → Below n rs → k + length rs ≡ n → (i : ℕ) (r : Replaying) → slice_get rs i ≡ Some r → process_of r ≡ k + i
+numbered : (k n : ℕ) (rs : List Replaying) → AscendsByProcess rs → From k rs → Below n rs → k + length rs ≡ n → (i : ℕ) (r : Replaying) → slice_get rs i ≡ Some r → process_of r ≡ k + i
 numbered k n [] up from below count i r at = cc
 numbered k n (s ∷ rs) up from below count i r at =
     let is : process_of s ≡ k = omega (arith, from.0, room n s rs up below.0 below.1, count) in

@@ -18,10 +18,10 @@ use Rattle.call_log.specs.Log.{entries_of}
 use Rattle.call_log.specs.declared.version.Version.TheVariants.{Two}
 use Rattle.guest_process.specs.Fits.{StateFits}
 use Rattle.guest_process.specs.Numbers.{LegalNumbers}
-use Rattle.guest_process.specs.OneEvent.{IsKept, Possible}
+use Rattle.guest_process.specs.OneEvent.{IsKeptByEvents, Possible}
 use Rattle.guest_process.specs.State.{State}
 use Rattle.group_order.specs.Order.{NodeEvent, of_node}
-use Rattle.group_record.specs.Run.{Progress, Step, after_items, entries, head_of_log, history, size, world_around}
+use Rattle.group_record.specs.Run.{RunProgress, RunStep, after_items, entries_of_steps, head_of_log, history_of_steps, processes_in_group, world_around}
 use Rattle.group_record.specs.RunLaws.{before_steps}
 use Rattle.proc_replay.specs.Replaying.{Replaying}
 use Rattle.proc_replay.specs.Sizes.{AcceptedNoLonger}
@@ -29,7 +29,7 @@ use Rattle.schedule_text.specs.Limits.{most_runs}
 use Rattle.schedule_text.specs.Schedule.{IsProcess, IsSchedule, is_module_name}
 use Rattle.schedule_text.specs.declared.process.ProcessLine.{ProcessLine}
 use Rattle.group_state.specs.Laws.{Ordered, Stepwise}
-use Rattle.group_state.specs.Place.{events, group_count, states, states_from}
+use Rattle.group_state.specs.Place.{events_of_replays, group_count, states_of_nodes, states_from}
 use Rattle.schedule_back.specs.Back.{back, items_of}
 use Rattle.proc_replay.specs.AtHead.{IsAtHead}
 use Rattle.schedule_back.specs.Laws.{Converse, IsWholeGroup, NothingWaits, RecordsBack, back_group, back_run, front_run}
@@ -60,7 +60,7 @@ name_at lines rs same p r at = ap (λ (names : List (List ℕ)). slice_index_or 
   by_place (s ∷ rs) zero r at = let same : s ≡ r = cc in ap (λ (r : Replaying). r.head.name) same
   by_place (s ∷ rs) (suc p) r at = by_place rs p r at
 
-module _ (exact : ExactLogs) (ordered : Ordered) (stepwise : Stepwise) (possible : Possible) (numbers : LegalNumbers) (kept : IsKept) (no_longer : AcceptedNoLonger)
+module _ (exact : ExactLogs) (ordered : Ordered) (stepwise : Stepwise) (possible : Possible) (numbers : LegalNumbers) (kept : IsKeptByEvents) (no_longer : AcceptedNoLonger)
     (lines : List ProcessLine) (start : List Replaying) (g : IsWholeGroup lines start) where
   abbrev heads : AllByRecursion IsAtHead start
   heads = recursion_from_All IsAtHead start g.at_heads
@@ -71,13 +71,13 @@ module _ (exact : ExactLogs) (ordered : Ordered) (stepwise : Stepwise) (possible
   length_lines : length lines ≡ length start
   length_lines = sym (length-map lines (λ (line : ProcessLine). line.name)) ∙ ap length g.names ∙ length-map start (λ (r : Replaying). r.head.name)
 
-  size_is : size (back_group lines start) ≡ length start
+  size_is : processes_in_group (back_group lines start) ≡ length start
   size_is = length-map lines (λ (line : ProcessLine). line.name) ∙ length_lines
 
   -- the head of the log that is recorded is that of the log, in version 2
   head_is : (p : ℕ) (r : Replaying) → slice_get start p ≡ Some r → head_of_log (back_group lines start) p ≡ record r.head { version = Two }
   head_is p r at =
-      let count : size (back_group lines start) ≡ r.head.count =
+      let count : processes_in_group (back_group lines start) ≡ r.head.count =
       size_is ∙ g.whole ∙ sym (at_place (λ (r : Replaying). r.head.count ≡ group_count start) start (recursion_from_All (λ (r : Replaying). r.head.count ≡ group_count start) start g.parts.one) p r at) in
       let number : p ≡ r.head.process = sym (process_is start g.parts g.at_heads g.whole p r at) in
       let name = name_at lines start g.names p r at in
@@ -90,21 +90,21 @@ module _ (exact : ExactLogs) (ordered : Ordered) (stepwise : Stepwise) (possible
   have_room : HaveRoom start (back_group lines start)
   have_room p within k =
       let r = element start p within in
-      subst (λ (h : Head). length (head_bytes h ++ encodings Two 0 (of_node p (take k (events start)))) ≤ most_log) (sym (head_is p r.0 r.1))
+      subst (λ (h : Head). length (head_bytes h ++ encodings Two 0 (of_node p (take k (events_of_replays start)))) ≤ most_log) (sym (head_is p r.0 r.1))
       (part_fits exact no_longer r.0 (at_place (λ (r : Replaying). StateFits r.state) start fits p r.0 r.1) (at_place IsAtHead start heads p r.0 r.1)
-      (of_node p (take k (events start))) (part_of ordered start g.fits p r.0 r.1 k))
+      (of_node p (take k (events_of_replays start))) (part_of ordered start g.fits p r.0 r.1 k))
 
   -- ---- all events
 
   -- the run reaches the end of the events
-  record Ends (n k : ℕ) (steps : List Step) (es : List (NodeEvent Entry)) : Type 0 where
-    after : List Step
+  record Ends (n k : ℕ) (steps : List RunStep) (es : List (NodeEvent Entry)) : Type 0 where
+    after : List RunStep
     comes : after_items (back_group lines start) n (items_of_events es) (at_rest steps) ≡ at_rest after
-    at : IsAt start (back_group lines start) (length (events start)) after
+    at : IsAt start (back_group lines start) (length (events_of_replays start)) after
 
-  at_end : (k : ℕ) (steps : List Step) → drop k (events start) ≡ [] → IsAt start (back_group lines start) k steps → IsAt start (back_group lines start) (length (events start)) steps
+  at_end : (k : ℕ) (steps : List RunStep) → drop k (events_of_replays start) ≡ [] → IsAt start (back_group lines start) k steps → IsAt start (back_group lines start) (length (events_of_replays start)) steps
   at_end k steps none at =
-      let same : take k (events start) ≡ take (length (events start)) (events start) = none_left (events start) k none ∙ sym (take-length (events start)) in
+      let same : take k (events_of_replays start) ≡ take (length (events_of_replays start)) (events_of_replays start) = none_left (events_of_replays start) k none ∙ sym (take-length (events_of_replays start)) in
       record {
         states = λ p. at.states p ∙ ap (λ es. slice_get (states_from 0 start es) p) same;
         logs = λ p. at.logs p ∙ ap (of_node p) same;
@@ -112,35 +112,35 @@ module _ (exact : ExactLogs) (ordered : Ordered) (stepwise : Stepwise) (possible
       }
 
   -- one event more
-  one_more : (e : NodeEvent Entry) (es : List (NodeEvent Entry)) (k : ℕ) (steps : List Step) → drop k (events start) ≡ e ∷ es → IsAt start (back_group lines start) k steps
-      → (after : List Step) × Moves (back_group lines start) steps (items_of e.node e.entry) after × IsAt start (back_group lines start) (suc k) after
+  one_more : (e : NodeEvent Entry) (es : List (NodeEvent Entry)) (k : ℕ) (steps : List RunStep) → drop k (events_of_replays start) ≡ e ∷ es → IsAt start (back_group lines start) k steps
+      → (after : List RunStep) × Moves (back_group lines start) steps (items_of e.node e.entry) after × IsAt start (back_group lines start) (suc k) after
   one_more e es k steps left at =
-      let here = (next_of (events start) k e es left).0 in
-      let within : k ≤ length (events start) = omega (arith, slice_get_within (events start) k e here) in
+      let here = (next_of (events_of_replays start) k e es left).0 in
+      let within : k ≤ length (events_of_replays start) = omega (arith, slice_get_within (events_of_replays start) k e here) in
       stepped possible start (back_group lines start) k e steps here (stepwise.steps start g.parts g.fits k e here)
-      (all_fit stepwise kept start g.parts g.fits k within) (length_states 0 start (take k (events start))) have_room at
+      (all_fit stepwise kept start g.parts g.fits k within) (length_states 0 start (take k (events_of_replays start))) have_room at
 
-  ends : (es : List (NodeEvent Entry)) (n k : ℕ) (steps : List Step) → drop k (events start) ≡ es → IsAt start (back_group lines start) k steps → Ends n k steps es
+  ends : (es : List (NodeEvent Entry)) (n k : ℕ) (steps : List RunStep) → drop k (events_of_replays start) ≡ es → IsAt start (back_group lines start) k steps → Ends n k steps es
   ends [] n k steps left at = record { after = steps; comes = refl; at = at_end k steps left at }
   ends (e ∷ es) n k steps left at =
       let one = one_more e es k steps left at in
       let first = one.1 (items_of_events es) n in
-      let rest = ends es first.0 (suc k) one.0 (next_of (events start) k e es left).1 one.2 in
+      let rest = ends es first.0 (suc k) one.0 (next_of (events_of_replays start) k e es left).1 one.2 in
       record { after = rest.after; comes = first.1 ∙ rest.comes; at = rest.at }
 
   -- the run of the first events, however many, makes steps after which nothing waits
-  record IsFront (n : ℕ) (steps : List Step) (es : List (NodeEvent Entry)) : Type 0 where
-    after : List Step
+  record IsFront (n : ℕ) (steps : List RunStep) (es : List (NodeEvent Entry)) : Type 0 where
+    after : List RunStep
     comes : after_items (back_group lines start) n (items_of_events es) (at_rest steps) ≡ at_rest after
-    quiet : AreQuiet (size (back_group lines start)) (history after)
+    quiet : AreQuiet (processes_in_group (back_group lines start)) (history_of_steps after)
 
-  front : (j : ℕ) (es : List (NodeEvent Entry)) (n k : ℕ) (steps : List Step) → drop k (events start) ≡ es → IsAt start (back_group lines start) k steps → IsFront n steps (take j es)
+  front : (j : ℕ) (es : List (NodeEvent Entry)) (n k : ℕ) (steps : List RunStep) → drop k (events_of_replays start) ≡ es → IsAt start (back_group lines start) k steps → IsFront n steps (take j es)
   front zero es n k steps left at = record { after = steps; comes = refl; quiet = at.quiet }
   front (suc j) [] n k steps left at = record { after = steps; comes = refl; quiet = at.quiet }
   front (suc j) (e ∷ es) n k steps left at =
       let one = one_more e es k steps left at in
       let first = one.1 (items_of_events (take j es)) n in
-      let rest = front j es first.0 (suc k) one.0 (next_of (events start) k e es left).1 one.2 in
+      let rest = front j es first.0 (suc k) one.0 (next_of (events_of_replays start) k e es left).1 one.2 in
       record { after = rest.after; comes = first.1 ∙ rest.comes; quiet = rest.quiet }
 
   at_start : IsAt start (back_group lines start) 0 []
@@ -150,29 +150,29 @@ module _ (exact : ExactLogs) (ordered : Ordered) (stepwise : Stepwise) (possible
     quiet = λ p. record { datagrams = refl; bytes = refl; signals = λ s first. refl; alive = refl };
   }
 
-  whole_run : Ends 1 0 [] (events start)
-  whole_run = ends (events start) 1 0 [] refl at_start
+  whole_run : Ends 1 0 [] (events_of_replays start)
+  whole_run = ends (events_of_replays start) 1 0 [] refl at_start
 
-  nothing_between : (k p : ℕ) → NothingWaits (world_around (size (back_group lines start)) (front_run lines start k).steps p)
+  nothing_between : (k p : ℕ) → NothingWaits (world_around (processes_in_group (back_group lines start)) (front_run lines start k).steps p)
   nothing_between k p =
-      let f = front k (events start) 1 0 [] refl at_start in
-      subst (λ (done : Progress). NothingWaits (world_around (size (back_group lines start)) done.steps p)) (sym f.comes) (nothing_waits (size (back_group lines start)) f.after p (f.quiet p))
+      let f = front k (events_of_replays start) 1 0 [] refl at_start in
+      subst (λ (done : RunProgress). NothingWaits (world_around (processes_in_group (back_group lines start)) done.steps p)) (sym f.comes) (nothing_waits (processes_in_group (back_group lines start)) f.after p (f.quiet p))
 
   -- ---- the schedule
 
-  ranged : BringBytes (events start) → AllByRecursion (IsRanged (length lines)) (events start)
-  ranged bytes = all_by_place (IsRanged (length lines)) (events start) one where
-    one : (k : ℕ) (e : NodeEvent Entry) → slice_get (events start) k ≡ Some e → IsRanged (length lines) e
+  ranged : BringBytes (events_of_replays start) → AllByRecursion (IsRanged (length lines)) (events_of_replays start)
+  ranged bytes = all_by_place (IsRanged (length lines)) (events_of_replays start) one where
+    one : (k : ℕ) (e : NodeEvent Entry) → slice_get (events_of_replays start) k ≡ Some e → IsRanged (length lines) e
     one k e at =
         let s = stepwise.steps start g.parts g.fits k e at in
-        let within : k ≤ length (events start) = omega (arith, slice_get_within (events start) k e at) in
+        let within : k ≤ length (events_of_replays start) = omega (arith, slice_get_within (events_of_replays start) k e at) in
         let fit = all_fit stepwise kept start g.parts g.fits k within e.node s.state s.stands in
         let n = numbers s.state e.entry fit s.legal in
         record {
-          process = omega (arith, slice_get_within (states start k) e.node s.state s.stands, length_states 0 start (take k (events start)), length_lines);
+          process = omega (arith, slice_get_within (states_of_nodes start k) e.node s.state s.stands, length_states 0 start (take k (events_of_replays start)), length_lines);
           thread = n.thread;
           signal = n.signal;
-          incoming = at_place (λ (e : NodeEvent Entry). AreBytes e.entry.incoming) (events start) (recursion_from_All (λ (e : NodeEvent Entry). AreBytes e.entry.incoming) (events start) bytes) k e at;
+          incoming = at_place (λ (e : NodeEvent Entry). AreBytes e.entry.incoming) (events_of_replays start) (recursion_from_All (λ (e : NodeEvent Entry). AreBytes e.entry.incoming) (events_of_replays start) bytes) k e at;
         }
 
   are_processes : (lines : List ProcessLine) (rs : List Replaying) → map (λ (line : ProcessLine). line.name) lines ≡ map (λ (r : Replaying). r.head.name) rs → AllByRecursion IsAtHead rs
@@ -184,33 +184,33 @@ module _ (exact : ExactLogs) (ordered : Ordered) (stepwise : Stepwise) (possible
       let rest : map (λ (line : ProcessLine). line.name) lines ≡ map (λ (r : Replaying). r.head.name) rs = cc in
       (record { name = ap is_name name ∙ heads.0.head.named; file = files.0 }, are_processes lines rs rest heads.1 files.1)
 
-  formed : (text : List ℕ) → Says lines start text → BringBytes (events start) → IsSchedule (back lines start)
+  formed : (text : List ℕ) → Says lines start text → BringBytes (events_of_replays start) → IsSchedule (back lines start)
   formed text says bytes = record {
     formed = record {
       some = omega (arith, length_lines, g.some);
       most = omega (arith, length_lines, g.parts.few);
       lines = All-from_recursion IsProcess lines (are_processes lines start g.names heads says.named);
       names = g.apart;
-      items = all_in (length lines) (events start) (ranged bytes);
+      items = all_in (length lines) (events_of_replays start) (ranged bytes);
     };
-    runs = omega (arith, all_tries (events start), leb-true (length (events start)) most_runs says.few);
+    runs = omega (arith, all_tries (events_of_replays start), leb-true (length (events_of_replays start)) most_runs says.few);
   }
 
   -- ---- the logs
 
-  same_entries : (text : List ℕ) → Says lines start text → (p : ℕ) (r : Replaying) → slice_get start p ≡ Some r → entries whole_run.after p ≡ entries_of r.left
+  same_entries : (text : List ℕ) → Says lines start text → (p : ℕ) (r : Replaying) → slice_get start p ≡ Some r → entries_of_steps whole_run.after p ≡ entries_of r.left
   same_entries text says p r at =
       let all = whole_accepted r (at_place _ start says.whole p r at) in
-      whole_run.at.logs p ∙ ap (of_node p) (take-length (events start)) ∙ all_own ordered start g.fits p r at
+      whole_run.at.logs p ∙ ap (of_node p) (take-length (events_of_replays start)) ∙ all_own ordered start g.fits p r at
       ∙ ap (λ n. take n (entries_of r.left)) all ∙ take-length (entries_of r.left)
 
-  pub records_back : (text : List ℕ) → BringBytes (events start) → text_or_refusal lines start ≡ Ok text → RecordsBack lines start text
+  pub records_back : (text : List ℕ) → BringBytes (events_of_replays start) → text_or_refusal lines start ≡ Ok text → RecordsBack lines start text
   records_back text bytes is =
       let s = says lines start text is in
       let run_is : back_run lines start ≡ at_rest whole_run.after = whole_run.comes in
       let steps_are : (back_run lines start).steps ≡ whole_run.after = ap (λ done. done.steps) run_is in
-      let same : (p : ℕ) (r : Replaying) → slice_get start p ≡ Some r → entries (back_run lines start).steps p ≡ entries_of r.left =
-      λ p r at. ap (λ (steps : List Step). entries steps p) steps_are ∙ same_entries text s p r at in
+      let same : (p : ℕ) (r : Replaying) → slice_get start p ≡ Some r → entries_of_steps (back_run lines start).steps p ≡ entries_of r.left =
+      λ p r at. ap (λ (steps : List RunStep). entries_of_steps steps p) steps_are ∙ same_entries text s p r at in
       record {
         spelled = s.spelled;
         short = s.short;
@@ -221,10 +221,10 @@ module _ (exact : ExactLogs) (ordered : Ordered) (stepwise : Stepwise) (possible
         same = same;
         heads = head_is;
         rest = λ p r at. whole_rest r (at_place _ start s.whole p r at);
-        logs = λ p r at. ap (λ (h : Head). head_bytes h ++ encodings Two 0 (entries (back_run lines start).steps p)) (head_is p r at)
+        logs = λ p r at. ap (λ (h : Head). head_bytes h ++ encodings Two 0 (entries_of_steps (back_run lines start).steps p)) (head_is p r at)
             ∙ ap (λ (es : List Entry). head_bytes (record r.head { version = Two }) ++ encodings Two 0 es) (same p r at);
       }
 
-pub converse : ExactLogs → Ordered → Stepwise → Possible → LegalNumbers → IsKept → AcceptedNoLonger → Converse
+pub converse : ExactLogs → Ordered → Stepwise → Possible → LegalNumbers → IsKeptByEvents → AcceptedNoLonger → Converse
 converse exact ordered stepwise possible numbers kept no_longer lines start text g bytes is =
     records_back exact ordered stepwise possible numbers kept no_longer lines start g text bytes is

@@ -4,11 +4,11 @@ use Rattle.std.specs.Prelude.{Result, nat_le}
 use Rattle.std.specs.List.{AllByRecursion}
 use Rattle.std.proofs.lemmas.Bool.{leb-true}
 use Rattle.lib_calls.specs.declared.entry.Entry.{Entry}
-use Rattle.call_log.specs.Log.{entries_of, rest_of}
+use Rattle.call_log.specs.Log.{entries_of, rest_of_log}
 use Rattle.guest_process.specs.declared.divergence.Divergence.{Divergence}
 use Rattle.guest_process.specs.Legal.{reason}
 use Rattle.guest_process.specs.Next.{next}
-use Rattle.guest_process.specs.Replay.{accepted, reach, reach_then, verdict_of}
+use Rattle.guest_process.specs.Replay.{accepted, reach_of_entries, reach_with_entry, verdict_of}
 use Rattle.guest_process.specs.State.{State}
 use Rattle.proc_replay.specs.Replaying.{Replaying}
 use Rattle.schedule_text.specs.Limits.{most_runs, most_schedule}
@@ -17,7 +17,7 @@ use Rattle.schedule_text.specs.Text.{text_of}
 use Rattle.schedule_text.specs.declared.process.ProcessLine.{ProcessLine}
 use Rattle.guest_process.specs.declared.verdict.Verdict.{Verdict}
 use Rattle.guest_process.specs.declared.verdict.Verdict.TheVariants as said
-use Rattle.group_state.specs.Place.{events}
+use Rattle.group_state.specs.Place.{events_of_replays}
 use Rattle.group_state.specs.Report.{verdict_on}
 use Rattle.schedule_back.specs.Back.{back}
 use Rattle.schedule_back.specs.Outcome.{BadModuleName, NotWhole, BackRefusal, first_bad_name, first_not_whole, is_whole, refuse_where, text_or_refusal}
@@ -25,11 +25,11 @@ use Rattle.schedule_back.proofs.ListPlaces.{none_passes}
 
 -- ---- a log
 
-all_accepted : (S : State) (es : List Entry) → (reach S es).divergence ≡ None → accepted S es ≡ length es
+all_accepted : (S : State) (es : List Entry) → (reach_of_entries S es).divergence ≡ None → accepted S es ≡ length es
 all_accepted S [] none = refl
 all_accepted S (e ∷ es) none = by_reason (all_accepted (next S e) es) (reason S e) none where
-  by_reason : ((reach (next S e) es).divergence ≡ None → accepted (next S e) es ≡ length es) → (why : Option Divergence)
-      → (reach_then why (reach (next S e) es)).divergence ≡ None → (reach_then why (reach (next S e) es)).accepted ≡ suc (length es)
+  by_reason : ((reach_of_entries (next S e) es).divergence ≡ None → accepted (next S e) es ≡ length es) → (why : Option Divergence)
+      → (reach_with_entry why (reach_of_entries (next S e) es)).divergence ≡ None → (reach_with_entry why (reach_of_entries (next S e) es)).accepted ≡ suc (length es)
   by_reason later None none = ap suc (later none)
   by_reason later (Some why) none = absurd (cc)
 
@@ -39,17 +39,17 @@ said_whole (said.Left bytes) is = absurd (cc)
 said_whole (said.Diverged at why) is = absurd (cc)
 
 -- of a whole log nothing is left after the entries
-pub whole_rest : (r : Replaying) → verdict_on r ≡ said.Whole → rest_of r.left ≡ []
-whole_rest r whole = by_rest (reach r.state (entries_of r.left)).divergence (rest_of r.left) whole where
-  by_rest : (d : Option Divergence) (rest : List ℕ) → verdict_of (record (reach r.state (entries_of r.left)) { divergence = d }) rest ≡ said.Whole → rest ≡ []
+pub whole_rest : (r : Replaying) → verdict_on r ≡ said.Whole → rest_of_log r.left ≡ []
+whole_rest r whole = by_rest (reach_of_entries r.state (entries_of r.left)).divergence (rest_of_log r.left) whole where
+  by_rest : (d : Option Divergence) (rest : List ℕ) → verdict_of (record (reach_of_entries r.state (entries_of r.left)) { divergence = d }) rest ≡ said.Whole → rest ≡ []
   by_rest d [] is = refl
   by_rest None (b ∷ rest) is = absurd (cc)
   by_rest (Some why) (b ∷ rest) is = absurd (cc)
 
 -- and all of these are accepted
 pub whole_accepted : (r : Replaying) → verdict_on r ≡ said.Whole → accepted r.state (entries_of r.left) ≡ length (entries_of r.left)
-whole_accepted r whole = all_accepted r.state (entries_of r.left) (by_divergence (reach r.state (entries_of r.left)).divergence whole) where
-  by_divergence : (d : Option Divergence) → verdict_of (record (reach r.state (entries_of r.left)) { divergence = d }) (rest_of r.left) ≡ said.Whole → d ≡ None
+whole_accepted r whole = all_accepted r.state (entries_of r.left) (by_divergence (reach_of_entries r.state (entries_of r.left)).divergence whole) where
+  by_divergence : (d : Option Divergence) → verdict_of (record (reach_of_entries r.state (entries_of r.left)) { divergence = d }) (rest_of_log r.left) ≡ said.Whole → d ≡ None
   by_divergence None is = refl
   by_divergence (Some why) is = absurd (cc)
 
@@ -69,7 +69,7 @@ named (line ∷ lines) all = (by_test (is_module_name line.«module») all.0, na
 pub record Says (lines : List ProcessLine) (start : List Replaying) (text : List ℕ) : Type 0 where
   pub whole : AllByRecursion (λ (r : Replaying). verdict_on r ≡ said.Whole) start
   pub named : AllByRecursion (λ (line : ProcessLine). is_module_name line.«module» ≡ true) lines
-  pub few : nat_le (length (events start)) most_runs ≡ true
+  pub few : nat_le (length (events_of_replays start)) most_runs ≡ true
   pub spelled : text ≡ text_of (back lines start)
   pub short : length text ≤ most_schedule
 
@@ -93,7 +93,7 @@ pub says : (lines : List ProcessLine) (start : List Replaying) (text : List ℕ)
 says lines start text is =
     let one = not_refused NotWhole (first_not_whole start) _ text is in
     let two = not_refused BadModuleName (first_bad_name lines) _ text one.1 in
-    let three = within (nat_le (length (events start)) most_runs) _ _ text two.1 in
+    let three = within (nat_le (length (events_of_replays start)) most_runs) _ _ text two.1 in
     let whole_text = text_of (back lines start) in
     let four = within (nat_le (length whole_text) most_schedule) _ _ text three.1 in
     let same = is_text whole_text text four.1 in

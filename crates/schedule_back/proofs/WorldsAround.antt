@@ -8,15 +8,15 @@ use Rattle.lib_calls.specs.Answer.{answer_of}
 use Rattle.lib_calls.specs.Traffic.{drawn, is_taken}
 use Rattle.call_table.specs.Table.{kind_numbered}
 use Rattle.guest_process.specs.Live.{Env}
-use Rattle.guest_process.specs.OneEvent.{Brings, Supplies}
-use Rattle.group_record.specs.Run.{Step, history, world_around}
+use Rattle.guest_process.specs.OneEvent.{WorldBrings, WorldSupplies}
+use Rattle.group_record.specs.Run.{RunStep, history_of_steps, world_around}
 use Rattle.schedule_back.specs.Laws.{NothingWaits}
-use Rattle.group_world.specs.History.{Event, Inject, Clock, Random, Signal, History, given, is_killed, is_pending, mailbox, one_if, pool, put_last_if, supplied, taken_count, time, used_count}
+use Rattle.group_world.specs.History.{Event, Inject, Clock, Random, Signal, History, given, is_killed, is_pending, mailbox, one_if, pool, put_last_if, supplied_bytes, taken_count, time, used_count}
 
 -- a process took all datagrams and all random bytes that came for it, no signal is pending at it, and it was not killed
 pub record IsQuiet (count : ℕ) (h : History) (p : ℕ) : Type 0 where
   pub datagrams : taken_count h p ≡ length (given count h p)
-  pub bytes : used_count h p ≡ length (supplied h p)
+  pub bytes : used_count h p ≡ length (supplied_bytes h p)
   pub signals : (s : ℕ) → 1 ≤ s → is_pending h p s ≡ false
   pub alive : is_killed h p ≡ false
 
@@ -41,20 +41,20 @@ env_around count h p = record {
 -- these random bytes and this time
 pub record IsGiven (count : ℕ) (h : History) (p : ℕ) (e : Entry) : Type 0 where
   pub datagrams : taken_count h p + one_if (is_taken e) ≡ length (given count h p)
-  pub bytes : used_count h p + drawn e ≡ length (supplied h p)
+  pub bytes : used_count h p + drawn e ≡ length (supplied_bytes h p)
   pub signals : (s : ℕ) → 1 ≤ s → is_pending h p s ≡ false
   pub alive : is_killed h p ≡ false
   pub others : OthersQuiet count h p
-  pub brings : (env : Env) → env.mailbox ≡ mailbox count h p → env.pool ≡ pool h p → env.time ≡ time h p → Brings (kind_numbered e.call.kind) (answer_of e) env
+  pub brings : (env : Env) → env.mailbox ≡ mailbox count h p → env.pool ≡ pool h p → env.time ≡ time h p → WorldBrings (kind_numbered e.call.kind) (answer_of e) env
 
 -- and of the signals that one is pending which the event delivers
 pub record IsReady (count : ℕ) (h : History) (p : ℕ) (e : Entry) : Type 0 where
   pub datagrams : taken_count h p + one_if (is_taken e) ≡ length (given count h p)
-  pub bytes : used_count h p + drawn e ≡ length (supplied h p)
+  pub bytes : used_count h p + drawn e ≡ length (supplied_bytes h p)
   pub others : OthersQuiet count h p
   pub pending : (s : ℕ) → 1 ≤ s → is_pending h p s ≡ (s == e.signal)
   pub alive : is_killed h p ≡ false
-  pub supplies : Supplies e (env_around count h p)
+  pub supplies : WorldSupplies e (env_around count h p)
 
 pub itself : (p : ℕ) → (p == p) ≡ true
 itself p = eq-eqb p p refl
@@ -71,10 +71,10 @@ all_gone : {A : Type 0} (xs : List A) → drop (length xs) xs ≡ []
 all_gone [] = refl
 all_gone (x ∷ xs) = all_gone xs
 
-pub nothing_waits : (count : ℕ) (steps : List Step) (p : ℕ) → IsQuiet count (history steps) p → NothingWaits (world_around count steps p)
+pub nothing_waits : (count : ℕ) (steps : List RunStep) (p : ℕ) → IsQuiet count (history_of_steps steps) p → NothingWaits (world_around count steps p)
 nothing_waits count steps p q = record {
-  datagrams = ap (λ n. drop n (given count (history steps) p)) q.datagrams ∙ all_gone (given count (history steps) p);
-  bytes = ap (λ n. drop n (supplied (history steps) p)) q.bytes ∙ all_gone (supplied (history steps) p);
+  datagrams = ap (λ n. drop n (given count (history_of_steps steps) p)) q.datagrams ∙ all_gone (given count (history_of_steps steps) p);
+  bytes = ap (λ n. drop n (supplied_bytes (history_of_steps steps) p)) q.bytes ∙ all_gone (supplied_bytes (history_of_steps steps) p);
   signals = q.signals;
   alive = q.alive;
 }
@@ -162,7 +162,7 @@ no_more n = omega arith
 
 -- nothing
 pub given_nothing : (count : ℕ) (h : History) (p : ℕ) (e : Entry) → AreQuiet count h → is_taken e ≡ false → drawn e ≡ 0
-    → ((env : Env) → env.mailbox ≡ [] → Brings (kind_numbered e.call.kind) (answer_of e) env) → IsGiven count h p e
+    → ((env : Env) → env.mailbox ≡ [] → WorldBrings (kind_numbered e.call.kind) (answer_of e) env) → IsGiven count h p e
 given_nothing count h p e quiet taken drew brings =
     let q = quiet p in
     record {
@@ -176,7 +176,7 @@ given_nothing count h p e quiet taken drew brings =
 
 -- the wall time
 pub given_time : (count : ℕ) (h : History) (p : ℕ) (e : Entry) (value : ℕ) → AreQuiet count h → is_taken e ≡ false → drawn e ≡ 0
-    → ((env : Env) → env.time ≡ value → Brings (kind_numbered e.call.kind) (answer_of e) env) → IsGiven count (Clock p value ∷ h) p e
+    → ((env : Env) → env.time ≡ value → WorldBrings (kind_numbered e.call.kind) (answer_of e) env) → IsGiven count (Clock p value ∷ h) p e
 given_time count h p e value quiet taken drew brings =
     let q = quiet p in
     record {
@@ -190,27 +190,27 @@ given_time count h p e value quiet taken drew brings =
 
 -- random bytes
 pub given_bytes : (count : ℕ) (h : History) (p : ℕ) (e : Entry) (bytes : List ℕ) → AreQuiet count h → is_taken e ≡ false → drawn e ≡ length bytes
-    → ((env : Env) → env.pool ≡ bytes → Brings (kind_numbered e.call.kind) (answer_of e) env) → IsGiven count (Random p bytes ∷ h) p e
+    → ((env : Env) → env.pool ≡ bytes → WorldBrings (kind_numbered e.call.kind) (answer_of e) env) → IsGiven count (Random p bytes ∷ h) p e
 given_bytes count h p e bytes quiet taken drew brings =
     let q = quiet p in
-    let all : supplied (Random p bytes ∷ h) p ≡ supplied h p ++ bytes = ap (λ b. if b then supplied h p ++ bytes else supplied h p) (itself p) in
+    let all : supplied_bytes (Random p bytes ∷ h) p ≡ supplied_bytes h p ++ bytes = ap (λ b. if b then supplied_bytes h p ++ bytes else supplied_bytes h p) (itself p) in
     record {
       datagrams = ap (λ b. taken_count h p + one_if b) taken ∙ no_more (taken_count h p) ∙ q.datagrams;
-      bytes = ap (λ n. used_count h p + n) drew ∙ ap (λ n. n + length bytes) q.bytes ∙ sym (length-append (supplied h p) bytes) ∙ ap length (sym all);
+      bytes = ap (λ n. used_count h p + n) drew ∙ ap (λ n. n + length bytes) q.bytes ∙ sym (length-append (supplied_bytes h p) bytes) ∙ ap length (sym all);
       signals = q.signals;
       alive = q.alive;
       others = λ r other. let s = quiet r in record {
         datagrams = s.datagrams;
-        bytes = s.bytes ∙ ap length (sym (ap (λ b. if b then supplied h r ++ bytes else supplied h r) other));
+        bytes = s.bytes ∙ ap length (sym (ap (λ b. if b then supplied_bytes h r ++ bytes else supplied_bytes h r) other));
         signals = s.signals;
         alive = s.alive;
       };
-      brings = λ env mail front told. brings env (front ∙ ap (drop (used_count h p)) all ∙ ap (λ n. drop n (supplied h p ++ bytes)) q.bytes ∙ drop-append_seam (supplied h p) bytes);
+      brings = λ env mail front told. brings env (front ∙ ap (drop (used_count h p)) all ∙ ap (λ n. drop n (supplied_bytes h p ++ bytes)) q.bytes ∙ drop-append_seam (supplied_bytes h p) bytes);
     }
 
 -- a datagram
 pub given_datagram : (count : ℕ) (h : History) (p : ℕ) (e : Entry) (datagram : List ℕ) → AreQuiet count h → is_taken e ≡ true → drawn e ≡ 0
-    → ((env : Env) → env.mailbox ≡ datagram ∷ [] → Brings (kind_numbered e.call.kind) (answer_of e) env) → IsGiven count (Inject p datagram ∷ h) p e
+    → ((env : Env) → env.mailbox ≡ datagram ∷ [] → WorldBrings (kind_numbered e.call.kind) (answer_of e) env) → IsGiven count (Inject p datagram ∷ h) p e
 given_datagram count h p e datagram quiet taken drew brings =
     let q = quiet p in
     let all : given count (Inject p datagram ∷ h) p ≡ given count h p ++ datagram ∷ [] = ap (λ b. put_last_if b (given count h p) datagram) (itself p) in

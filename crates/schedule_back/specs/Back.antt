@@ -15,7 +15,7 @@ use Rattle.schedule_text.specs.declared.item.Item.TheVariants.{Run, Inject, Cloc
 use Rattle.schedule_text.specs.declared.process.ProcessLine.{ProcessLine}
 use Rattle.schedule_text.specs.Schedule.{Schedule}
 use Rattle.proc_replay.specs.Replaying.{Replaying}
-use Rattle.group_state.specs.Place.{events}
+use Rattle.group_state.specs.Place.{events_of_replays}
 
 -- the datagram that the event took, where it took one, comes from outside, with its tag in front
 abbrev pub datagram_items : ℕ → Entry → List Item
@@ -49,4 +49,4 @@ schedule_of_events lines es = record { processes = lines; items = flat_map (λ e
 
 -- the schedule of all accepted events of a whole group
 abbrev pub back : List ProcessLine → List Replaying → Schedule
-back lines start = schedule_of_events lines (events start)
+back lines start = schedule_of_events lines (events_of_replays start)

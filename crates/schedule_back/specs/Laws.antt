@@ -1,9 +1,9 @@
 -- The converse of a recording: the schedule that is made of the logs of a group records to these logs.
 use Rattle.std.specs.Prelude.{◌≡◌, ◌≢◌, ◌≤◌, ℕ, false, List, [], length, map, take, All, AllPairs, slice_get, Some, None, Ok}
 use Rattle.call_log.specs.declared.version.Version.TheVariants.{Two}
-use Rattle.call_log.specs.Log.{entries_of, rest_of, rewritten}
+use Rattle.call_log.specs.Log.{entries_of, rest_of_log, rewritten_log}
 use Rattle.group_record.specs.Answer.{group_of}
-use Rattle.group_record.specs.Run.{GroupStart, Progress, entries, head_of_log, log_of, run, size, world_around}
+use Rattle.group_record.specs.Run.{GroupStart, RunProgress, entries_of_steps, head_of_log, log_of, run, processes_in_group, world_around}
 use Rattle.guest_process.specs.Live.{Env}
 use Rattle.proc_replay.specs.AtHead.{IsAtHead}
 use Rattle.proc_replay.specs.Replaying.{Replaying}
@@ -11,7 +11,7 @@ use Rattle.schedule_text.specs.Limits.{most_schedule}
 use Rattle.schedule_text.specs.Schedule.{IsSchedule}
 use Rattle.schedule_text.specs.Text.{text_of}
 use Rattle.schedule_text.specs.declared.process.ProcessLine.{ProcessLine}
-use Rattle.group_state.specs.Place.{AreParts, PartsFit, events, group_count, node_names}
+use Rattle.group_state.specs.Place.{AreParts, PartsFit, events_of_replays, group_count, node_names}
 use Rattle.schedule_back.specs.Back.{back, schedule_of_events}
 use Rattle.schedule_back.specs.Outcome.{text_or_refusal}
 use Rattle.schedule_back.specs.Seen.{BringBytes}
@@ -31,12 +31,12 @@ pub record IsWholeGroup (lines : List ProcessLine) (start : List Replaying) : Ty
 abbrev pub back_group : List ProcessLine → List Replaying → GroupStart
 back_group lines start = group_of (back lines start) (map (λ r. r.state) start)
 
-abbrev pub back_run : List ProcessLine → List Replaying → Progress
+abbrev pub back_run : List ProcessLine → List Replaying → RunProgress
 back_run lines start = run (back_group lines start) (back lines start).items
 
 -- the run of the items of the first k events
-abbrev pub front_run : List ProcessLine → List Replaying → ℕ → Progress
-front_run lines start k = run (back_group lines start) (schedule_of_events lines (take k (events start))).items
+abbrev pub front_run : List ProcessLine → List Replaying → ℕ → RunProgress
+front_run lines start k = run (back_group lines start) (schedule_of_events lines (take k (events_of_replays start))).items
 
 -- nothing waits around a process, no datagram, no random bytes and no signal, and it was not killed
 pub record NothingWaits (env : Env) : Type 0 where
@@ -54,14 +54,14 @@ pub record RecordsBack (lines : List ProcessLine) (start : List Replaying) (text
   pub formed : IsSchedule (back lines start)
   pub idle : (back_run lines start).idle ≡ 0
   pub room : (back_run lines start).full ≡ None
-  pub between : (k p : ℕ) → NothingWaits (world_around (size (back_group lines start)) (front_run lines start k).steps p)
-  pub same : (p : ℕ) (r : Replaying) → slice_get start p ≡ Some r → entries (back_run lines start).steps p ≡ entries_of r.left
+  pub between : (k p : ℕ) → NothingWaits (world_around (processes_in_group (back_group lines start)) (front_run lines start k).steps p)
+  pub same : (p : ℕ) (r : Replaying) → slice_get start p ≡ Some r → entries_of_steps (back_run lines start).steps p ≡ entries_of r.left
   pub heads : (p : ℕ) (r : Replaying) → slice_get start p ≡ Some r → head_of_log (back_group lines start) p ≡ record r.head { version = Two }
-  pub rest : (p : ℕ) (r : Replaying) → slice_get start p ≡ Some r → rest_of r.left ≡ []
+  pub rest : (p : ℕ) (r : Replaying) → slice_get start p ≡ Some r → rest_of_log r.left ≡ []
   pub logs : (p : ℕ) (r : Replaying) → slice_get start p ≡ Some r
-      → log_of (back_group lines start) (back_run lines start).steps p ≡ rewritten r.head (entries_of r.left)
+      → log_of (back_group lines start) (back_run lines start).steps p ≡ rewritten_log r.head (entries_of r.left)
 
 -- this holds wherever such a schedule has a text
 abbrev pub Converse : Type 0
-Converse = (lines : List ProcessLine) (start : List Replaying) (text : List ℕ) → IsWholeGroup lines start → BringBytes (events start)
+Converse = (lines : List ProcessLine) (start : List Replaying) (text : List ℕ) → IsWholeGroup lines start → BringBytes (events_of_replays start)
     → text_or_refusal lines start ≡ Ok text → RecordsBack lines start text

@@ -7,7 +7,7 @@ use Rattle.schedule_text.specs.Schedule.{is_module_name}
 use Rattle.schedule_text.specs.Text.{text_of}
 use Rattle.schedule_text.specs.declared.process.ProcessLine.{ProcessLine}
 use Rattle.proc_replay.specs.Replaying.{Replaying}
-use Rattle.group_state.specs.Place.{events}
+use Rattle.group_state.specs.Place.{events_of_replays}
 use Rattle.group_state.specs.Report.{verdict_on}
 use Rattle.schedule_back.specs.Back.{back}
 
@@ -44,4 +44,4 @@ text_within text = if nat_le (length text) most_schedule then Ok text else Err T
 abbrev pub text_or_refusal : List ProcessLine → List Replaying → Result (List ℕ) BackRefusal
 text_or_refusal lines start =
     refuse_where NotWhole (first_not_whole start) (refuse_where BadModuleName (first_bad_name lines)
-    (if nat_le (length (events start)) most_runs then text_within (text_of (back lines start)) else Err TooManyEvents))
+    (if nat_le (length (events_of_replays start)) most_runs then text_within (text_of (back lines start)) else Err TooManyEvents))

@@ -1,6 +1,6 @@
 // The schedule of the logs of a group.
 ghost use Rattle.std.specs.Prelude.{◌≡◌, IfOk, MatchResult, Ok, length};
-ghost use Rattle.group_state.specs.Place.{AreParts, events};
+ghost use Rattle.group_state.specs.Place.{AreParts, events_of_replays};
 ghost use Rattle.schedule_back.specs.Outcome.{first_bad_name, first_not_whole, is_whole, text_or_refusal};
 ghost use Rattle.schedule_back.specs.Seen.{BringBytes, IsBackError};
 
@@ -25,7 +25,7 @@ fn is_whole(verdict: Verdict) -> bool
 
 // The first log that is not whole, of a group at its end.
 fn first_not_whole(group: &Group<'_, '_>) -> Option<u32>
-    requires { group.now.at ≡ length (events group.now.start) }
+    requires { group.now.at ≡ length (events_of_replays group.now.start) }
     ensures { result ≡ first_not_whole group.now.start }
 {
     for node in 0..group.nodes() {
@@ -59,7 +59,7 @@ pub fn schedule_back(
     requires lines { length lines.now ≡ length parts.items }
     ensures answer { MatchResult result (λ text. text_or_refusal lines.now parts.entry.items ≡ Ok text)
         (IsBackError (text_or_refusal lines.now parts.entry.items)) }
-    ensures bytes { IfOk result (λ _. BringBytes (events parts.entry.items)) }
+    ensures bytes { IfOk result (λ _. BringBytes (events_of_replays parts.entry.items)) }
 {
     let draft = begin(alloc, lines)?;
     let group = Group::begin(alloc, parts)?;

@@ -4,7 +4,7 @@ ghost use Rattle.fri_bytes.specs.Laws.{AreBytes};
 ghost use Rattle.lib_calls.specs.declared.entry.Entry.{Entry as EntryOf};
 ghost use Rattle.group_order.specs.Order.{NodeEvent};
 ghost use Rattle.group_state.specs.Moves.{event_of};
-ghost use Rattle.group_state.specs.Place.{events};
+ghost use Rattle.group_state.specs.Place.{events_of_replays};
 ghost use Rattle.schedule_text.specs.Limits.{most_schedule};
 ghost use Rattle.schedule_text.specs.declared.process.ProcessLine.{ProcessLine as LineOf};
 ghost use Rattle.schedule_back.specs.Seen.{BringBytes, IsDraft};
@@ -64,10 +64,10 @@ pub(crate) fn walk<'m, 'a>(
 ) -> Result<(Group<'m, 'a>, Option<Text>), AllocError>
     requires { group.at ≡ 0 }
     ensures start { IfOk result (λ walked. walked.0.start ≡ group.entry.start) }
-    ensures end { IfOk result (λ walked. walked.0.at ≡ length (events group.entry.start)) }
+    ensures end { IfOk result (λ walked. walked.0.at ≡ length (events_of_replays group.entry.start)) }
     ensures draft { IfOk result (λ walked. (lines : List LineOf) → IsDraft lines [] draft
-        → IsDraft lines (events group.entry.start) walked.1) }
-    ensures bytes { IfOk result (λ _. BringBytes (events group.entry.start)) }
+        → IsDraft lines (events_of_replays group.entry.start) walked.1) }
+    ensures bytes { IfOk result (λ _. BringBytes (events_of_replays group.entry.start)) }
 {
     let mut here = group;
     let mut longer = draft;

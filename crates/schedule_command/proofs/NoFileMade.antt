@@ -7,13 +7,13 @@ use Rattle.command_run.specs.declared.refusal.WorkText.{WorkText}
 use Rattle.command_run.specs.declared.refusal.WorkText.TheVariants as answered
 use Rattle.command_run.specs.declared.refusal.StopCause.{StopCause}
 use Rattle.command_run.specs.declared.refusal.StopCause.TheVariants as refusal
-use Rattle.command_run.specs.Call.{CountsFaults, DivergesOnlyIf, KeepsFolder, MakesWorkFiles, Raises, StopsAs, TellsOutcome}
+use Rattle.command_run.specs.Call.{CountsFaults, DivergesOnlyIf, KeepsFolder, MakesWorkFiles, RaisesCount, StopsAsCause, TellsOutcome}
 use Rattle.command_run.specs.Outcome.{CommandOutcome, CommandStop, and_then, writes_of}
-use Rattle.command_run.specs.OutcomeLaws.{follows, outcome_when_told, same_Ok, stops_make, stops_tell}
-use Rattle.command_run.specs.Run.{Performed, expectation, file_state}
+use Rattle.command_run.specs.OutcomeLaws.{result_follows, outcome_when_told, same_Ok_value, stops_make_files, stops_tell_outcome}
+use Rattle.command_run.specs.Run.{PerformedCommand, expectation, file_state}
 use Rattle.log_pairs.specs.declared.pairs.Loaded.{Loaded as LoadedFiles}
 use Rattle.log_pairs.specs.Pairs.{Loaded, NoneOpened, Pair, WasOpened, loaded_pairs, replays_of, replays_of_pairs, sort_replays}
-use Rattle.log_pairs.specs.Seen.{AreLoaded, WereLoaded}
+use Rattle.log_pairs.specs.Seen.{AreLoadedPairs, WereLoaded}
 use Rattle.schedule_command.specs.Schedule.{prints_text, schedule_outcome, unless_incomplete}
 use Rattle.schedule_command.specs.Seen.{IsMade}
 
@@ -31,8 +31,8 @@ pub opened : (folder : Folder) (pairs : List Pair) (ls : List Loaded) (start : L
 opened folder pairs ls start loaded is =
     let after : and_then (replays_of ls) (λ rs. Ok (sort_replays [] rs)) ≡ Ok start =
     ap (λ (r : Result (List Loaded) CommandStop). and_then r (λ ls. and_then (replays_of ls) (λ rs. Ok (sort_replays [] rs)))) (sym loaded) ∙ is in
-    let f = follows (replays_of ls) (λ rs. Ok (sort_replays [] rs)) start after in
-    let sorted : sort_replays [] f.given ≡ start = same_Ok (Ok (sort_replays [] f.given)) (sort_replays [] f.given) start refl f.comes in
+    let f = result_follows (replays_of ls) (λ rs. Ok (sort_replays [] rs)) start after in
+    let sorted : sort_replays [] f.given ≡ start = same_Ok_value (Ok (sort_replays [] f.given)) (sort_replays [] f.given) start refl f.comes in
     record {
       rs = f.given;
       loaded = loaded;
@@ -63,7 +63,7 @@ stop_too pairs (Ok ls) stop is = by_replays (replays_of ls) is where
   by_replays (Err s) is = same_stop s stop is
 
 -- pairs that stop a replay stop the schedule
-pub stops_too : (folder : Folder) (pairs : List Pair) (e : StopCause) → StopsAs (replays_of_pairs folder pairs) e → StopsAs (schedule_outcome pairs folder) e
+pub stops_too : (folder : Folder) (pairs : List Pair) (e : StopCause) → StopsAsCause (replays_of_pairs folder pairs) e → StopsAsCause (schedule_outcome pairs folder) e
 stops_too folder pairs (refusal.Refused file why) is = stop_too pairs (loaded_pairs folder [] pairs) _ is
 stops_too folder pairs (refusal.Absent file) is = stop_too pairs (loaded_pairs folder [] pairs) _ is
 stops_too folder pairs refusal.ReadFault is = tt
@@ -76,18 +76,18 @@ stops_too folder pairs refusal.NoMemory is = tt
 abbrev pub Ends : List Pair → Folder → Result WorkText StopCause → Type 0
 Ends pairs folder (Ok (answered.Done text)) = schedule_outcome pairs folder ≡ Ok (prints_text text)
 Ends pairs folder (Ok (answered.Diverged text)) = ⊥
-Ends pairs folder (Err e) = StopsAs (schedule_outcome pairs folder) e
+Ends pairs folder (Err e) = StopsAsCause (schedule_outcome pairs folder) e
 
 tells : (pairs : List Pair) (folder : Folder) (ended : Result WorkText StopCause) → Ends pairs folder ended → TellsOutcome (schedule_outcome pairs folder) ended
 tells pairs folder (Ok (answered.Done text)) is = (prints_text text, is, refl, refl)
 tells pairs folder (Ok (answered.Diverged text)) is = absurd is
-tells pairs folder (Err e) is = stops_tell (schedule_outcome pairs folder) e is
+tells pairs folder (Err e) is = stops_tell_outcome (schedule_outcome pairs folder) e is
 
 makes : (pairs : List Pair) (folder : Folder) (before after : Option Folder) (ended : Result WorkText StopCause) → Ends pairs folder ended → after ≡ before → MakesWorkFiles ended (writes_of (schedule_outcome pairs folder)) before after
 makes pairs folder before after (Ok (answered.Done text)) is same =
     subst (λ (o : CommandOutcome). MakesWorkFiles (Ok (answered.Done text)) (writes_of o) before after) (sym is) same
 makes pairs folder before after (Ok (answered.Diverged text)) is same = absurd is
-makes pairs folder before after (Err e) is same = stops_make (schedule_outcome pairs folder) e before after is same
+makes pairs folder before after (Err e) is same = stops_make_files (schedule_outcome pairs folder) e before after is same
 
 keeps : (before after : Option Folder) (ended : Result WorkText StopCause) → after ≡ before → KeepsFolder ended before after
 keeps before after (Err (refusal.Absent file)) same = same
@@ -98,8 +98,8 @@ keeps before after (Err refusal.WriteFault) same = tt
 keeps before after (Err refusal.NoMemory) same = tt
 
 pub performed : (pairs : List Pair) (told after : Option Folder) (counts counts_after : Counts) (ended : Result WorkText StopCause) → WhenTold told (λ folder. Ends pairs folder ended) → after ≡ told
-    → DivergesOnlyIf false ended → CountsFaults counts counts_after ended → IfErr ended (Raises counts counts_after)
-    → Performed (expectation (option_map (schedule_outcome pairs) told) (λ folder. []) false) (file_state told counts) (file_state after counts_after) ended
+    → DivergesOnlyIf false ended → CountsFaults counts counts_after ended → IfErr ended (RaisesCount counts counts_after)
+    → PerformedCommand (expectation (option_map (schedule_outcome pairs) told) (λ folder. []) false) (file_state told counts) (file_state after counts_after) ended
 performed pairs told after counts counts_after ended ends same done counted cause = record {
   tells = λ o is. let h = outcome_when_told (schedule_outcome pairs) told o is in subst (λ (o : CommandOutcome). TellsOutcome o ended) (sym h.2) (tells pairs h.0 ended (ends h.0 h.1));
   makes = λ o is. let h = outcome_when_told (schedule_outcome pairs) told o is in subst (λ (o : CommandOutcome). MakesWorkFiles ended (writes_of o) told after) (sym h.2) (makes pairs h.0 told after ended (ends h.0 h.1) same);
@@ -116,20 +116,20 @@ pub not_read : (pairs : List Pair) (told : Option Folder) (e : StopCause) → No
 not_read pairs told e none folder is = stops_too folder pairs e (none folder is)
 
 made_ends : (pairs : List Pair) (folder : Folder) (ls : List Loaded) (start : List Replaying) (ended : Result WorkText StopCause) → schedule_outcome pairs folder ≡ unless_incomplete pairs ls start
-    → MatchResult ended (IsMade pairs ls start) (StopsAs (unless_incomplete pairs ls start)) → Ends pairs folder ended
+    → MatchResult ended (IsMade pairs ls start) (StopsAsCause (unless_incomplete pairs ls start)) → Ends pairs folder ended
 made_ends pairs folder ls start (Ok (answered.Done text)) same is = same ∙ is
 made_ends pairs folder ls start (Ok (answered.Diverged text)) same is = is
-made_ends pairs folder ls start (Err e) same is = subst (λ (o : CommandOutcome). StopsAs o e) (sym same) is
+made_ends pairs folder ls start (Err e) same is = subst (λ (o : CommandOutcome). StopsAsCause o e) (sym same) is
 
 pub was_made : (pairs : List Pair) (told : Option Folder) (all : List LoadedFiles) (start : List Replaying) (ended : Result WorkText StopCause) → WereLoaded pairs told all → WasOpened pairs told start
-    → ((ls : List Loaded) → AreLoaded all ls → MatchResult ended (IsMade pairs ls start) (StopsAs (unless_incomplete pairs ls start))) → WhenTold told (λ folder. Ends pairs folder ended)
+    → ((ls : List Loaded) → AreLoadedPairs all ls → MatchResult ended (IsMade pairs ls start) (StopsAsCause (unless_incomplete pairs ls start))) → WhenTold told (λ folder. Ends pairs folder ended)
 was_made pairs told all start ended loaded begun made folder is =
     let l = loaded folder is in
     let o = opened folder pairs l.0 start l.1.0 (begun folder is) in
     made_ends pairs folder l.0 start ended o.outcome (made l.0 l.1.1)
 
-pub not_diverged : (pairs : List Pair) (all : List LoadedFiles) (start : List Replaying) (ended : Result WorkText StopCause) → (ls : List Loaded) → AreLoaded all ls
-    → MatchResult ended (IsMade pairs ls start) (StopsAs (unless_incomplete pairs ls start)) → DivergesOnlyIf false ended
+pub not_diverged : (pairs : List Pair) (all : List LoadedFiles) (start : List Replaying) (ended : Result WorkText StopCause) → (ls : List Loaded) → AreLoadedPairs all ls
+    → MatchResult ended (IsMade pairs ls start) (StopsAsCause (unless_incomplete pairs ls start)) → DivergesOnlyIf false ended
 not_diverged pairs all start (Ok (answered.Done text)) ls are is = tt
 not_diverged pairs all start (Ok (answered.Diverged text)) ls are is = absurd is
 not_diverged pairs all start (Err e) ls are is = tt

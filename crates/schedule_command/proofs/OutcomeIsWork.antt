@@ -13,12 +13,12 @@ use Rattle.schedule_text.specs.Text.{text_of}
 use Rattle.schedule_text.specs.declared.process.ProcessLine.{ProcessLine}
 use Rattle.guest_process.specs.declared.verdict.Verdict.{Verdict}
 use Rattle.guest_process.specs.declared.verdict.Verdict.TheVariants.{Whole}
-use Rattle.group_state.specs.Place.{events}
+use Rattle.group_state.specs.Place.{events_of_replays}
 use Rattle.group_state.specs.Report.{verdict_on}
 use Rattle.schedule_back.specs.Back.{back}
 use Rattle.schedule_back.specs.Outcome.{BadModuleName, NotWhole, TooLong, TooManyEvents, first_bad_name, first_not_whole, is_whole, refuse_where, text_or_refusal, text_within}
 use Rattle.command_run.specs.Outcome.{and_then, refuses_at_once}
-use Rattle.command_run.specs.OutcomeLaws.{follows}
+use Rattle.command_run.specs.OutcomeLaws.{result_follows}
 use Rattle.command_run.specs.declared.refusal.Reason.TheVariants as reason
 use Rattle.log_pairs.specs.Laws.{OpensGroups}
 use Rattle.log_pairs.specs.Pairs.{Loaded, Pair, loaded_pairs, replays_of, sort_replays}
@@ -56,21 +56,21 @@ named folder pairs ls apart names (r ∷ rs) ofs =
 
 -- ---- the text
 
-text_is : (lines : List ProcessLine) (start : List Replaying) → first_not_whole start ≡ None → first_bad_name lines ≡ None → length (events start) ≤ most_runs → length (text_of (back lines start)) ≤ most_schedule
+text_is : (lines : List ProcessLine) (start : List Replaying) → first_not_whole start ≡ None → first_bad_name lines ≡ None → length (events_of_replays start) ≤ most_runs → length (text_of (back lines start)) ≤ most_schedule
     → text_or_refusal lines start ≡ Ok (text_of (back lines start))
 text_is lines start whole names few short =
     let text = text_of (back lines start) in
-    let counted = cond (nat_le (length (events start)) most_runs) (text_within text) (Err TooManyEvents) in
+    let counted = cond (nat_le (length (events_of_replays start)) most_runs) (text_within text) (Err TooManyEvents) in
     ap (λ o. refuse_where NotWhole o (refuse_where BadModuleName (first_bad_name lines) counted)) whole
     ∙ ap (λ o. refuse_where BadModuleName o counted) names
-    ∙ ap (λ b. cond b (text_within text) (Err TooManyEvents)) (le-leb (length (events start)) most_runs few)
+    ∙ ap (λ b. cond b (text_within text) (Err TooManyEvents)) (le-leb (length (events_of_replays start)) most_runs few)
     ∙ ap (λ b. cond b (Ok text) (Err TooLong)) (le-leb (length text) most_schedule short)
 
 pub schedules_work : OpensGroups → SchedulesWork
 schedules_work opens pairs folder h =
     let open_group = opens folder pairs h.group in
     let start = open_group.0 in
-    let ls_of = follows (loaded_pairs folder [] pairs) (λ ls. and_then (replays_of ls) (λ rs. Ok (sort_replays [] rs))) start open_group.1 in
+    let ls_of = result_follows (loaded_pairs folder [] pairs) (λ ls. and_then (replays_of ls) (λ rs. Ok (sort_replays [] rs))) start open_group.1 in
     let ls = ls_of.given in
     let o = opened folder pairs ls start ls_of.is_given open_group.1 in
     let are = h.whole ls start ls_of.is_given open_group.1 in

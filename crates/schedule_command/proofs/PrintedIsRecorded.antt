@@ -9,7 +9,7 @@ use Rattle.wasm_decode.specs.Sections.{module_of_bytes}
 use Rattle.guest_process.specs.Start.{start}
 use Rattle.guest_process.specs.State.{State}
 use Rattle.group_record.specs.Answer.{first_states, first_states_from, with_first_state}
-use Rattle.group_record.specs.Logs.{files_from, log_name, logs}
+use Rattle.group_record.specs.Logs.{files_from, log_name, logs_of_steps}
 use Rattle.proc_replay.specs.Replaying.{Replaying}
 use Rattle.schedule_text.specs.Laws.{TextIsRead}
 use Rattle.schedule_text.specs.Limits.{most_schedule}
@@ -69,7 +69,7 @@ gathered later count p (line ∷ lines) [] all = absurd all
 pub record Recorded (lines : List ProcessLine) (start : List Replaying) (later : Folder) (schedule_name : List ℕ) : Type 0 where
   pub work : CommandWork
   pub is : record_outcome false schedule_name later ≡ Ok work
-  pub writes : work.writes ≡ logs (back_group lines start) (back_run lines start).steps
+  pub writes : work.writes ≡ logs_of_steps (back_group lines start) (back_run lines start).steps
 
 pub recorded : ReadsModules → TextIsRead → (lines : List ProcessLine) (start : List Replaying) (text : List ℕ) (later : Folder) (schedule_name : List ℕ)
     → RecordsBack lines start text → get later schedule_name ≡ Some text → AllBeginAs later (length lines) 0 lines start → Recorded lines start later schedule_name
@@ -87,7 +87,7 @@ recorded reads read_back lines start text later name back_is held begin =
           ∙ ap (λ (r : Result (List Module) CommandStop). and_then r (λ modules. group_outcome false name s (first_states s modules))) g.found
           ∙ ap (group_outcome false name s) g.states
           ∙ ap (outcome_by_room false name (back_group lines start) (back_run lines start)) back_is.room;
-      writes = append-nil (logs (back_group lines start) (back_run lines start).steps);
+      writes = append-nil (logs_of_steps (back_group lines start) (back_run lines start).steps);
     }
 
 -- ---- the files

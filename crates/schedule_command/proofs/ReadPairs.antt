@@ -12,9 +12,9 @@ use Rattle.proc_replay.specs.Replaying.{Replaying}
 use Rattle.command_run.specs.declared.refusal.Reason.{Reason}
 use Rattle.command_run.specs.declared.refusal.Reason.TheVariants as reason
 use Rattle.command_run.specs.Inputs.{first_state_of, module_in, state_or_bad_segment}
-use Rattle.command_run.specs.OutcomeLaws.{follows, same_Ok}
+use Rattle.command_run.specs.OutcomeLaws.{result_follows, same_Ok_value}
 use Rattle.log_files.specs.Logs.{log_in}
-use Rattle.log_pairs.specs.Pairs.{Loaded, Pair, clash, has_name, has_process, is_other_group, loaded_pair, loaded_pairs, replay_of_log, replays_of, unless_clash}
+use Rattle.log_pairs.specs.Pairs.{Loaded, Pair, clash_of_logs, has_name, has_process, is_other_group, loaded_pair, loaded_pairs, replay_of_log, replays_of, unless_clash}
 
 -- ---- one pair
 
@@ -65,7 +65,7 @@ differ_from (e ∷ earlier) l process name =
 -- ---- all pairs
 
 not_clashing : (name : List ℕ) (l given : Loaded) (why : Option Reason) → unless_clash name l why ≡ Ok given → (why ≡ None) × (given ≡ l)
-not_clashing name l given None is = (refl, same_Ok (Ok l) given l is refl)
+not_clashing name l given None is = (refl, same_Ok_value (Ok l) given l is refl)
 not_clashing name l given (Some why) is = absurd (cc)
 
 pub record ReadPair (folder : Folder) (earlier : List Loaded) (pair : Pair) (l : Loaded) : Type 0 where
@@ -74,10 +74,10 @@ pub record ReadPair (folder : Folder) (earlier : List Loaded) (pair : Pair) (l :
 
 read_pair : (folder : Folder) (earlier : List Loaded) (pair : Pair) (l : Loaded) → loaded_pair folder earlier pair ≡ Ok l → ReadPair folder earlier pair l
 read_pair folder earlier pair l is =
-    let m = follows (module_in folder pair.module_name) _ l is in
-    let log = follows (log_in folder pair.log_name) _ l m.comes in
+    let m = result_follows (module_in folder pair.module_name) _ l is in
+    let log = result_follows (log_in folder pair.log_name) _ l m.comes in
     let made : Loaded = record { module_name = pair.module_name; «module» = m.given; head = log.given.0; left = log.given.1 } in
-    let none = not_clashing pair.log_name made l (clash earlier log.given.0) log.comes in
+    let none = not_clashing pair.log_name made l (clash_of_logs earlier log.given.0) log.comes in
     let free = no_reason (is_other_group earlier log.given.0.count) (has_process earlier log.given.0.process) (has_name earlier log.given.0.name) none.0 in
     subst (ReadPair folder earlier pair) (sym none.1) (record {
       read = record { name = refl; «module» = m.is_given; log = log.is_given };
@@ -105,12 +105,12 @@ from_more earlier l (m ∷ new) all =
     ((here.0, rest.0), (here.1.0, rest.1))
 
 pub all_read : (folder : Folder) (earlier : List Loaded) (pairs : List Pair) (all : List Loaded) → loaded_pairs folder earlier pairs ≡ Ok all → Reads folder earlier pairs all
-all_read folder earlier [] all is = record { new = []; split = same_Ok (Ok earlier) all earlier is refl ∙ sym (no_more earlier); read = tt; from_earlier = tt; apart = tt } where
+all_read folder earlier [] all is = record { new = []; split = same_Ok_value (Ok earlier) all earlier is refl ∙ sym (no_more earlier); read = tt; from_earlier = tt; apart = tt } where
   no_more : (xs : List Loaded) → xs ++ [] ≡ xs
   no_more [] = refl
   no_more (x ∷ xs) = ap (λ l. x ∷ l) (no_more xs)
 all_read folder earlier (pair ∷ pairs) all is =
-    let f = follows (loaded_pair folder earlier pair) (λ l. loaded_pairs folder (earlier ++ l ∷ []) pairs) all is in
+    let f = result_follows (loaded_pair folder earlier pair) (λ l. loaded_pairs folder (earlier ++ l ∷ []) pairs) all is in
     let l = f.given in
     let one = read_pair folder earlier pair l f.is_given in
     let rest = all_read folder (earlier ++ l ∷ []) pairs all f.comes in
@@ -139,23 +139,23 @@ AllBegin (l ∷ ls) [] = ⊥
 
 begun_state : (name : List ℕ) (o : Option State) (S : State) → state_or_bad_segment name o ≡ Ok S → o ≡ Some S
 begun_state name None S is = absurd (cc)
-begun_state name (Some T) S is = ap Some (same_Ok (Ok T) T S refl is)
+begun_state name (Some T) S is = ap Some (same_Ok_value (Ok T) T S refl is)
 
 begins : (l : Loaded) (r : Replaying) → replay_of_log l ≡ Ok r → Begins l r
 begins l r is =
-    let f = follows (first_state_of l.module_name l.«module» l.head.process l.head.count) _ r is in
+    let f = result_follows (first_state_of l.module_name l.«module» l.head.process l.head.count) _ r is in
     let made : Replaying = record { head = l.head; state = f.given; left = l.left } in
-    subst (Begins l) (same_Ok (Ok made) made r refl f.comes) (record { head = refl; left = refl; state = begun_state l.module_name (start l.«module» l.head.process l.head.count) f.given f.is_given })
+    subst (Begins l) (same_Ok_value (Ok made) made r refl f.comes) (record { head = refl; left = refl; state = begun_state l.module_name (start l.«module» l.head.process l.head.count) f.given f.is_given })
 
 pub all_begin : (ls : List Loaded) (rs : List Replaying) → replays_of ls ≡ Ok rs → AllBegin ls rs
 all_begin [] [] is = tt
-all_begin [] (r ∷ rs) is = absurd (wrong (same_Ok (Ok []) [] (r ∷ rs) refl is)) where
+all_begin [] (r ∷ rs) is = absurd (wrong (same_Ok_value (Ok []) [] (r ∷ rs) refl is)) where
   wrong : (let none : List Replaying = [] in none ≡ r ∷ rs) → ⊥
   wrong same = cc
 all_begin (l ∷ ls) rs is =
-    let one = follows (replay_of_log l) _ rs is in
-    let rest = follows (replays_of ls) _ rs one.comes in
-    subst (AllBegin (l ∷ ls)) (same_Ok (Ok (one.given ∷ rest.given)) (one.given ∷ rest.given) rs refl rest.comes) (begins l one.given one.is_given, all_begin ls rest.given rest.is_given)
+    let one = result_follows (replay_of_log l) _ rs is in
+    let rest = result_follows (replays_of ls) _ rs one.comes in
+    subst (AllBegin (l ∷ ls)) (same_Ok_value (Ok (one.given ∷ rest.given)) (one.given ∷ rest.given) rs refl rest.comes) (begins l one.given one.is_given, all_begin ls rest.given rest.is_given)
 
 -- ---- place by place
 

@@ -11,7 +11,7 @@ use Rattle.call_log.specs.declared.version.Version.TheVariants.{Two}
 use Rattle.call_log.specs.Entry.{encodings}
 use Rattle.call_log.specs.Head.{Head, head_bytes}
 use Rattle.call_log.specs.Laws.{ExactLogs, RewrittenIsRead}
-use Rattle.call_log.specs.Log.{Unread, entries_of, rest_of, rewritten}
+use Rattle.call_log.specs.Log.{Unread, entries_of, rest_of_log, rewritten_log}
 use Rattle.guest_process.specs.OneEvent.{IsStarted}
 use Rattle.guest_process.specs.Start.{start as start_of}
 use Rattle.guest_process.specs.State.{State}
@@ -21,7 +21,7 @@ use Rattle.proc_replay.specs.AtHead.{IsAtHead}
 use Rattle.proc_replay.specs.Replaying.{Replaying}
 use Rattle.schedule_text.specs.Laws.{TextIsRead}
 use Rattle.schedule_text.specs.declared.process.ProcessLine.{ProcessLine}
-use Rattle.group_state.specs.Place.{AreParts, events}
+use Rattle.group_state.specs.Place.{AreParts, events_of_replays}
 use Rattle.schedule_back.specs.Laws.{Converse, RecordsBack as BackRecords, back_group, back_run}
 use Rattle.schedule_back.specs.Outcome.{text_or_refusal}
 use Rattle.schedule_back.specs.Seen.{BringBytes}
@@ -39,14 +39,14 @@ use Rattle.schedule_command.proofs.SortedReplays.{length_sorted, sort_keeps, sor
 -- ---- a log that is written again
 
 -- a whole log of version 2 is written again as it is
-same_bytes : ExactLogs → (folder : Folder) (name : List ℕ) (head : Head) (left : Unread) → LogFile folder name head left → rest_of left ≡ [] → head.version ≡ Two
-    → get folder name ≡ Some (rewritten head (entries_of left))
+same_bytes : ExactLogs → (folder : Folder) (name : List ℕ) (head : Head) (left : Unread) → LogFile folder name head left → rest_of_log left ≡ [] → head.version ≡ Two
+    → get folder name ≡ Some (rewritten_log head (entries_of left))
 same_bytes exact folder name head left file whole two =
-    let held = (exact.all left (entries_of left) (rest_of left)).1 (refl, refl) in
+    let held = (exact.all left (entries_of left) (rest_of_log left)).1 (refl, refl) in
     let version : left.version ≡ Two = ap (λ (u : Unread). u.version) file.behind ∙ two in
     let last : left.last ≡ 0 = ap (λ (u : Unread). u.last) file.behind in
     let bytes : left.bytes ≡ encodings Two 0 (entries_of left) =
-    held.spelled ∙ ap (λ v. encodings v left.last (entries_of left) ++ rest_of left) version ∙ ap (λ n. encodings Two n (entries_of left) ++ rest_of left) last
+    held.spelled ∙ ap (λ v. encodings v left.last (entries_of left) ++ rest_of_log left) version ∙ ap (λ n. encodings Two n (entries_of left) ++ rest_of_log left) last
     ∙ ap (λ rest. encodings Two 0 (entries_of left) ++ rest) whole ∙ append-nil (encodings Two 0 (entries_of left)) in
     let heads : head_bytes head ≡ head_bytes (record head { version = Two }) = ap (λ (v : Version). head_bytes (record head { version = v })) two in
     file.held ∙ ap Some (file.spelled ∙ ap (λ b. head_bytes head ++ b) bytes ∙ ap (λ h. h ++ encodings Two 0 (entries_of left)) heads)
@@ -133,7 +133,7 @@ module _ (exact : ExactLogs) (rewritten_read : RewrittenIsRead) (reads : ReadsMo
 
   -- where the schedule has this text
   module _ (parts : AreParts (sort_replays [] rs)) (at_heads : All IsAtHead (sort_replays [] rs)) (complete : IsTrue (is_complete (sort_replays [] rs))) (text : List ℕ)
-      (text_is : text_or_refusal (lines_of_replays pairs ls (sort_replays [] rs)) (sort_replays [] rs) ≡ Ok text) (bytes : BringBytes (events (sort_replays [] rs))) where
+      (text_is : text_or_refusal (lines_of_replays pairs ls (sort_replays [] rs)) (sort_replays [] rs) ≡ Ok text) (bytes : BringBytes (events_of_replays (sort_replays [] rs))) where
     back_is : BackRecords lines start text
     back_is = converse lines start text (whole_group exact reads started folder pairs ls start found.apart found.ofs parts at_heads complete) bytes text_is
 
@@ -168,15 +168,15 @@ module _ (exact : ExactLogs) (rewritten_read : RewrittenIsRead) (reads : ReadsMo
           let has = sorted_has [] rs r.0 j r.1 in
           let name = name_at pairs ls start has.place r.0 has.is in
           let file = file_at 0 (map (λ (line : ProcessLine). line.name) lines) (log_of (back_group lines start) (back_run lines start).steps) has.place r.0.head.name name in
-          let bytes_are : log_of (back_group lines start) (back_run lines start).steps (0 + has.place) ≡ rewritten l.head (entries_of l.left) =
+          let bytes_are : log_of (back_group lines start) (back_run lines start).steps (0 + has.place) ≡ rewritten_log l.head (entries_of l.left) =
           ap (log_of (back_group lines start) (back_run lines start).steps) (from_zero has.place) ∙ back_is.logs has.place r.0 has.is
-          ∙ ap (λ (h : Head). rewritten h (entries_of r.0.left)) of.begins.head ∙ ap (λ (u : Unread). rewritten l.head (entries_of u)) of.begins.left in
+          ∙ ap (λ (h : Head). rewritten_log h (entries_of r.0.left)) of.begins.head ∙ ap (λ (u : Unread). rewritten_log l.head (entries_of u)) of.begins.left in
           let same_pair : of.pair ≡ pair = same_Some of.pair pair (sym of.pair_at ∙ at) in
           let was = ap (λ (p : Pair). log_in folder p.log_name) (sym same_pair) ∙ of.read.log in
           let log_file = log_file_of exact folder pair.log_name l.head l.left was in
-          let shaped = ((exact.all l.left (entries_of l.left) (rest_of l.left)).1 (refl, refl)).shaped in
+          let shaped = ((exact.all l.left (entries_of l.left) (rest_of_log l.left)).1 (refl, refl)).shaped in
           let newer = rewritten_read l.head (entries_of l.left) log_file.in_range shaped in
-          let none_left : rest_of l.left ≡ [] = ap rest_of (sym of.begins.left) ∙ back_is.rest has.place r.0 has.is in
+          let none_left : rest_of_log l.left ≡ [] = ap rest_of_log (sym of.begins.left) ∙ back_is.rest has.place r.0 has.is in
           let there = ap (λ files. slice_get files has.place) done.writes ∙ file
           ∙ ap (λ (h : Head). Some (log_name h.name, log_of (back_group lines start) (back_run lines start).steps (0 + has.place))) of.begins.head
           ∙ ap (λ (b : List ℕ). Some (log_name l.head.name, b)) bytes_are in
@@ -184,8 +184,8 @@ module _ (exact : ExactLogs) (rewritten_read : RewrittenIsRead) (reads : ReadsMo
             head = l.head;
             left = l.left;
             was = was;
-            bytes = rewritten l.head (entries_of l.left);
-            written = contains done.work.writes has.place (log_name l.head.name, rewritten l.head (entries_of l.left)) there;
+            bytes = rewritten_log l.head (entries_of l.left);
+            written = contains done.work.writes has.place (log_name l.head.name, rewritten_log l.head (entries_of l.left)) there;
             newer = newer.left;
             found = newer.found;
             entries = newer.entries;

@@ -18,13 +18,13 @@ use Rattle.guest_process.specs.Fits.{StateFits}
 use Rattle.guest_process.specs.OneEvent.{IsStarted}
 use Rattle.guest_process.specs.Start.{start}
 use Rattle.proc_replay.specs.Replaying.{Replaying}
-use Rattle.group_state.specs.Place.{AreParts, Ascends, group_count}
+use Rattle.group_state.specs.Place.{AreParts, AscendsByProcess, group_count}
 use Rattle.schedule_text.specs.declared.process.ProcessLine.{ProcessLine}
 use Rattle.proc_replay.specs.AtHead.{IsAtHead}
 use Rattle.schedule_back.specs.Laws.{IsWholeGroup}
 use Rattle.command_run.specs.Laws.{ReadsModules}
 use Rattle.command_run.specs.Outcome.{bytes_or_stop, file_of}
-use Rattle.command_run.specs.OutcomeLaws.{follows, same_Ok}
+use Rattle.command_run.specs.OutcomeLaws.{result_follows, same_Ok_value}
 use Rattle.log_files.specs.Logs.{log_in, log_or_bad_head}
 use Rattle.log_pairs.specs.Pairs.{Loaded, Pair}
 use Rattle.log_pairs.specs.Finding.{module_file}
@@ -47,17 +47,17 @@ held_bytes name limit None bytes is = absurd (cc)
 held_bytes name limit (Some given) bytes is = by_test (nat_le (length given) limit) refl is where
   by_test : (b : Bool) → nat_le (length given) limit ≡ b → bytes_or_stop name (cond b (Held given) Over) ≡ Ok bytes → (let o : Option (List ℕ) = Some given in o ≡ Some bytes) × (length bytes ≤ limit)
   by_test true fits is =
-      let same : given ≡ bytes = same_Ok (Ok given) given bytes refl is in
+      let same : given ≡ bytes = same_Ok_value (Ok given) given bytes refl is in
       (ap Some same, subst (λ (b : List ℕ). length b ≤ limit) same (leb-true (length given) limit fits))
   by_test false fits is = absurd (cc)
 
 log_found : (name : List ℕ) (o : Option (Head × Unread)) (log : Head × Unread) → log_or_bad_head name o ≡ Ok log → o ≡ Some log
 log_found name None log is = absurd (cc)
-log_found name (Some l) log is = ap Some (same_Ok (Ok l) l log refl is)
+log_found name (Some l) log is = ap Some (same_Ok_value (Ok l) l log refl is)
 
 pub log_file_of : ExactLogs → (folder : Folder) (name : List ℕ) (head : Head) (left : Unread) → log_in folder name ≡ Ok (head, left) → LogFile folder name head left
 log_file_of exact folder name head left is =
-    let f = follows (file_of folder name most_log) (λ bytes. log_or_bad_head name (head_at bytes)) (head, left) is in
+    let f = result_follows (file_of folder name most_log) (λ bytes. log_or_bad_head name (head_at bytes)) (head, left) is in
     let held = held_bytes name most_log (get folder name) f.given f.is_given in
     let found = (exact.heads f.given head left).0 (log_found name (head_at f.given) (head, left) f.comes) in
     record { bytes = f.given; held = held.0; within = held.1; in_range = found.0; spelled = found.1.0; behind = found.1.1 }
@@ -142,7 +142,7 @@ lines_behind folder pairs ls apart r of (s ∷ rs) ofs above =
       below : r.head.process ≡ s.head.process → ⊥
       below same = omega (arith, same, above.0)
 
-lines_apart : (folder : Folder) (pairs : List Pair) (ls : List Loaded) → AllApart ls → (rs : List Replaying) → AllByRecursion (HasPair folder pairs ls) rs → Ascends rs → AllPairs Apart (lines_of_replays pairs ls rs)
+lines_apart : (folder : Folder) (pairs : List Pair) (ls : List Loaded) → AllApart ls → (rs : List Replaying) → AllByRecursion (HasPair folder pairs ls) rs → AscendsByProcess rs → AllPairs Apart (lines_of_replays pairs ls rs)
 lines_apart folder pairs ls apart [] ofs up = λ i j d below within. absurd (omega (arith, below, within))
 lines_apart folder pairs ls apart (r ∷ rs) ofs up =
     AllPairs-cons Apart (line_of_replay pairs ls r) (lines_of_replays pairs ls rs)

@@ -4,7 +4,7 @@ use Rattle.std.specs.FinMap.{get}
 use Rattle.fri_outside.specs.Outside.{Folder}
 use Rattle.call_log.specs.declared.version.Version.TheVariants.{Two}
 use Rattle.call_log.specs.Head.{Head}
-use Rattle.call_log.specs.Log.{Unread, entries_of, head_at, rest_of}
+use Rattle.call_log.specs.Log.{Unread, entries_of, head_at, rest_of_log}
 use Rattle.group_record.specs.Logs.{log_name}
 use Rattle.command_run.specs.Outcome.{CommandWork}
 use Rattle.log_files.specs.Logs.{log_in}
@@ -24,7 +24,7 @@ pub record IsRecordedAgain (folder : Folder) (writes : List (List ℕ × List �
   pub newer : Unread
   pub found : head_at bytes ≡ Some (record head { version = Two }, newer)
   pub entries : entries_of newer ≡ entries_of left
-  pub rest : rest_of newer ≡ []
+  pub rest : rest_of_log newer ≡ []
   pub same : head.version ≡ Two → get folder pair.log_name ≡ Some bytes
 
 -- the outcome of recording is work, which makes a log for each of the pairs and nothing else

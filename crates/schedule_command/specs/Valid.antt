@@ -8,7 +8,7 @@ use Rattle.schedule_text.specs.Limits.{most_runs, most_schedule}
 use Rattle.schedule_text.specs.Schedule.{is_module_name}
 use Rattle.schedule_text.specs.Text.{text_of}
 use Rattle.guest_process.specs.declared.verdict.Verdict.TheVariants.{Whole}
-use Rattle.group_state.specs.Place.{events}
+use Rattle.group_state.specs.Place.{events_of_replays}
 use Rattle.group_state.specs.Report.{verdict_on}
 use Rattle.schedule_back.specs.Back.{back}
 use Rattle.schedule_command.specs.Schedule.{is_complete, lines_of_replays}
@@ -17,7 +17,7 @@ use Rattle.schedule_command.specs.Schedule.{is_complete, lines_of_replays}
 pub record AreWholeLogs (pairs : List Pair) (ls : List Loaded) (start : List Replaying) : Type 0 where
   pub complete : IsTrue (is_complete start)
   pub whole : All (λ r. verdict_on r ≡ Whole) start
-  pub few : length (events start) ≤ most_runs
+  pub few : length (events_of_replays start) ≤ most_runs
   pub short : length (text_of (back (lines_of_replays pairs ls start) start)) ≤ most_schedule
 
 -- the pairs are modules and logs of a group; each module has a name that a schedule may have; and the logs are all of the

@@ -1,11 +1,11 @@
 // `schedule MODULE LOG ..`: prints the schedule of the logs of a group.
 ghost use Rattle.std.specs.Prelude.{◌≡◌, [], false, List, length, map, option_map, IfErr, IfOk, MatchResult, ℕ};
 ghost use Rattle.fri_outside.specs.Outside.{Counts, WhenTold};
-ghost use Rattle.command_run.specs.Call.{CountsFaults, Raises, StopsAs, reads_after, writes_after};
-ghost use Rattle.command_run.specs.Run.{Performed, expectation, file_state};
-ghost use Rattle.group_state.specs.Place.{AreParts, events};
+ghost use Rattle.command_run.specs.Call.{CountsFaults, RaisesCount, StopsAsCause, reads_after, writes_after};
+ghost use Rattle.command_run.specs.Run.{PerformedCommand, expectation, file_state};
+ghost use Rattle.group_state.specs.Place.{AreParts, events_of_replays};
 ghost use Rattle.log_pairs.specs.Pairs.{Loaded as LoadedOf};
-ghost use Rattle.log_pairs.specs.Seen.{AreLoaded, pair_of};
+ghost use Rattle.log_pairs.specs.Seen.{AreLoadedPairs, pair_of};
 ghost use Rattle.schedule_back.specs.Seen.{BringBytes};
 ghost use Rattle.schedule_command.specs.Schedule.{is_complete, lines_of_replays, schedule_outcome, unless_incomplete};
 ghost use Rattle.schedule_command.specs.Seen.{AnswerRecordsBack, IsMade};
@@ -26,7 +26,7 @@ fn lines_of<'a>(
     all: &[Loaded<'a>],
     parts: &[Replayer<'_, '_>],
 ) -> Result<Vec<ProcessLine>, AllocError>
-    ensures { IfOk result (λ lines. (ls : List LoadedOf) → AreLoaded all.now ls → lines.items ≡ lines_of_replays (map pair_of pairs.now) ls parts.now) }
+    ensures { IfOk result (λ lines. (ls : List LoadedOf) → AreLoadedPairs all.now ls → lines.items ≡ lines_of_replays (map pair_of pairs.now) ls parts.now) }
 {
     let mut lines = Vec::new(alloc);
     for part in parts {
@@ -56,12 +56,12 @@ fn make<'a>(
     all: &[Loaded<'a>],
     parts: Vec<Replayer<'_, '_>>,
 ) -> Result<WorkText, StopCause>
-    requires loaded { (ls : List LoadedOf) × AreLoaded all.now ls }
+    requires loaded { (ls : List LoadedOf) × AreLoadedPairs all.now ls }
     requires parts { AreParts parts.items }
-    ensures answer { (ls : List LoadedOf) → AreLoaded all.now ls → MatchResult result (IsMade (map pair_of pairs.now) ls parts.entry.items)
-        (StopsAs (unless_incomplete (map pair_of pairs.now) ls parts.entry.items)) }
-    ensures bytes { IfOk result (λ _. BringBytes (events parts.entry.items)) }
-    ensures cause { (old new : Counts) → IfErr result (Raises old new) }
+    ensures answer { (ls : List LoadedOf) → AreLoadedPairs all.now ls → MatchResult result (IsMade (map pair_of pairs.now) ls parts.entry.items)
+        (StopsAsCause (unless_incomplete (map pair_of pairs.now) ls parts.entry.items)) }
+    ensures bytes { IfOk result (λ _. BringBytes (events_of_replays parts.entry.items)) }
+    ensures cause { (old new : Counts) → IfErr result (RaisesCount old new) }
     ensures still { (n : ℕ) → (reads_after n result ≡ n) × (writes_after n result ≡ n) }
 {
     if !is_complete(&parts) {
@@ -96,7 +96,7 @@ pub fn schedule<'a, F: Files>(
     pairs: &[Pair<'a>],
     files: &mut F,
 ) -> Result<WorkText, StopCause>
-    ensures performed { Performed (expectation (option_map (schedule_outcome (map pair_of pairs.now)) (F.told files.old)) (λ folder. []) false)
+    ensures performed { PerformedCommand (expectation (option_map (schedule_outcome (map pair_of pairs.now)) (F.told files.old)) (λ folder. []) false)
         (file_state (F.told files.old) (F.counts files.old)) (file_state (F.told files.new) (F.counts files.new)) result }
     ensures same { F.told files.new ≡ F.told files.old }
     ensures converse { WhenTold (F.told files.old) (λ folder. IfOk result (AnswerRecordsBack (map pair_of pairs.now) folder)) }

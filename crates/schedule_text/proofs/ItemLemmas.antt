@@ -14,9 +14,9 @@ use Rattle.schedule_text.specs.declared.item.Item.{Item}
 use Rattle.schedule_text.specs.declared.item.Item.TheVariants.{Run, Deliver, Inject, Clock, Random, Signal, Kill}
 use Rattle.schedule_text.specs.Limits.{most_thread, most_datagram}
 use Rattle.schedule_text.specs.declared.process.ProcessLine.{ProcessLine}
-use Rattle.schedule_text.specs.Fields.{field_at, last_of, is_comment}
+use Rattle.schedule_text.specs.Fields.{field_at, last_field_of, is_comment}
 use Rattle.schedule_text.specs.Grammar.{IsNumber, IsSignedNumber, IsHeader, IsHex, IsProcessLine, IsRunItem, IsPair, IsItemLine}
-use Rattle.schedule_text.specs.Reading.{number_up_to, positive_of, process_number_of, times_of, is_header, process_line_of, run_item, pair_in, deliver_item, bytes_in, inject_item, clock_item, random_item, signal_item, kill_item, item_by}
+use Rattle.schedule_text.specs.Reading.{number_up_to, positive_of, process_number_of, times_of, is_header, process_line_of, run_item, pair_in, deliver_item, bytes_in, inject_item, clock_item, random_item, signal_item, kill_item, item_by_word}
 use Rattle.schedule_text.specs.Schedule.{IsInRange, IsProcess, is_module_name}
 use Rattle.schedule_text.proofs.WordLemmas.{bind_some, map_some, kept, field_takes, last_takes, number_takes, number_again, positive_takes, positive_again, hex_takes, process_takes, process_again, value_takes, value_again, times_takes, times_again}
 
@@ -101,7 +101,7 @@ unfolding pair_in
 pair_parts processes fields pair e =
     let p = bind_some (field_at fields) _ pair e in
     let process = bind_some (process_number_of processes p.0.0) _ pair p.2 in
-    let last = bind_some (last_of p.0.1) _ pair process.2 in
+    let last = bind_some (last_field_of p.0.1) _ pair process.2 in
     let same : ◌≡◌ {A = ℕ × List ℕ} (process.0, last.0) pair = (let there = last.2 in cc) in
     subst (HasPair processes fields) same (record {
       p = p.0.0;
@@ -178,7 +178,7 @@ signal_takes processes word fields item is e =
 kill_takes : (processes : ℕ) (word : List ℕ) (fields : List (List ℕ)) (item : Item) → word ≡ codes "kill" → kill_item processes fields ≡ Some item → IsItemLine (word ∷ fields) item × IsInRange processes item
 unfolding kill_item
 kill_takes processes word fields item is e =
-    let p = bind_some (last_of fields) _ item e in
+    let p = bind_some (last_field_of fields) _ item e in
     let process = bind_some (process_number_of processes p.0) _ item p.2 in
     let item_is : Kill process.0 ≡ item = (let there = process.2 in cc) in
     let written = process_takes processes p.0 process.0 process.1 in
@@ -206,8 +206,8 @@ later_takes processes word fields item e =
     ]
 
 -- what is read as an item is written so and in range
-pub item_takes : (processes : ℕ) (word : List ℕ) (fields : List (List ℕ)) (item : Item) → item_by processes word fields ≡ Some item → IsItemLine (word ∷ fields) item × IsInRange processes item
-unfolding item_by
+pub item_takes : (processes : ℕ) (word : List ℕ) (fields : List (List ℕ)) (item : Item) → item_by_word processes word fields ≡ Some item → IsItemLine (word ∷ fields) item × IsInRange processes item
+unfolding item_by_word
 item_takes processes word fields item e =
     elim (cases_Bool (bytes_eq word (codes "run"))) [
       | inl run ↦ run_takes processes word fields item (is_word word (codes "run") run) (rw run at e)
@@ -231,8 +231,8 @@ run_again processes p t rest process thread times is_process below is_thread sma
     rw (process_again processes p process is_process below, number_again most_thread t thread is_thread small, tries) refl
 
 -- a line whose first word is `run` is read as a run item
-run_line : (processes : ℕ) (word : List ℕ) (fields : List (List ℕ)) (item : Item) → word ≡ codes "run" → run_item processes fields ≡ Some item → item_by processes word fields ≡ Some item
-unfolding item_by
+run_line : (processes : ℕ) (word : List ℕ) (fields : List (List ℕ)) (item : Item) → word ≡ codes "run" → run_item processes fields ≡ Some item → item_by_word processes word fields ≡ Some item
+unfolding item_by_word
 run_line processes word fields item is e = rw is e
 
 -- the fields of P and one more, after the word of an item
@@ -262,40 +262,40 @@ unfolding bytes_in
 bytes_again processes name word fields process bytes h below = rw (pair_again processes name word fields process _ h below, h.last_is) refl
 
 -- a deliver item in range is read
-deliver_line : (processes : ℕ) (word : List ℕ) (fields : List (List ℕ)) (process number : ℕ) → WritesPair (codes "deliver") word fields process (λ n. IsNumber n number) → IsInRange processes (Deliver process number) → item_by processes word fields ≡ Some (Deliver process number)
-unfolding item_by deliver_item
+deliver_line : (processes : ℕ) (word : List ℕ) (fields : List (List ℕ)) (process number : ℕ) → WritesPair (codes "deliver") word fields process (λ n. IsNumber n number) → IsInRange processes (Deliver process number) → item_by_word processes word fields ≡ Some (Deliver process number)
+unfolding item_by_word deliver_item
 deliver_line processes word fields process number h range =
     rw (h.word_is, pair_again processes _ word fields process _ h range.0, positive_again most_datagram h.last number h.last_is range.1 range.2) refl
 
 -- an inject item in range is read
-inject_line : (processes : ℕ) (word : List ℕ) (fields : List (List ℕ)) (process : ℕ) (bytes : List ℕ) → WritesPair (codes "inject") word fields process (λ h. IsHex h bytes) → IsInRange processes (Inject process bytes) → item_by processes word fields ≡ Some (Inject process bytes)
-unfolding item_by inject_item
+inject_line : (processes : ℕ) (word : List ℕ) (fields : List (List ℕ)) (process : ℕ) (bytes : List ℕ) → WritesPair (codes "inject") word fields process (λ h. IsHex h bytes) → IsInRange processes (Inject process bytes) → item_by_word processes word fields ≡ Some (Inject process bytes)
+unfolding item_by_word inject_item
 inject_line processes word fields process bytes h range = rw (h.word_is, bytes_again processes _ word fields process bytes h range.0) refl
 
 -- a clock item in range is read
-clock_line : (processes : ℕ) (word : List ℕ) (fields : List (List ℕ)) (process : ℕ) (value : ℤ) → WritesPair (codes "clock") word fields process (λ v. IsSignedNumber v value) → IsInRange processes (Clock process value) → item_by processes word fields ≡ Some (Clock process value)
-unfolding item_by clock_item
+clock_line : (processes : ℕ) (word : List ℕ) (fields : List (List ℕ)) (process : ℕ) (value : ℤ) → WritesPair (codes "clock") word fields process (λ v. IsSignedNumber v value) → IsInRange processes (Clock process value) → item_by_word processes word fields ≡ Some (Clock process value)
+unfolding item_by_word clock_item
 clock_line processes word fields process value h range =
     rw (h.word_is, pair_again processes _ word fields process _ h range.0, value_again h.last value h.last_is range.1) refl
 
 -- a random item in range is read
-random_line : (processes : ℕ) (word : List ℕ) (fields : List (List ℕ)) (process : ℕ) (bytes : List ℕ) → WritesPair (codes "random") word fields process (λ h. IsHex h bytes) → IsInRange processes (Random process bytes) → item_by processes word fields ≡ Some (Random process bytes)
-unfolding item_by random_item
+random_line : (processes : ℕ) (word : List ℕ) (fields : List (List ℕ)) (process : ℕ) (bytes : List ℕ) → WritesPair (codes "random") word fields process (λ h. IsHex h bytes) → IsInRange processes (Random process bytes) → item_by_word processes word fields ≡ Some (Random process bytes)
+unfolding item_by_word random_item
 random_line processes word fields process bytes h range = rw (h.word_is, bytes_again processes _ word fields process bytes h range.0) refl
 
 -- a signal item in range is read
-signal_line : (processes : ℕ) (word : List ℕ) (fields : List (List ℕ)) (process number : ℕ) → WritesPair (codes "signal") word fields process (λ n. IsNumber n number) → IsInRange processes (Signal process number) → item_by processes word fields ≡ Some (Signal process number)
-unfolding item_by signal_item
+signal_line : (processes : ℕ) (word : List ℕ) (fields : List (List ℕ)) (process number : ℕ) → WritesPair (codes "signal") word fields process (λ n. IsNumber n number) → IsInRange processes (Signal process number) → item_by_word processes word fields ≡ Some (Signal process number)
+unfolding item_by_word signal_item
 signal_line processes word fields process number h range =
     rw (h.word_is, pair_again processes _ word fields process _ h range.0, positive_again most_signal h.last number h.last_is range.1 range.2) refl
 
 -- a kill item in range is read
-kill_line : (processes : ℕ) (word p : List ℕ) (process : ℕ) → word ≡ codes "kill" → IsNumber p process → process < processes → item_by processes word (p ∷ []) ≡ Some (Kill process)
-unfolding item_by kill_item
+kill_line : (processes : ℕ) (word p : List ℕ) (process : ℕ) → word ≡ codes "kill" → IsNumber p process → process < processes → item_by_word processes word (p ∷ []) ≡ Some (Kill process)
+unfolding item_by_word kill_item
 kill_line processes word p process is is_process below = rw (is, process_again processes p process is_process below) refl
 
 -- what is written as an item and is in range is read
-pub item_again : (processes : ℕ) (word : List ℕ) (fields : List (List ℕ)) (item : Item) → IsItemLine (word ∷ fields) item → IsInRange processes item → item_by processes word fields ≡ Some item
+pub item_again : (processes : ℕ) (word : List ℕ) (fields : List (List ℕ)) (item : Item) → IsItemLine (word ∷ fields) item → IsInRange processes item → item_by_word processes word fields ≡ Some item
 item_again processes word [] (Run process thread times) line range = absurd line
 item_again processes word (p ∷ []) (Run process thread times) line range = absurd line
 item_again processes word (p ∷ t ∷ []) (Run process thread times) line range =
@@ -347,7 +347,7 @@ pub process_line_takes : (word : List ℕ) (fields : List (List ℕ)) (line : Pr
 unfolding process_line_of
 process_line_takes word fields line is e =
     let name = bind_some (field_at fields) _ line e in
-    let file = bind_some (last_of name.0.1) _ line name.2 in
+    let file = bind_some (last_field_of name.0.1) _ line name.2 in
     let parts = process_parts name.0.0 file.0 line file.2 in
     let fields_are : fields ≡ line.name ∷ line.module ∷ [] = field_takes fields name.0.0 name.0.1 name.1 ∙ ap (λ (fs : List (List ℕ)). name.0.0 ∷ fs) (last_takes name.0.1 file.0 file.1) ∙ ap (λ (n : List ℕ). n ∷ file.0 ∷ []) parts.0 ∙ ap (λ (f : List ℕ). line.name ∷ f ∷ []) parts.1 in
     (ap (λ (v : List ℕ). v ∷ fields) is ∙ ap (λ (fs : List (List ℕ)). codes "process" ∷ fs) fields_are, parts.2)

@@ -10,48 +10,48 @@ use Rattle.schedule_text.specs.Limits.{most_processes}
 use Rattle.schedule_text.specs.declared.process.ProcessLine.{ProcessLine}
 use Rattle.schedule_text.specs.Fields.{fields_of, is_passed_over}
 use Rattle.schedule_text.specs.Grammar.{IsHeader, IsProcessLine, IsItemLine, lines_kept, AreLinesOf}
-use Rattle.schedule_text.specs.Reading.{◌>>=◌, Part, nothing, with_fields, with_process, with_item, with_line, with_line_of, schedule_part}
+use Rattle.schedule_text.specs.Reading.{◌>>=◌, SchedulePart, nothing_read, with_fields, with_process, with_schedule_item, with_schedule_line, with_line_of, schedule_part}
 use Rattle.schedule_text.specs.Schedule.{Schedule, IsInRange, IsProcess}
 use Rattle.schedule_text.proofs.ItemLemmas.{item_again, item_word, process_line_again}
 use Rattle.schedule_text.proofs.StepLemmas.{IsNew, new_any, IsKept, kept_cases, passed_line, kept_fields, line_is, kept-passed, kept-kept, Step, header, process, item, step_of, IsPart, nothing_is, step_keeps}
 use Rattle.schedule_text.proofs.WordLemmas.{bind_some}
 
 -- what comes of the lines, or nothing where one isn't allowed
-abbrev pub lines_give : Part → List (List ℕ) → Option Part
+abbrev pub lines_give : SchedulePart → List (List ℕ) → Option SchedulePart
 lines_give part [] = Some part
-lines_give part (line ∷ lines) = with_line part line >>= λ next. lines_give next lines
+lines_give part (line ∷ lines) = with_schedule_line part line >>= λ next. lines_give next lines
 
 -- a line that is passed over changes nothing
-give-passed : (part : Part) (line : List ℕ) (lines : List (List ℕ)) → is_passed_over (fields_of line) ≡ true → lines_give part (line ∷ lines) ≡ lines_give part lines
-give-passed part line lines e = ap (λ (o : Option Part). o >>= λ next. lines_give next lines) (passed_line part line e)
+give-passed : (part : SchedulePart) (line : List ℕ) (lines : List (List ℕ)) → is_passed_over (fields_of line) ≡ true → lines_give part (line ∷ lines) ≡ lines_give part lines
+give-passed part line lines e = ap (λ (o : Option SchedulePart). o >>= λ next. lines_give next lines) (passed_line part line e)
 
 -- two things that are found at once are one
 pub some_is : {A : Type 0} (x y : A) → ◌≡◌ {A = Option A} (Some x) (Some y) → x ≡ y
 some_is x y e = cc
 
 -- another line is a step
-kept_step : (part : Part) (line : List ℕ) (next : Part) → IsKept (fields_of line) → with_line part line ≡ Some next → Step part (fields_of line) next
+kept_step : (part : SchedulePart) (line : List ℕ) (next : SchedulePart) → IsKept (fields_of line) → with_schedule_line part line ≡ Some next → Step part (fields_of line) next
 kept_step part line next h e =
-    let fields : with_line part line ≡ with_fields part h.word h.rest = line_is part line ∙ ap (with_line_of part) h.fields_are ∙ kept_fields part h.word h.rest h.no_comment in
+    let fields : with_schedule_line part line ≡ with_fields part h.word h.rest = line_is part line ∙ ap (with_line_of part) h.fields_are ∙ kept_fields part h.word h.rest h.no_comment in
     subst (λ (fs : List (List ℕ)). Step part fs next) (sym h.fields_are) (step_of part h.word h.rest next (sym fields ∙ e))
 
 -- ---- what comes of lines is in range
 
 -- what comes of lines stays in range
-pub all_keep : (lines : List (List ℕ)) (part end : Part) → IsPart part → lines_give part lines ≡ Some end → IsPart end
+pub all_keep : (lines : List (List ℕ)) (part end : SchedulePart) → IsPart part → lines_give part lines ≡ Some end → IsPart end
 all_keep [] part end h e = subst IsPart (some_is part end e) h
 all_keep (line ∷ lines) part end h e =
     elim (kept_cases (fields_of line)) [
       | inl over ↦ all_keep lines part end h (sym (give-passed part line lines over) ∙ e)
       | inr here ↦
-          let next = bind_some (with_line part line) (λ next. lines_give next lines) end e in
+          let next = bind_some (with_schedule_line part line) (λ next. lines_give next lines) end e in
           all_keep lines next.0 end (step_keeps part (fields_of line) next.0 (kept_step part line next.0 here next.1) h) next.2
     ]
 
 -- ---- lines after the header
 
 -- the lines are process lines and then items, which come to what was there before
-record Adds (part : Part) (lines : List (List ℕ)) (end : Part) : Type 0 where
+record Adds (part : SchedulePart) (lines : List (List ℕ)) (end : SchedulePart) : Type 0 where
   process_lines : List (List (List ℕ))
   item_lines : List (List (List ℕ))
   more_processes : List ProcessLine
@@ -70,22 +70,22 @@ no_more R [] (y ∷ ys) e h = absurd h
 no_more R (x ∷ xs) ys e h = absurd cc
 
 -- no line adds nothing
-adds_none : (part end : Part) → part ≡ end → Adds part [] end
+adds_none : (part end : SchedulePart) → part ≡ end → Adds part [] end
 adds_none part end same = record {
   process_lines = [];
   item_lines = [];
   more_processes = [];
   more_items = [];
   in_order = refl;
-  processes_are = ap (λ (p : Part). p.processes) (sym same) ∙ sym (append-nil part.processes);
-  items_are = ap (λ (p : Part). p.items) (sym same) ∙ sym (append-nil part.items);
+  processes_are = ap (λ (p : SchedulePart). p.processes) (sym same) ∙ sym (append-nil part.processes);
+  items_are = ap (λ (p : SchedulePart). p.items) (sym same) ∙ sym (append-nil part.items);
   processes = tt;
   items = tt;
   order = inr refl;
 }
 
 -- a line that is passed over adds nothing
-adds_passed : (part end : Part) (line : List ℕ) (lines : List (List ℕ)) → is_passed_over (fields_of line) ≡ true → Adds part lines end → Adds part (line ∷ lines) end
+adds_passed : (part end : SchedulePart) (line : List ℕ) (lines : List (List ℕ)) → is_passed_over (fields_of line) ≡ true → Adds part lines end → Adds part (line ∷ lines) end
 adds_passed part end line lines over h = record {
   process_lines = h.process_lines;
   item_lines = h.item_lines;
@@ -105,7 +105,7 @@ not_empty [] x e = cc
 not_empty (y ∷ ys) x e = cc
 
 -- one more line in front; `begun` says that the next part has the header, and `go` is what the other lines add
-adds_step : (part next end : Part) (line : List ℕ) (lines : List (List ℕ)) → lines_kept (line ∷ lines) ≡ fields_of line ∷ lines_kept lines → part.has_header ≡ true → Step part (fields_of line) next → (next.has_header ≡ true → Adds next lines end) → Adds part (line ∷ lines) end
+adds_step : (part next end : SchedulePart) (line : List ℕ) (lines : List (List ℕ)) → lines_kept (line ∷ lines) ≡ fields_of line ∷ lines_kept lines → part.has_header ≡ true → Step part (fields_of line) next → (next.has_header ≡ true → Adds next lines end) → Adds part (line ∷ lines) end
 adds_step part _ end line lines kept begun (header before is) go = absurd cc
 adds_step part _ end line lines kept begun (process p has none room is good new) go =
     let h = go begun in
@@ -139,24 +139,24 @@ adds_step part _ end line lines kept begun (item i has is range) go =
     }
 
 -- what comes of lines after the header is what they add
-adds : (lines : List (List ℕ)) (part end : Part) → part.has_header ≡ true → lines_give part lines ≡ Some end → Adds part lines end
+adds : (lines : List (List ℕ)) (part end : SchedulePart) → part.has_header ≡ true → lines_give part lines ≡ Some end → Adds part lines end
 adds [] part end begun e = adds_none part end (some_is part end e)
 adds (line ∷ lines) part end begun e =
     elim (kept_cases (fields_of line)) [
       | inl over ↦ adds_passed part end line lines over (adds lines part end begun (sym (give-passed part line lines over) ∙ e))
       | inr here ↦
-          let next = bind_some (with_line part line) (λ next. lines_give next lines) end e in
+          let next = bind_some (with_schedule_line part line) (λ next. lines_give next lines) end e in
           adds_step part next.0 end line lines (kept-kept line lines here) begun (kept_step part line next.0 here next.1) (λ has. adds lines next.0 end has next.2)
     ]
 
 -- ---- all lines
 
 -- after the header, before the first process line
-abbrev pub begin : Part
+abbrev pub begin : SchedulePart
 begin = record { has_header = true; processes = []; items = [] }
 
 -- the first line that isn't passed over is the header
-record Begins (lines : List (List ℕ)) (end : Part) : Type 0 where
+record Begins (lines : List (List ℕ)) (end : SchedulePart) : Type 0 where
   header : List (List ℕ)
   rest : List (List ℕ)
   first : lines_kept lines ≡ header ∷ lines_kept rest
@@ -164,32 +164,32 @@ record Begins (lines : List (List ℕ)) (end : Part) : Type 0 where
   gives : lines_give begin rest ≡ Some end
 
 -- the first line that isn't passed over can only be the header
-begins_step : (next end : Part) (line : List ℕ) (lines : List (List ℕ)) → lines_kept (line ∷ lines) ≡ fields_of line ∷ lines_kept lines → Step nothing (fields_of line) next → lines_give next lines ≡ Some end → Begins (line ∷ lines) end
+begins_step : (next end : SchedulePart) (line : List ℕ) (lines : List (List ℕ)) → lines_kept (line ∷ lines) ≡ fields_of line ∷ lines_kept lines → Step nothing_read (fields_of line) next → lines_give next lines ≡ Some end → Begins (line ∷ lines) end
 begins_step _ end line lines kept (header before is) e = record { header = fields_of line; rest = lines; first = kept; is = is; gives = e }
 begins_step _ end line lines kept (process p has none room is good new) e = absurd cc
 begins_step _ end line lines kept (item i has is range) e = absurd cc
 
 -- either nothing has come, or the header came first
-begins : (lines : List (List ℕ)) (end : Part) → lines_give nothing lines ≡ Some end → (end ≡ nothing) ⊎ Begins lines end
-begins [] end e = inl (sym (some_is nothing end e))
+begins : (lines : List (List ℕ)) (end : SchedulePart) → lines_give nothing_read lines ≡ Some end → (end ≡ nothing_read) ⊎ Begins lines end
+begins [] end e = inl (sym (some_is nothing_read end e))
 begins (line ∷ lines) end e =
     elim (kept_cases (fields_of line)) [
       | inl over ↦
-          elim (begins lines end (sym (give-passed nothing line lines over) ∙ e)) [
+          elim (begins lines end (sym (give-passed nothing_read line lines over) ∙ e)) [
             | inl none ↦ inl none
             | inr h ↦ inr (record { header = h.header; rest = h.rest; first = kept-passed line lines over ∙ h.first; is = h.is; gives = h.gives })
           ]
       | inr here ↦
-          let next = bind_some (with_line nothing line) (λ next. lines_give next lines) end e in
-          inr (begins_step next.0 end line lines (kept-kept line lines here) (kept_step nothing line next.0 here next.1) next.2)
+          let next = bind_some (with_schedule_line nothing_read line) (λ next. lines_give next lines) end e in
+          inr (begins_step next.0 end line lines (kept-kept line lines here) (kept_step nothing_read line next.0 here next.1) next.2)
     ]
 
 -- what comes of all lines, where it has a process, is what they spell
-pub lines_take : (lines : List (List ℕ)) (end : Part) → 0 < length end.processes → lines_give nothing lines ≡ Some end → AreLinesOf lines (schedule_part end)
+pub lines_take : (lines : List (List ℕ)) (end : SchedulePart) → 0 < length end.processes → lines_give nothing_read lines ≡ Some end → AreLinesOf lines (schedule_part end)
 lines_take lines end some e =
-    let range = all_keep lines nothing end nothing_is e in
+    let range = all_keep lines nothing_read end nothing_is e in
     elim (begins lines end e) [
-      | inl none ↦ absurd (omega (arith, ap (λ (p : Part). length p.processes) none))
+      | inl none ↦ absurd (omega (arith, ap (λ (p : SchedulePart). length p.processes) none))
       | inr b ↦
           let h = adds b.rest begin end refl b.gives in
           record {
@@ -207,7 +207,7 @@ lines_take lines end some e =
 -- ---- what is spelled comes of the lines
 
 -- what comes of lines with these fields, none of which is passed over
-abbrev fields_give : Part → List (List (List ℕ)) → Option Part
+abbrev fields_give : SchedulePart → List (List (List ℕ)) → Option SchedulePart
 fields_give part [] = Some part
 fields_give part (fields ∷ more) = with_line_of part fields >>= λ next. fields_give next more
 
@@ -217,26 +217,26 @@ same_next None f g e = refl
 same_next (Some x) f g e = e x
 
 -- only the lines that aren't passed over matter
-give-kept : (lines : List (List ℕ)) (part : Part) → lines_give part lines ≡ fields_give part (lines_kept lines)
+give-kept : (lines : List (List ℕ)) (part : SchedulePart) → lines_give part lines ≡ fields_give part (lines_kept lines)
 give-kept [] part = refl
 give-kept (line ∷ lines) part =
     elim (kept_cases (fields_of line)) [
       | inl over ↦ give-passed part line lines over ∙ give-kept lines part ∙ ap (fields_give part) (sym (kept-passed line lines over))
       | inr here ↦
-          ap (λ (o : Option Part). o >>= λ next. lines_give next lines) (line_is part line)
+          ap (λ (o : Option SchedulePart). o >>= λ next. lines_give next lines) (line_is part line)
           ∙ same_next (with_line_of part (fields_of line)) (λ next. lines_give next lines) (λ next. fields_give next (lines_kept lines)) (λ next. give-kept lines next)
           ∙ ap (fields_give part) (sym (kept-kept line lines here))
     ]
 
 -- lines are taken one part after the other
-give-append : (a b : List (List (List ℕ))) (part mid : Part) → fields_give part a ≡ Some mid → fields_give part (a ++ b) ≡ fields_give mid b
-give-append [] b part mid e = ap (λ (p : Part). fields_give p b) (some_is part mid e)
+give-append : (a b : List (List (List ℕ))) (part mid : SchedulePart) → fields_give part a ≡ Some mid → fields_give part (a ++ b) ≡ fields_give mid b
+give-append [] b part mid e = ap (λ (p : SchedulePart). fields_give p b) (some_is part mid e)
 give-append (fields ∷ a) b part mid e =
     let next = bind_some (with_line_of part fields) (λ next. fields_give next a) mid e in
-    ap (λ (o : Option Part). o >>= λ next. fields_give next (a ++ b)) next.1 ∙ give-append a b next.0 mid next.2
+    ap (λ (o : Option SchedulePart). o >>= λ next. fields_give next (a ++ b)) next.1 ∙ give-append a b next.0 mid next.2
 
 -- the parts that have the header
-abbrev pub having : List ProcessLine → List Item → Part
+abbrev pub having : List ProcessLine → List Item → SchedulePart
 having ps is = record { has_header = true; processes = ps; items = is }
 
 -- a process in range, with room and a new name, is taken
@@ -246,7 +246,7 @@ one_process ps line room good new = rw (lt-leb most_processes (length ps) room, 
 
 -- an item in range is taken
 one_item : (ps : List ProcessLine) (is : List Item) (word : List ℕ) (fields : List (List ℕ)) (i : Item) → IsItemLine (word ∷ fields) i → IsInRange (length ps) i → with_fields (having ps is) word fields ≡ Some (having ps (is ++ i ∷ []))
-unfolding with_fields with_item
+unfolding with_fields with_schedule_item
 one_item ps is word fields i line range = rw ((item_word word fields i line).0, item_again (length ps) word fields i line range) refl
 
 -- the line of such a process is taken
@@ -282,7 +282,7 @@ process_lines_give all ps (q ∷ qs) (fields ∷ lines) e most good apart h =
     let size : length all ≡ length ps + suc (length qs) = ap length e ∙ length-append ps (q ∷ qs) in
     let at : get_or all (length ps) q ≡ q = ap (λ (ls : List ProcessLine). get_or ls (length ps) q) e ∙ get_or_at ps q qs q (length ps) refl in
     let new : IsNew ps q.name = new_name all ps q qs e apart in
-    ap (λ (o : Option Part). o >>= λ next. fields_give next lines) (process_line_gives ps fields q (omega arith) (subst IsProcess at (good (length ps) q (omega arith))) new h.0)
+    ap (λ (o : Option SchedulePart). o >>= λ next. fields_give next lines) (process_line_gives ps fields q (omega arith) (subst IsProcess at (good (length ps) q (omega arith))) new h.0)
     ∙ process_lines_give all (ps ++ q ∷ []) qs lines (e ∙ sym (append_assoc ps (q ∷ []) qs)) most good apart h.1
 
 -- all items, after those that have come
@@ -291,22 +291,22 @@ item_lines_give ps is [] [] range h = ap (λ (ls : List Item). Some (having ps l
 item_lines_give ps is (j ∷ js) [] range h = absurd h
 item_lines_give ps is [] (fields ∷ lines) range h = absurd h
 item_lines_give ps is (j ∷ js) (fields ∷ lines) range h =
-    ap (λ (o : Option Part). o >>= λ next. fields_give next lines) (item_line_gives ps is fields j h.0 (range zero j (omega arith)))
+    ap (λ (o : Option SchedulePart). o >>= λ next. fields_give next lines) (item_line_gives ps is fields j h.0 (range zero j (omega arith)))
     ∙ item_lines_give ps (is ++ j ∷ []) js lines (λ k d lt. range (suc k) d (omega arith)) h.1
     ∙ ap (λ (ls : List Item). Some (having ps ls)) (append_assoc is (j ∷ []) js)
 
 -- the header is taken first
-header_gives : (fields : List (List ℕ)) → IsHeader fields → with_line_of nothing fields ≡ Some begin
+header_gives : (fields : List (List ℕ)) → IsHeader fields → with_line_of nothing_read fields ≡ Some begin
 unfolding with_fields
-header_gives fields is = ap (with_line_of nothing) is
+header_gives fields is = ap (with_line_of nothing_read) is
 
 -- what is spelled comes of the lines
-pub lines_again : (lines : List (List ℕ)) (s : Schedule) → AreLinesOf lines s → lines_give nothing lines ≡ Some (having s.processes s.items)
+pub lines_again : (lines : List (List ℕ)) (s : Schedule) → AreLinesOf lines s → lines_give nothing_read lines ≡ Some (having s.processes s.items)
 lines_again lines s h =
     let processes = process_lines_give s.processes [] s.processes h.process_lines refl h.formed.most h.formed.lines h.formed.names h.processes in
     let items = item_lines_give s.processes [] s.items h.item_lines h.formed.items h.items in
-    give-kept lines nothing ∙ ap (fields_give nothing) h.in_order
-    ∙ ap (λ (o : Option Part). o >>= λ next. fields_give next (h.process_lines ++ h.item_lines)) (header_gives h.header h.begins)
+    give-kept lines nothing_read ∙ ap (fields_give nothing_read) h.in_order
+    ∙ ap (λ (o : Option SchedulePart). o >>= λ next. fields_give next (h.process_lines ++ h.item_lines)) (header_gives h.header h.begins)
     ∙ give-append h.process_lines h.item_lines begin (having s.processes []) processes ∙ items
 
 -- lines spell at most one schedule

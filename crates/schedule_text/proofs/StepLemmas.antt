@@ -12,7 +12,7 @@ use Rattle.schedule_text.specs.Limits.{most_processes}
 use Rattle.schedule_text.specs.declared.process.ProcessLine.{ProcessLine}
 use Rattle.schedule_text.specs.Fields.{fields_of, is_comment, is_passed_over}
 use Rattle.schedule_text.specs.Grammar.{IsHeader, IsProcessLine, IsItemLine, lines_kept}
-use Rattle.schedule_text.specs.Reading.{Part, nothing, is_header, process_line_of, item_by, with_process, with_item, with_fields, with_line_of, with_line}
+use Rattle.schedule_text.specs.Reading.{SchedulePart, nothing_read, is_header, process_line_of, item_by_word, with_process, with_schedule_item, with_fields, with_line_of, with_schedule_line}
 use Rattle.schedule_text.specs.Schedule.{IsInRange, IsProcess}
 use Rattle.schedule_text.proofs.ItemLemmas.{is_word, same_word, item_takes, process_line_takes, header_takes}
 use Rattle.schedule_text.proofs.WordLemmas.{bind_some, map_some, kept, passed}
@@ -32,22 +32,22 @@ kept_cases [] = inl refl
 kept_cases (word ∷ rest) = elim (cases_Bool (is_comment word)) [ inl comment ↦ inl comment | inr other ↦ inr (record { word = word; rest = rest; fields_are = refl; no_comment = other }) ]
 
 -- fields that are passed over change nothing
-passed_fields : (part : Part) (fields : List (List ℕ)) → is_passed_over fields ≡ true → with_line_of part fields ≡ Some part
+passed_fields : (part : SchedulePart) (fields : List (List ℕ)) → is_passed_over fields ≡ true → with_line_of part fields ≡ Some part
 passed_fields part [] e = refl
 passed_fields part (word ∷ rest) e = rw e refl
 
 -- a line that is passed over changes nothing
-pub passed_line : (part : Part) (line : List ℕ) → is_passed_over (fields_of line) ≡ true → with_line part line ≡ Some part
-unfolding with_line
+pub passed_line : (part : SchedulePart) (line : List ℕ) → is_passed_over (fields_of line) ≡ true → with_schedule_line part line ≡ Some part
+unfolding with_schedule_line
 passed_line part line e = passed_fields part (fields_of line) e
 
 -- other fields are taken
-pub kept_fields : (part : Part) (word : List ℕ) (rest : List (List ℕ)) → is_comment word ≡ false → with_line_of part (word ∷ rest) ≡ with_fields part word rest
+pub kept_fields : (part : SchedulePart) (word : List ℕ) (rest : List (List ℕ)) → is_comment word ≡ false → with_line_of part (word ∷ rest) ≡ with_fields part word rest
 kept_fields part word rest e = rw e refl
 
 -- a line counts by its fields
-pub line_is : (part : Part) (line : List ℕ) → with_line part line ≡ with_line_of part (fields_of line)
-unfolding with_line
+pub line_is : (part : SchedulePart) (line : List ℕ) → with_schedule_line part line ≡ with_line_of part (fields_of line)
+unfolding with_schedule_line
 line_is part line = refl
 
 -- a line that is passed over isn't kept
@@ -69,7 +69,7 @@ abbrev pub IsNew : List ProcessLine → List ℕ → Type 0
 IsNew processes name = (k : ℕ) (d : ProcessLine) → k < length processes → (get_or processes k d).name ≢ name
 
 -- a line with these fields is allowed after `part`, and gives the part of the last argument
-pub data Step (part : Part) (fields : List (List ℕ)) : Part → Type 0 where
+pub data Step (part : SchedulePart) (fields : List (List ℕ)) : SchedulePart → Type 0 where
   header : part.has_header ≡ false → IsHeader fields → Step part fields (record part { has_header = true })
   process : (line : ProcessLine) → part.has_header ≡ true → part.items ≡ [] → length part.processes < most_processes → IsProcessLine fields line → IsProcess line → IsNew part.processes line.name → Step part fields (record part { processes = part.processes ++ line ∷ [] })
   item : (i : Item) → part.has_header ≡ true → IsItemLine fields i → IsInRange (length part.processes) i → Step part fields (record part { items = part.items ++ i ∷ [] })
@@ -99,7 +99,7 @@ none_left [] e = refl
 none_left (x ∷ xs) e = absurd (let some = lt-ltb 0 (length (x ∷ xs)) (omega arith) in cc)
 
 -- what is taken as a process line is one that is allowed
-process_step : (part : Part) (word : List ℕ) (fields : List (List ℕ)) (next : Part) → part.has_header ≡ true → word ≡ codes "process" → with_process part fields ≡ Some next → Step part (word ∷ fields) next
+process_step : (part : SchedulePart) (word : List ℕ) (fields : List (List ℕ)) (next : SchedulePart) → part.has_header ≡ true → word ≡ codes "process" → with_process part fields ≡ Some next → Step part (word ∷ fields) next
 unfolding with_process
 process_step part word fields next begun is e =
     let room = passed (ltb 0 (length part.items) || leb most_processes (length part.processes)) _ next e in
@@ -111,10 +111,10 @@ process_step part word fields next begun is e =
     subst (Step part (word ∷ fields)) same (process line.0 begun (none_left part.items free.0) (leb-false most_processes (length part.processes) free.1) written.0 written.1 (any_new line.0.name part.processes new.0))
 
 -- what is taken as an item is one that is allowed
-item_step : (part : Part) (word : List ℕ) (fields : List (List ℕ)) (next : Part) → part.has_header ≡ true → with_item part word fields ≡ Some next → Step part (word ∷ fields) next
-unfolding with_item
+item_step : (part : SchedulePart) (word : List ℕ) (fields : List (List ℕ)) (next : SchedulePart) → part.has_header ≡ true → with_schedule_item part word fields ≡ Some next → Step part (word ∷ fields) next
+unfolding with_schedule_item
 item_step part word fields next begun e =
-    let i = map_some (λ (i : Item). record part { items = part.items ++ i ∷ [] }) (item_by (length part.processes) word fields) next e in
+    let i = map_some (λ (i : Item). record part { items = part.items ++ i ∷ [] }) (item_by_word (length part.processes) word fields) next e in
     let written = item_takes (length part.processes) word fields i.0 i.1 in
     subst (Step part (word ∷ fields)) i.2 (item i.0 begun written.0 written.1)
 
@@ -126,14 +126,14 @@ at_false : {A : Type 0} (b : Bool) (x y z : A) → b ≡ false → cond b x y �
 at_false b x y z t e = sym (ap (λ (c : Bool). cond c x y) t) ∙ e
 
 -- what is taken as the header is one that is allowed
-header_step : (part : Part) (word : List ℕ) (fields : List (List ℕ)) (next : Part) → part.has_header ≡ false → cond (is_header word fields) (Some (record part { has_header = true })) None ≡ Some next → Step part (word ∷ fields) next
+header_step : (part : SchedulePart) (word : List ℕ) (fields : List (List ℕ)) (next : SchedulePart) → part.has_header ≡ false → cond (is_header word fields) (Some (record part { has_header = true })) None ≡ Some next → Step part (word ∷ fields) next
 header_step part word fields next before e =
     let head = kept (is_header word fields) (Some (record part { has_header = true })) next e in
     let same : record part { has_header = true } ≡ next = (let there = head.1 in cc) in
     subst (Step part (word ∷ fields)) same (header before (header_takes word fields head.0))
 
 -- a line that is allowed is one of the three
-pub step_of : (part : Part) (word : List ℕ) (fields : List (List ℕ)) (next : Part) → with_fields part word fields ≡ Some next → Step part (word ∷ fields) next
+pub step_of : (part : SchedulePart) (word : List ℕ) (fields : List (List ℕ)) (next : SchedulePart) → with_fields part word fields ≡ Some next → Step part (word ∷ fields) next
 unfolding with_fields
 step_of part word fields next e =
     elim (cases_Bool part.has_header) [
@@ -149,7 +149,7 @@ step_of part word fields next e =
 -- ---- what has come is in range
 
 -- what has come is in range
-pub record IsPart (part : Part) : Type 0 where
+pub record IsPart (part : SchedulePart) : Type 0 where
   pub before : part.has_header ≡ false → length part.processes ≡ 0
   pub most : length part.processes ≤ most_processes
   pub lines : All IsProcess part.processes
@@ -157,7 +157,7 @@ pub record IsPart (part : Part) : Type 0 where
   pub items : All (IsInRange (length part.processes)) part.items
 
 -- this holds before the first line
-pub nothing_is : IsPart nothing
+pub nothing_is : IsPart nothing_read
 nothing_is = record {
   before = λ _. refl;
   most = omega arith;
@@ -167,7 +167,7 @@ nothing_is = record {
 }
 
 -- an allowed line keeps what has come in range
-pub step_keeps : (part : Part) (fields : List (List ℕ)) (next : Part) → Step part fields next → IsPart part → IsPart next
+pub step_keeps : (part : SchedulePart) (fields : List (List ℕ)) (next : SchedulePart) → Step part fields next → IsPart part → IsPart next
 step_keeps part fields _ (header before is) h = record { before = λ e. absurd cc; most = h.most; lines = h.lines; names = h.names; items = h.items }
 step_keeps part fields _ (process line begun none room is good new) h = record {
   before = λ e. absurd cc;

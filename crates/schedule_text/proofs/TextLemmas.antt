@@ -20,7 +20,7 @@ use Rattle.schedule_text.specs.declared.item.Item.{Item}
 use Rattle.schedule_text.specs.declared.item.Item.TheVariants.{Run, Deliver, Inject, Clock, Random, Signal, Kill}
 use Rattle.schedule_text.specs.declared.process.ProcessLine.{ProcessLine}
 use Rattle.schedule_text.specs.Fields.{is_separator, fields_of, is_comment}
-use Rattle.schedule_text.specs.Grammar.{IsNumber, IsSignedNumber, IsHex, IsProcessLine, IsRunItem, IsItemLine, lines_kept, Spells}
+use Rattle.schedule_text.specs.Grammar.{IsNumber, IsSignedNumber, IsHex, IsProcessLine, IsRunItem, IsItemLine, lines_kept, SpellsSchedule}
 use Rattle.schedule_text.specs.Limits.{most_processes}
 use Rattle.schedule_text.specs.Reading.{schedule_of}
 use Rattle.schedule_text.specs.Schedule.{Schedule, IsInRange, IsProcess, IsWellFormed, IsSchedule, is_visible, is_module_name}
@@ -319,7 +319,7 @@ module _ (words : WordsReadBack) (hex : ExactHex) where
       ∙ append-nil (map item_fields items)
 
   -- the text of a schedule in range spells it
-  pub text_spells : (s : Schedule) → IsWellFormed s → Spells (text_of s) s
+  pub text_spells : (s : Schedule) → IsWellFormed s → SpellsSchedule (text_of s) s
   text_spells s formed =
       let items : All IsWritten s.items = All-weaker (IsInRange (length s.processes)) IsWritten (λ i range. item_written (length s.processes) i formed.most range) s.items formed.items in
       let processes : All (λ p. IsLine (process_fields p)) s.processes = All-weaker IsProcess (λ p. IsLine (process_fields p)) process_line s.processes formed.lines in

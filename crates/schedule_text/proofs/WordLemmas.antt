@@ -13,7 +13,7 @@ use Rattle.fri_text.specs.Hex.{are_digits}
 use Rattle.fri_text.specs.declared.error.TextError.{TextError}
 use Rattle.fri_text.specs.declared.error.TextError.TheVariants.{TooGreat}
 use Rattle.schedule_text.specs.Limits.{most_runs}
-use Rattle.schedule_text.specs.Fields.{field_at, last_of}
+use Rattle.schedule_text.specs.Fields.{field_at, last_field_of}
 use Rattle.schedule_text.specs.Grammar.{IsNumber, IsSignedNumber, IsHex}
 use Rattle.schedule_text.specs.Reading.{◌>>=◌, number_up_to, positive_of, process_number_of, times_of}
 
@@ -45,7 +45,7 @@ field_takes [] field rest e = absurd cc
 field_takes (f ∷ fs) field rest e = let same : ◌≡◌ {A = List ℕ × List (List ℕ)} (f, fs) (field, rest) = cc in ap (λ (p : List ℕ × List (List ℕ)). p.0 ∷ p.1) same
 
 -- the last field that is found is alone
-pub last_takes : (fields : List (List ℕ)) (field : List ℕ) → last_of fields ≡ Some field → fields ≡ field ∷ []
+pub last_takes : (fields : List (List ℕ)) (field : List ℕ) → last_field_of fields ≡ Some field → fields ≡ field ∷ []
 last_takes [] field e = absurd cc
 last_takes (f ∷ []) field e = let same : f ≡ field = cc in ap (λ (g : List ℕ). g ∷ []) same
 last_takes (f ∷ g ∷ fs) field e = absurd cc

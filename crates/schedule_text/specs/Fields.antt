@@ -21,9 +21,9 @@ TakesField old new None = (field_at old ≡ None) × (new ≡ old)
 TakesField old new (Some field) = field_at old ≡ Some (field, new)
 
 -- the first field, where it is the last
-abbrev pub last_of : List (List ℕ) → Option (List ℕ)
-last_of (field ∷ []) = Some field
-last_of _ = None
+abbrev pub last_field_of : List (List ℕ) → Option (List ℕ)
+last_field_of (field ∷ []) = Some field
+last_field_of _ = None
 
 -- A field that begins with # makes the line a comment, where it is the line's first.
 abbrev pub is_comment : List ℕ → Bool

@@ -77,8 +77,8 @@ pub record AreLinesOf (lines : List (List ℕ)) (s : Schedule) : Type 0 where
   pub formed : IsWellFormed s
 
 -- the bytes spell the schedule, however many run items it has
-abbrev pub Spells : List ℕ → Schedule → Type 0
-Spells bytes s = AreLinesOf (lines_of bytes) s
+abbrev pub SpellsSchedule : List ℕ → Schedule → Type 0
+SpellsSchedule bytes s = AreLinesOf (lines_of bytes) s
 
 -- with some further lines, or with none, the lines are those of a schedule: so each is allowed at its place
 pub record BeginSchedule (lines : List (List ℕ)) : Type 0 where
@@ -96,5 +96,5 @@ pub record IsFirstBad (lines : List (List ℕ)) (n : ℕ) : Type 0 where
   pub unspelled : (s : Schedule) → AreLinesOf lines s → ⊥
 
 -- line n of the bytes is the first bad one
-abbrev pub BadAt : List ℕ → ℕ → Type 0
-BadAt bytes n = IsFirstBad (lines_of bytes) n
+abbrev pub SpellsBadLineAt : List ℕ → ℕ → Type 0
+SpellsBadLineAt bytes n = IsFirstBad (lines_of bytes) n

@@ -14,7 +14,7 @@ use Rattle.schedule_text.specs.declared.item.Item.{Item}
 use Rattle.schedule_text.specs.declared.item.Item.TheVariants.{Run, Deliver, Inject, Clock, Random, Signal, Kill}
 use Rattle.schedule_text.specs.Limits.{most_processes, most_thread, most_datagram, most_runs}
 use Rattle.schedule_text.specs.declared.process.ProcessLine.{ProcessLine}
-use Rattle.schedule_text.specs.Fields.{fields_of, field_at, last_of, is_comment}
+use Rattle.schedule_text.specs.Fields.{fields_of, field_at, last_field_of, is_comment}
 use Rattle.schedule_text.specs.Schedule.{Schedule, is_module_name, run_count}
 
 -- what comes of something that was found, where anything was
@@ -59,7 +59,7 @@ is_header word _ = false
 unfoldable pub process_line_of : List (List ℕ) → Option ProcessLine
 process_line_of fields = do
   name ← field_at fields
-  file ← last_of name.1
+  file ← last_field_of name.1
   if is_name name.0 && is_module_name file then Some (record { name = name.0; «module» = file }) else None
 
 -- the item of the fields after `run`
@@ -77,7 +77,7 @@ unfoldable pub pair_in : ℕ → List (List ℕ) → Option (ℕ × List ℕ)
 pair_in processes fields = do
   p ← field_at fields
   process ← process_number_of processes p.0
-  last ← last_of p.1
+  last ← last_field_of p.1
   Some (process, last)
 
 -- the item of the fields after `deliver`
@@ -119,13 +119,13 @@ signal_item processes fields = do
 -- the item of the fields after `kill`
 unfoldable pub kill_item : ℕ → List (List ℕ) → Option Item
 kill_item processes fields = do
-  p ← last_of fields
+  p ← last_field_of fields
   process ← process_number_of processes p
   Some (Kill process)
 
 -- the item of a line, by its first word
-unfoldable pub item_by : ℕ → List ℕ → List (List ℕ) → Option Item
-item_by processes word fields =
+unfoldable pub item_by_word : ℕ → List ℕ → List (List ℕ) → Option Item
+item_by_word processes word fields =
     if bytes_eq word (codes "run") then run_item processes fields else
     (if bytes_eq word (codes "deliver") then deliver_item processes fields else
     (if bytes_eq word (codes "inject") then inject_item processes fields else
@@ -137,43 +137,43 @@ item_by processes word fields =
 -- ---- lines
 
 -- what has come so far
-pub record Part : Type 0 where
+pub record SchedulePart : Type 0 where
   pub has_header : Bool
   pub processes : List ProcessLine
   pub items : List Item
 
 -- before the first line
-abbrev pub nothing : Part
-nothing = record { has_header = false; processes = []; items = [] }
+abbrev pub nothing_read : SchedulePart
+nothing_read = record { has_header = false; processes = []; items = [] }
 
 -- one more process, where no item has come, there is room for it, and its name is new
-unfoldable pub with_process : Part → List (List ℕ) → Option Part
+unfoldable pub with_process : SchedulePart → List (List ℕ) → Option SchedulePart
 with_process part fields =
     if nat_lt 0 (length part.items) || nat_le most_processes (length part.processes) then None else
     (process_line_of fields >>= λ line. if list_any (λ other. bytes_eq other.name line.name) part.processes then None else
     Some (record part { processes = part.processes ++ line ∷ [] }))
 
 -- one more item
-unfoldable pub with_item : Part → List ℕ → List (List ℕ) → Option Part
-with_item part word fields = option_map (λ item. record part { items = part.items ++ item ∷ [] }) (item_by (length part.processes) word fields)
+unfoldable pub with_schedule_item : SchedulePart → List ℕ → List (List ℕ) → Option SchedulePart
+with_schedule_item part word fields = option_map (λ item. record part { items = part.items ++ item ∷ [] }) (item_by_word (length part.processes) word fields)
 
 -- one more line that isn't passed over
-unfoldable pub with_fields : Part → List ℕ → List (List ℕ) → Option Part
+unfoldable pub with_fields : SchedulePart → List ℕ → List (List ℕ) → Option SchedulePart
 with_fields part word fields =
-    if part.has_header then (if bytes_eq word (codes "process") then with_process part fields else with_item part word fields) else
+    if part.has_header then (if bytes_eq word (codes "process") then with_process part fields else with_schedule_item part word fields) else
     (if is_header word fields then Some (record part { has_header = true }) else None)
 
 -- one more line with these fields
-abbrev pub with_line_of : Part → List (List ℕ) → Option Part
+abbrev pub with_line_of : SchedulePart → List (List ℕ) → Option SchedulePart
 with_line_of part [] = Some part
 with_line_of part (word ∷ fields) = if is_comment word then Some part else with_fields part word fields
 
 -- one more line
-unfoldable pub with_line : Part → List ℕ → Option Part
-with_line part line = with_line_of part (fields_of line)
+unfoldable pub with_schedule_line : SchedulePart → List ℕ → Option SchedulePart
+with_schedule_line part line = with_line_of part (fields_of line)
 
 -- A line was taken, and is allowed where something comes of it. Memory may run out at any time.
-abbrev pub TakesLine : Result Bool AllocError → Part → Option Part → Type 0
+abbrev pub TakesLine : Result Bool AllocError → SchedulePart → Option SchedulePart → Type 0
 TakesLine (Ok true) new found = found ≡ Some new
 TakesLine (Ok false) new found = found ≡ None
 TakesLine (Err e) new found = Unit {0}
@@ -181,21 +181,21 @@ TakesLine (Err e) new found = Unit {0}
 -- ---- the whole
 
 -- the schedule of what has come
-abbrev pub schedule_part : Part → Schedule
+abbrev pub schedule_part : SchedulePart → Schedule
 schedule_part part = record { processes = part.processes; items = part.items }
 
 -- all lines have come, and the next would have this number
-unfoldable pub whole_of : ℕ → Part → Result Schedule ScheduleRefusal
-whole_of number part =
+unfoldable pub whole_schedule_of : ℕ → SchedulePart → Result Schedule ScheduleRefusal
+whole_schedule_of number part =
     if nat_lt 0 (length part.processes) then
     (if nat_le (run_count part.items) most_runs then Ok (schedule_part part) else Err TooManyRuns) else
     Err (BadLineAt number)
 
 -- what follows of the lines still to come, the first of which has this number
-unfoldable pub outcome_of : ℕ → Part → List (List ℕ) → Result Schedule ScheduleRefusal
-outcome_of number part [] = whole_of number part
-outcome_of number part (line ∷ lines) = option_map_or (λ next. outcome_of (number + 1) next lines) (with_line part line) (Err (BadLineAt number))
+unfoldable pub outcome_of : ℕ → SchedulePart → List (List ℕ) → Result Schedule ScheduleRefusal
+outcome_of number part [] = whole_schedule_of number part
+outcome_of number part (line ∷ lines) = option_map_or (λ next. outcome_of (number + 1) next lines) (with_schedule_line part line) (Err (BadLineAt number))
 
 -- the schedule of the bytes, or why there is none
 unfoldable pub schedule_of : List ℕ → Result Schedule ScheduleRefusal
-schedule_of bytes = outcome_of 1 nothing (lines_of bytes)
+schedule_of bytes = outcome_of 1 nothing_read (lines_of bytes)

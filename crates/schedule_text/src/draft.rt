@@ -3,10 +3,10 @@ ghost use Rattle.std.specs.Prelude.{◌≡◌, nat_le};
 ghost use Rattle.std.specs.List.{list_any};
 ghost use Rattle.std.specs.Str.{bytes_eq};
 ghost use Rattle.schedule_text.specs.Limits.{most_runs};
-ghost use Rattle.schedule_text.specs.Outcome.{Ends};
+ghost use Rattle.schedule_text.specs.Outcome.{EndsSchedule};
 ghost use Rattle.schedule_text.specs.Schedule.{IsSchedule, run_count};
-ghost use Rattle.schedule_text.specs.Reading.{TakesLine, nothing, schedule_part, whole_of, is_header as is_header_line};
-ghost use Rattle.schedule_text.specs.Reading.{with_line, with_fields, with_process, with_item};
+ghost use Rattle.schedule_text.specs.Reading.{TakesLine, nothing_read, schedule_part, whole_schedule_of, is_header as is_header_line};
+ghost use Rattle.schedule_text.specs.Reading.{with_schedule_line, with_fields, with_process, with_schedule_item};
 
 use crate::error::ScheduleError;
 use crate::fields::Fields;
@@ -28,9 +28,9 @@ pub(crate) struct Draft {
 impl Model for Draft {
     ghost use Rattle.std.specs.Prelude.{◌≤◌, vec_len};
     ghost use Rattle.schedule_text.specs.Limits.{most_processes};
-    ghost use Rattle.schedule_text.specs.Reading.{Part};
+    ghost use Rattle.schedule_text.specs.Reading.{SchedulePart};
 
-    ghost Value = { Part };
+    ghost Value = { SchedulePart };
 
     ghost view = { λ d. record { has_header = d.has_header; processes = d.processes.items; items = d.items.items } };
 
@@ -40,7 +40,7 @@ impl Model for Draft {
 impl Draft {
     /// Before the first line.
     pub(crate) fn new(alloc: Global) -> Draft
-        ensures { result ≡ nothing }
+        ensures { result ≡ nothing_read }
     {
         Draft {
             has_header: false,
@@ -50,9 +50,9 @@ impl Draft {
     }
 
     /// Takes the next line, and says whether it is allowed here.
-    #[tactic(auto, unfolding(crate::specs::Reading::with_line))]
+    #[tactic(auto, unfolding(crate::specs::Reading::with_schedule_line))]
     pub(crate) fn take_line(&mut self, alloc: Global, line: &[u8]) -> Result<bool, AllocError>
-        ensures { TakesLine result self.new (with_line self.old line.now) }
+        ensures { TakesLine result self.new (with_schedule_line self.old line.now) }
     {
         let mut fields = Fields::new(line);
         match fields.next_field() {
@@ -102,14 +102,14 @@ impl Draft {
     }
 
     /// Takes an item.
-    #[tactic(auto, unfolding(crate::specs::Reading::with_item))]
+    #[tactic(auto, unfolding(crate::specs::Reading::with_schedule_item))]
     fn take_item(
         &mut self,
         alloc: Global,
         word: &[u8],
         fields: &mut Fields,
     ) -> Result<bool, AllocError>
-        ensures { TakesLine result self.new (with_item self.old word.now fields.old) }
+        ensures { TakesLine result self.new (with_schedule_item self.old word.now fields.old) }
     {
         let Some(item) = read_item(alloc, word, self.processes.len() as u32, fields)? else {
             return Ok(false);
@@ -119,9 +119,9 @@ impl Draft {
     }
 
     /// Whether the lines that have come may be all, where the next would have this number.
-    #[tactic(auto, unfolding(crate::specs::Reading::whole_of))]
+    #[tactic(auto, unfolding(crate::specs::Reading::whole_schedule_of))]
     pub(crate) fn check_end(&self, number: u64) -> Result<(), ScheduleError>
-        ensures { Ends result self.now (whole_of number self.now) }
+        ensures { EndsSchedule result self.now (whole_schedule_of number self.now) }
     {
         if self.processes.is_empty() {
             return Err(ScheduleError::BadLine(number));

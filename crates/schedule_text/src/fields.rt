@@ -1,6 +1,6 @@
 // The fields of a line.
 ghost use Rattle.std.specs.Prelude.{◌≡◌, not, position, option_map};
-ghost use Rattle.schedule_text.specs.Fields.{is_separator, fields_of, last_of, TakesField};
+ghost use Rattle.schedule_text.specs.Fields.{is_separator, fields_of, last_field_of, TakesField};
 
 use std::marker::Model;
 
@@ -41,7 +41,7 @@ impl<'a> Fields<'a> {
 
     /// The next field, where it is the last.
     pub(crate) fn last_field(&mut self) -> Option<&'a [u8]>
-        ensures { option_map (λ field. field.now) result ≡ last_of self.old }
+        ensures { option_map (λ field. field.now) result ≡ last_field_of self.old }
     {
         let field = self.next_field()?;
         match self.next_field() {

@@ -1,7 +1,7 @@
 // The items of a schedule.
 ghost use Rattle.std.specs.Prelude.{◌≡◌, IfOk, option_map};
 ghost use Rattle.schedule_text.specs.Schedule.{tries as item_tries};
-ghost use Rattle.schedule_text.specs.Reading.{item_by, run_item, pair_in, deliver_item, bytes_in, inject_item, clock_item, random_item, signal_item, kill_item};
+ghost use Rattle.schedule_text.specs.Reading.{item_by_word, run_item, pair_in, deliver_item, bytes_in, inject_item, clock_item, random_item, signal_item, kill_item};
 
 use crate::fields::Fields;
 use crate::limits::{MOST_DATAGRAM, MOST_THREAD};
@@ -67,14 +67,14 @@ impl Item {
 
 /// The item of a line with this first word and these fields after it, where there are so many
 /// processes.
-#[tactic(auto, unfolding(crate::specs::Reading::item_by))]
+#[tactic(auto, unfolding(crate::specs::Reading::item_by_word))]
 pub(crate) fn read_item(
     alloc: Global,
     word: &[u8],
     processes: u32,
     fields: &mut Fields,
 ) -> Result<Option<Item>, AllocError>
-    ensures { IfOk result (λ item. item ≡ item_by processes word.now fields.old) }
+    ensures { IfOk result (λ item. item ≡ item_by_word processes word.now fields.old) }
 {
     if word == b"run".as_slice() {
         Ok(read_run(processes, fields))

@@ -1,5 +1,5 @@
 // What holds of the grammar, whatever the bytes are. These calls do nothing.
-ghost use Rattle.schedule_text.specs.Laws.{SpellOne, SpellOrBad, NeverBoth, OneBadLine, GivesSchedules, RefusesMore, NamesBadLine, TextSpells, TextIsRead};
+ghost use Rattle.schedule_text.specs.Laws.{SpellOne, SpellOrBad, NeverSpelledAndBad, OneBadLine, GivesSchedules, RefusesMoreRuns, NamesBadLine, TextSpells, TextIsRead};
 
 /// Bytes spell at most one schedule.
 pub fn one_schedule()
@@ -9,14 +9,14 @@ pub fn one_schedule()
 /// Bytes either spell a schedule or have a bad line, and one line is the first bad one.
 pub fn spelled_or_bad()
     ensures either { SpellOrBad }
-    ensures never_both { NeverBoth }
+    ensures never_both { NeverSpelledAndBad }
     ensures one_line { OneBadLine }
 {}
 
 /// The outcome that `schedule_of` computes is the one that the grammar gives.
 pub fn exact_outcome()
     ensures schedules { GivesSchedules }
-    ensures more { RefusesMore }
+    ensures more { RefusesMoreRuns }
     ensures bad_line { NamesBadLine }
 {}
 

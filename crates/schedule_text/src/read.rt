@@ -1,8 +1,8 @@
 // Reading a schedule.
 ghost use Rattle.std.specs.Prelude.{◌≡◌, ℕ, ◌<◌, ◌≤◌, IfOk, IsErrOf, Ok, Err};
-ghost use Rattle.schedule_text.specs.Grammar.{Spells, BadAt};
+ghost use Rattle.schedule_text.specs.Grammar.{SpellsSchedule, SpellsBadLineAt};
 ghost use Rattle.schedule_text.specs.Limits.{most_runs};
-ghost use Rattle.schedule_text.specs.Outcome.{Answers, ReadsLines};
+ghost use Rattle.schedule_text.specs.Outcome.{AnswersOutcome, ReadsLines};
 ghost use Rattle.schedule_text.specs.Reading.{schedule_of, BadLineAt, TooManyRuns};
 ghost use Rattle.schedule_text.specs.Schedule.{Schedule as Seen, IsSchedule, run_count};
 
@@ -15,26 +15,26 @@ use std::alloc::Global;
 
 /// The schedule that the bytes spell. A bad line anywhere comes before too many run items.
 pub fn read_schedule(alloc: Global, bytes: &[u8]) -> Result<Schedule, ScheduleError>
-    ensures exact { Answers result (schedule_of bytes.now) }
+    ensures exact { AnswersOutcome result (schedule_of bytes.now) }
 
     // What is answered is so.
-    ensures found { IfOk result (λ s. Spells bytes.now s × IsSchedule s) }
-    ensures bad_line { (n : ℕ) → IsErrOf result (ScheduleError.BadLine n) → BadAt bytes.now n }
+    ensures found { IfOk result (λ s. SpellsSchedule bytes.now s × IsSchedule s) }
+    ensures bad_line { (n : ℕ) → IsErrOf result (ScheduleError.BadLine n) → SpellsBadLineAt bytes.now n }
     ensures too_many { IsErrOf result ScheduleError.TooMany →
-        (s : Seen) × Spells bytes.now s × (most_runs < run_count s.items) }
+        (s : Seen) × SpellsSchedule bytes.now s × (most_runs < run_count s.items) }
 
     // What is so is answered, unless memory runs out.
-    ensures spelled { (s : Seen) → Spells bytes.now s → run_count s.items ≤ most_runs →
-        Answers result (Ok s) }
-    ensures bad { (n : ℕ) → BadAt bytes.now n → Answers result (Err (BadLineAt n)) }
-    ensures over { (s : Seen) → Spells bytes.now s → most_runs < run_count s.items →
-        Answers result (Err TooManyRuns) }
+    ensures spelled { (s : Seen) → SpellsSchedule bytes.now s → run_count s.items ≤ most_runs →
+        AnswersOutcome result (Ok s) }
+    ensures bad { (n : ℕ) → SpellsBadLineAt bytes.now n → AnswersOutcome result (Err (BadLineAt n)) }
+    ensures over { (s : Seen) → SpellsSchedule bytes.now s → most_runs < run_count s.items →
+        AnswersOutcome result (Err TooManyRuns) }
 {
     read_whole(alloc, bytes)
 }
 
 fn read_whole(alloc: Global, bytes: &[u8]) -> Result<Schedule, ScheduleError>
-    ensures { Answers result (schedule_of bytes.now) }
+    ensures { AnswersOutcome result (schedule_of bytes.now) }
 {
     let draft = read_lines(alloc, bytes)?;
     Ok(draft.into_schedule())

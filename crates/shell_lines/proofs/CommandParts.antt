@@ -3,7 +3,7 @@ use Rattle.std.proofs.Common.{◌≡◌, ℕ, suc, ◌+◌, ◌-◌, ◌<◌, �
 use Rattle.std.proofs.Math.Seq.{drop-append_seam, take-append_seam}
 use Rattle.std.proofs.lemmas.List.{length-append}
 use Rattle.std.specs.Prelude.{codes}
-use Rattle.watch_expr.specs.Computed.{begins_some, expression_spelled, viable}
+use Rattle.watch_expr.specs.Computed.{begins_some_expression, expression_spelled, viable_tokens}
 use Rattle.watch_expr.specs.Expression.{Expression, Var}
 use Rattle.watch_expr.specs.Grammar.{BeginsExpr, IsExpr, higher, variable}
 use Rattle.watch_expr.specs.Laws.{ExactReading}
@@ -11,7 +11,7 @@ use Rattle.embed_cmds.specs.Grammar.{BeginsProgram, NoProgramGoesOn, IsProgram, 
 use Rattle.embed_cmds.specs.Laws.{ExactPrograms}
 use Rattle.embed_cmds.specs.Reading.{program_of}
 use Rattle.embed_cmds.specs.Tree.{End, Statements, Stop as StopStatement, Then as ThenStatement}
-use Rattle.shell_lines.specs.Lines.{LineCommand, count_or, ends_at, expression_from, expression_or_at, located, number_from, program_from, then_takes, token_at}
+use Rattle.shell_lines.specs.Lines.{LineCommand, count_or, ends_at, expression_from, expression_or_at, located_program, number_from, program_from, then_takes, token_at}
 use Rattle.shell_lines.proofs.TokenForms.{Ends, Form, Stop, Then, Tokens, ends_form, goes_on, then_form}
 
 drop_front : (front rest : Tokens) (k : ℕ) → length front ≡ k → drop k (front ++ rest) ≡ rest
@@ -31,9 +31,9 @@ record Takes (names before ts : Tokens) (n : ℕ) : Type 0 where
 
 module _ (law : ExactReading) (names : Tokens) where
   abbrev more_taken : Tokens → List ℕ → Tokens → ℕ
-  more_taken before t ts = viable names (before ++ t ∷ []) ts
+  more_taken before t ts = viable_tokens names (before ++ t ∷ []) ts
 
-  takes_by : (before : Tokens) (t : List ℕ) (ts : Tokens) → BeginsExpr names before → (b : Bool) → begins_some names (before ++ t ∷ []) ≡ b
+  takes_by : (before : Tokens) (t : List ℕ) (ts : Tokens) → BeginsExpr names before → (b : Bool) → begins_some_expression names (before ++ t ∷ []) ≡ b
       → (BeginsExpr names (before ++ t ∷ []) → Takes names (before ++ t ∷ []) ts (more_taken before t ts)) → Takes names before (t ∷ ts) (cond b (suc (more_taken before t ts)) 0)
   takes_by before t ts begun true e rest =
       let n = more_taken before t ts in
@@ -49,9 +49,9 @@ module _ (law : ExactReading) (names : Tokens) where
     longest = λ lt b. let never : ◌≡◌ {A = Bool} true false = sym ((law.begins names (before ++ t ∷ [])).1 b) ∙ e in cc;
   }
 
-  takes : (before ts : Tokens) → BeginsExpr names before → Takes names before ts (viable names before ts)
+  takes : (before ts : Tokens) → BeginsExpr names before → Takes names before ts (viable_tokens names before ts)
   takes before [] begun = record { within = omega arith; begins = subst (λ (us : Tokens). BeginsExpr names us) (sym (append-nil before)) begun; longest = λ lt. absurd (omega (arith, lt)) }
-  takes before (t ∷ ts) begun = takes_by before t ts begun (begins_some names (before ++ t ∷ [])) refl (λ more. takes (before ++ t ∷ []) ts more)
+  takes before (t ∷ ts) begun = takes_by before t ts begun (begins_some_expression names (before ++ t ∷ [])) refl (λ more. takes (before ++ t ∷ []) ts more)
 
   some_variable : IsExpr names (codes "$" ∷ codes "a" ∷ []) (Var (codes "a"))
   some_variable = higher (higher (higher (higher (higher (higher (variable (codes "a") refl))))))
@@ -61,16 +61,16 @@ module _ (law : ExactReading) (names : Tokens) where
     value_reader ts = then_takes (expression_from names ts k) (λ x. Ok (command x))
 
     value_is : (front rest : Tokens) (o : Option Expression) → length front ≡ k → expression_spelled names rest ≡ o
-        → value_reader (front ++ rest) ≡ then_takes (expression_or_at (k + viable names [] rest) o) (λ x. Ok (command x))
+        → value_reader (front ++ rest) ≡ then_takes (expression_or_at (k + viable_tokens names [] rest) o) (λ x. Ok (command x))
     value_is front rest o here e =
-        ap (λ (us : Tokens). then_takes (expression_or_at (k + viable names [] us) (expression_spelled names us)) (λ x. Ok (command x))) (drop_front front rest k here)
-        ∙ ap (λ (o : Option Expression). then_takes (expression_or_at (k + viable names [] rest) o) (λ x. Ok (command x))) e
+        ap (λ (us : Tokens). then_takes (expression_or_at (k + viable_tokens names [] us) (expression_spelled names us)) (λ x. Ok (command x))) (drop_front front rest k here)
+        ∙ ap (λ (o : Option Expression). then_takes (expression_or_at (k + viable_tokens names [] rest) o) (λ x. Ok (command x))) e
 
     value_spells : (front rest : Tokens) (c : LineCommand) → length front ≡ k → value_reader (front ++ rest) ≡ Ok c → Value names command rest c
     value_spells front rest c here e = by (expression_spelled names rest) refl
       where
         by : (o : Option Expression) → expression_spelled names rest ≡ o → Value names command rest c
-        by None is = let never : ◌≡◌ {A = Result LineCommand ℕ} (Err (k + viable names [] rest)) (Ok c) = sym (value_is front rest None here is) ∙ e in absurd cc
+        by None is = let never : ◌≡◌ {A = Result LineCommand ℕ} (Err (k + viable_tokens names [] rest)) (Ok c) = sym (value_is front rest None here is) ∙ e in absurd cc
         by (Some x) is =
             let same : ◌≡◌ {A = Result LineCommand ℕ} (Ok (command x)) (Ok c) = sym (value_is front rest (Some x) here is) ∙ e in
             (x, (law.expressions names rest x).0 is, cc)
@@ -84,10 +84,10 @@ module _ (law : ExactReading) (names : Tokens) where
         by : (o : Option Expression) → expression_spelled names rest ≡ o → (m : ℕ) × (n ≡ k + m) × Stop (Value names command) rest m
         by (Some x) is = let never : ◌≡◌ {A = Result LineCommand ℕ} (Ok (command x)) (Err n) = sym (value_is front rest (Some x) here is) ∙ e in absurd cc
         by None is =
-            let there : ◌≡◌ {A = Result LineCommand ℕ} (Err (k + viable names [] rest)) (Err n) = sym (value_is front rest None here is) ∙ e in
-            let same : k + viable names [] rest ≡ n = cc in
+            let there : ◌≡◌ {A = Result LineCommand ℕ} (Err (k + viable_tokens names [] rest)) (Err n) = sym (value_is front rest None here is) ∙ e in
+            let same : k + viable_tokens names [] rest ≡ n = cc in
             let h = takes [] rest (record { rest = codes "$" ∷ codes "a" ∷ []; whole = Var (codes "a"); spelled = some_variable }) in (
-              viable names [] rest,
+              viable_tokens names [] rest,
               sym same,
               record {
                 within = h.within;
@@ -119,10 +119,10 @@ module _ (law : ExactPrograms) (names : Tokens) (k : ℕ) (command : Statements 
   body_reader ts = then_takes (program_from names ts k) (λ p. Ok (command p))
 
   body_is : (front rest : Tokens) (r : Result Statements Tokens) → length front ≡ k → program_of names rest ≡ r
-      → body_reader (front ++ rest) ≡ then_takes (located (front ++ rest) r) (λ p. Ok (command p))
+      → body_reader (front ++ rest) ≡ then_takes (located_program (front ++ rest) r) (λ p. Ok (command p))
   body_is front rest r here e =
-      ap (λ (us : Tokens). then_takes (located (front ++ rest) (program_of names us)) (λ p. Ok (command p))) (drop_front front rest k here)
-      ∙ ap (λ (r : Result Statements Tokens). then_takes (located (front ++ rest) r) (λ p. Ok (command p))) e
+      ap (λ (us : Tokens). then_takes (located_program (front ++ rest) (program_of names us)) (λ p. Ok (command p))) (drop_front front rest k here)
+      ∙ ap (λ (r : Result Statements Tokens). then_takes (located_program (front ++ rest) r) (λ p. Ok (command p))) e
 
   body_spells : (front rest : Tokens) (c : LineCommand) → length front ≡ k → body_reader (front ++ rest) ≡ Ok c → Body names command rest c
   body_spells front rest c here e = by (program_of names rest) refl

@@ -12,7 +12,7 @@ use Rattle.call_table.specs.Table.{kind_named, row}
 use Rattle.call_table.specs.declared.kind.Kind.{Kind}
 use Rattle.call_table.specs.declared.kind.Kind.TheVariants as kinds_of
 use Rattle.watch_expr.specs.Laws.{ExactReading}
-use Rattle.watch_expr.specs.Spelling.{at_most, hex_number_of, is_word, most_number, number_of}
+use Rattle.watch_expr.specs.Spelling.{number_at_most, hex_number_of, is_word, most_number, number_of}
 use Rattle.embed_cmds.specs.Laws.{ExactPrograms}
 use Rattle.embed_cmds.specs.Reading.{word_of}
 use Rattle.shell_lines.specs.declared.command.Verb.{Verb}
@@ -35,7 +35,7 @@ either_small false o p n most h k e = k e
 no_number : (n most : ℕ) → ◌≡◌ {A = Option ℕ} None (Some n) → n ≤ most
 no_number n most e = absurd cc
 
-at_most_small : (most : ℕ) (o : Option ℕ) (n : ℕ) → at_most most o ≡ Some n → n ≤ most
+at_most_small : (most : ℕ) (o : Option ℕ) (n : ℕ) → number_at_most most o ≡ Some n → n ≤ most
 at_most_small most None n e = absurd cc
 at_most_small most (Some m) n e = elim (leb_tells m most) [
   | inl t ↦
@@ -50,8 +50,8 @@ unfolding number_of
 number_small word n e =
     let digits = drop 2 word in
     let value : Option ℕ = Some (digits_value 16 digits) in
-    either_small (bytes_eq (take 2 word) (codes "0x")) (hex_number_of digits) (at_most most_number (decimal_of word)) n most_number
-    (either_small (nat_lt 0 (length digits) && list_all is_ascii_hexdigit digits) (at_most most_number value) None n most_number (at_most_small most_number value n) (no_number n most_number))
+    either_small (bytes_eq (take 2 word) (codes "0x")) (hex_number_of digits) (number_at_most most_number (decimal_of word)) n most_number
+    (either_small (nat_lt 0 (length digits) && list_all is_ascii_hexdigit digits) (number_at_most most_number value) None n most_number (at_most_small most_number value n) (no_number n most_number))
     (at_most_small most_number (decimal_of word) n) e
 
 in_range : (least most : ℕ) (o : Option ℕ) (n : ℕ) → number_in_range least most o ≡ Some n → (o ≡ Some n) × (least ≤ n) × (n ≤ most)

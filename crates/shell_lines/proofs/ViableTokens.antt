@@ -5,10 +5,10 @@ use Rattle.std.proofs.lemmas.Bool.{ltb-true, ltb-false}
 use Rattle.std.proofs.lemmas.List.{take-append-drop}
 use Rattle.expression_text.specs.declared.error.ExprError.{ExprError}
 use Rattle.expression_text.specs.declared.error.ExprError.TheVariants.{Syntax, NoNode, TooDeep, Nested, NoMemory}
-use Rattle.watch_expr.specs.Computed.{expression_spelled, viable}
+use Rattle.watch_expr.specs.Computed.{expression_spelled, viable_tokens}
 use Rattle.watch_expr.specs.Grammar.{IsExpr, ParsedExpr, TakesExpr}
 use Rattle.watch_expr.specs.Laws.{ExactReading}
-use Rattle.watch_expr.specs.Lexing.{Lexed, texts}
+use Rattle.watch_expr.specs.Lexing.{LexedLine, token_texts}
 use Rattle.watch_expr.specs.Expression.{Expression, expression_of}
 use Rattle.shell_lines.specs.Lines.{expression_from, expression_or_at}
 use Rattle.shell_lines.specs.Seen.{ReadsAs}
@@ -40,19 +40,19 @@ stops_at law names ts from n le h short =
     let inside : n < length ts → n - from < length (drop from ts) = λ lt. omega (arith, length-drop from ts) in
     let behind : ((x : Expression) → IsExpr names (take (n - from) (drop from ts)) x → ⊥) ⊎ (n - from < length (drop from ts)) = elim short [ inl never ↦ inl never | inr lt ↦ inr (inside lt) ] in
     let none : expression_spelled names (drop from ts) ≡ None = none_whole law names (drop from ts) (n - from) h behind (expression_spelled names (drop from ts)) refl in
-    let count : from + viable names [] (drop from ts) ≡ n = rw (law.viable names (drop from ts) (n - from) h) (omega arith) in
-    ap (expression_or_at (from + viable names [] (drop from ts))) none ∙ ap (λ (m : ℕ). Err m) count
+    let count : from + viable_tokens names [] (drop from ts) ≡ n = rw (law.viable names (drop from ts) (n - from) h) (omega arith) in
+    ap (expression_or_at (from + viable_tokens names [] (drop from ts))) none ∙ ap (λ (m : ℕ). Err m) count
 
 -- all tokens are the expression
 pub whole_is : ExactReading → (names ts : List (List ℕ)) (from n : ℕ) (x : Expression) → length ts ≤ n → from ≤ n → TakesExpr names (drop from ts) (n - from) → IsExpr names (take (n - from) (drop from ts)) x → expression_from names ts from ≡ Ok x
 whole_is law names ts from n x all le h spelled =
     let count : n - from ≡ length (drop from ts) = omega (arith, length-drop from ts, h.within) in
     let taken : take (n - from) (drop from ts) ≡ drop from ts = ap (λ (m : ℕ). take m (drop from ts)) count ∙ take-length (drop from ts) in
-    ap (expression_or_at (from + viable names [] (drop from ts))) ((law.expressions names (drop from ts) x).1 (subst (λ (u : List (List ℕ)). IsExpr names u x) taken spelled))
+    ap (expression_or_at (from + viable_tokens names [] (drop from ts))) ((law.expressions names (drop from ts) x).1 (subst (λ (u : List (List ℕ)). IsExpr names u x) taken spelled))
 
 -- what parsing refuses
-pub refused_as : ExactReading → (names : List (List ℕ)) (line : Lexed) (from : ℕ) (why : ExprError) → ParsedExpr names line from (Err why) → ReadsAs expression_of line (expression_from names (texts line) from) (Err why)
-refused_as law names line from (Syntax column) h = (h.0, stops_at law names (texts line) from h.0 h.2 h.3 (inl h.4), h.1)
+pub refused_as : ExactReading → (names : List (List ℕ)) (line : LexedLine) (from : ℕ) (why : ExprError) → ParsedExpr names line from (Err why) → ReadsAs expression_of line (expression_from names (token_texts line) from) (Err why)
+refused_as law names line from (Syntax column) h = (h.0, stops_at law names (token_texts line) from h.0 h.2 h.3 (inl h.4), h.1)
 refused_as law names line from NoMemory h = tt
 refused_as law names line from NoNode h = h
 refused_as law names line from TooDeep h = h

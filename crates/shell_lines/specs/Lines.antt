@@ -1,13 +1,13 @@
 -- The commands that lines spell.
 use Rattle.std.specs.Prelude.{ℕ, ◌+◌, ◌-◌, Bool, false, ◌&&◌, nat_le, is_none, List, [], ◌∷◌, length, drop, codes, bytes_eq, position, slice_get, Option, Some, None, option_and_then, option_map, Result, Ok, Err, if◌then◌else◌}
 use Rattle.std.specs.List.{find}
-use Rattle.watch_expr.specs.Computed.{expression_spelled, viable}
+use Rattle.watch_expr.specs.Computed.{expression_spelled, viable_tokens}
 use Rattle.call_table.specs.Table.{kind_named}
 use Rattle.call_table.specs.declared.kind.Kind.{Kind}
 use Rattle.watch_expr.specs.Faulty.{is_nested, lacks_node, names_variable}
 use Rattle.watch_expr.specs.Spelling.{is_word, most_number, number_of}
 use Rattle.watch_expr.specs.Expression.{Expression}
-use Rattle.embed_cmds.specs.Faulty.{lacks, nests}
+use Rattle.embed_cmds.specs.Faulty.{lacks_names, nests_aggregates}
 use Rattle.embed_cmds.specs.Reading.{program_of, word_of}
 use Rattle.embed_cmds.specs.Tree.{Statements}
 use Rattle.shell_lines.specs.declared.command.Verb.{Verb}
@@ -120,16 +120,16 @@ expression_or_at n (Some x) = Ok x
 
 -- all tokens from this one on are an expression
 abbrev pub expression_from : List (List ℕ) → List (List ℕ) → ℕ → Result Expression ℕ
-expression_from names texts from = expression_or_at (from + viable names [] (drop from texts)) (expression_spelled names (drop from texts))
+expression_from names texts from = expression_or_at (from + viable_tokens names [] (drop from texts)) (expression_spelled names (drop from texts))
 
 -- where a program was read or not, of all these tokens
-abbrev pub located : List (List ℕ) → Result Statements (List (List ℕ)) → Result Statements ℕ
-located texts (Ok program) = Ok program
-located texts (Err left) = Err (length texts - length left)
+abbrev pub located_program : List (List ℕ) → Result Statements (List (List ℕ)) → Result Statements ℕ
+located_program texts (Ok program) = Ok program
+located_program texts (Err left) = Err (length texts - length left)
 
 -- all tokens from this one on are a program
 abbrev pub program_from : List (List ℕ) → List (List ℕ) → ℕ → Result Statements ℕ
-program_from names texts from = located texts (program_of names (drop from texts))
+program_from names texts from = located_program texts (program_of names (drop from texts))
 
 -- a count that may be left out
 abbrev pub count_or : ℕ → ℕ → ℕ → List (List ℕ) → Result ℕ ℕ
@@ -171,7 +171,7 @@ has_nested (Print x) = is_nested x
 has_nested (Watch x) = is_nested x
 has_nested (Break scope kind) = false
 has_nested (Delete n) = false
-has_nested (Do n program) = nests program
+has_nested (Do n program) = nests_aggregates program
 has_nested ListPoints = false
 has_nested (SetTo name x) = is_nested x
 has_nested ListVariables = false
@@ -195,7 +195,7 @@ names_none (Print x) = lacks_node false x
 names_none (Watch x) = lacks_node false x
 names_none (Break scope kind) = scopes_none scope
 names_none (Delete n) = false
-names_none (Do n program) = lacks program
+names_none (Do n program) = lacks_names program
 names_none ListPoints = false
 names_none (SetTo name x) = lacks_node false x
 names_none ListVariables = false

@@ -2,7 +2,7 @@
 use Rattle.std.specs.Prelude.{ℕ, ◌+◌, Bool, true, nat_lt, ◌==◌, List, [], ◌∷◌, length, Result, Ok, Err, if◌then◌else◌}
 use Rattle.std.specs.List.{list_all}
 use Rattle.watch_expr.specs.Computed.{cut_tokens}
-use Rattle.watch_expr.specs.Lexing.{Lexed, Placed, column_at, is_blank, is_too_deep, texts}
+use Rattle.watch_expr.specs.Lexing.{LexedLine, PlacedToken, column_of_token, is_blank, is_too_deep, token_texts}
 use Rattle.shell_lines.specs.Lines.{LineCommand, command_spelled, has_nested, names_none, watches_variable}
 use Rattle.shell_lines.specs.declared.refusal.LineRefusal.{LineRefusal}
 use Rattle.shell_lines.specs.declared.refusal.LineRefusal.TheVariants as refusal
@@ -32,23 +32,23 @@ is_silent [] = true
 is_silent (b ∷ bytes) = if is_blank b then is_silent bytes else b == 35
 
 -- a command of the grammar, unless something is wrong with it
-abbrev pub judged : LineCommand → LineMeaning
-judged command =
+abbrev pub judged_command : LineCommand → LineMeaning
+judged_command command =
     if has_nested command then Refuses refusal.Nested
     else if names_none command then Refuses refusal.NoNode
     else if watches_variable command then Refuses refusal.NamesVariable
     else Does command
 
-abbrev pub line_by_command : Lexed → Result LineCommand ℕ → LineMeaning
-line_by_command tokens (Err n) = Refuses (refusal.Syntax (column_at tokens n))
-line_by_command tokens (Ok command) = judged command
+abbrev pub line_by_command : LexedLine → Result LineCommand ℕ → LineMeaning
+line_by_command tokens (Err n) = Refuses (refusal.Syntax (column_of_token tokens n))
+line_by_command tokens (Ok command) = judged_command command
 
-abbrev pub by_tokens : List (List ℕ) → Lexed → LineMeaning
+abbrev pub by_tokens : List (List ℕ) → LexedLine → LineMeaning
 by_tokens names tokens =
-    if is_too_deep (texts tokens) then Refuses refusal.TooDeep
-    else line_by_command tokens (command_spelled names (texts tokens))
+    if is_too_deep (token_texts tokens) then Refuses refusal.TooDeep
+    else line_by_command tokens (command_spelled names (token_texts tokens))
 
-abbrev pub by_cut : List (List ℕ) → List ℕ → Result (List Placed) ℕ → LineMeaning
+abbrev pub by_cut : List (List ℕ) → List ℕ → Result (List PlacedToken) ℕ → LineMeaning
 by_cut names line (Err column) = Refuses (refusal.Syntax column)
 by_cut names line (Ok tokens) = by_tokens names (record { tokens = tokens; end = length line + 1 })
 

@@ -2,7 +2,7 @@
 ghost use Rattle.std.specs.Prelude.{◌≡◌, ◌<◌, ◌≤◌, ◌^◌, IfOk, Ok, length, not, true};
 ghost use Rattle.std.specs.List.{find};
 ghost use Rattle.shell_lines.specs.Lines.{has_nested, names_none, scopes_none, watches_variable};
-ghost use Rattle.shell_lines.specs.Meaning.{is_silent, judged, line_meaning, trimmed, without_end_blanks, without_front_blanks};
+ghost use Rattle.shell_lines.specs.Meaning.{is_silent, judged_command, line_meaning, trimmed, without_end_blanks, without_front_blanks};
 ghost use Rattle.shell_lines.specs.declared.line.Line.TheVariants.{Silent};
 ghost use Rattle.shell_lines.specs.Seen.{SpellsCommand, command, meaning, scope};
 ghost use Rattle.watch_expr.specs.Lexing.{is_blank};
@@ -16,7 +16,7 @@ use std::alloc::{AllocError, Global};
 use watch_expr::{ExprError, find_faults, is_blank, lex};
 
 // How many bytes a line has at most.
-const MOST_BYTES: usize = 4096;
+const MOST_LINE: usize = 4096;
 
 /// What a line is: nothing, a line that is refused, or a command.
 #[derive(Drop)]
@@ -32,7 +32,7 @@ pub fn read_line(alloc: Global, bytes: &[u8], names: &[Bytes]) -> Result<Line, A
     ensures line { IfOk result (λ line. meaning line ≡ line_meaning names.now bytes.now) }
     ensures silent { length bytes.now ≤ 4096 → is_silent bytes.now ≡ true → result ≡ Ok Silent }
 {
-    if bytes.len() > MOST_BYTES {
+    if bytes.len() > MOST_LINE {
         return Ok(Line::Refused(LineRefusal::TooLong));
     }
     if is_silent(bytes) {
@@ -126,7 +126,7 @@ fn watches_variable(spelled: &DebuggerCommand) -> bool
 
 // A command of the grammar, unless something is wrong with it.
 fn judge(spelled: DebuggerCommand) -> Line
-    ensures { meaning result ≡ judged (command spelled) }
+    ensures { meaning result ≡ judged_command (command spelled) }
 {
     if has_nested(&spelled) {
         Line::Refused(LineRefusal::Nested)

@@ -3,7 +3,7 @@ ghost use Rattle.std.specs.Prelude.{◌≡◌, ◌<◌, ◌^◌, bytes_eq, lengt
 ghost use Rattle.call_table.specs.Table.{kind_named};
 ghost use Rattle.shell_lines.specs.Lines.{count_or, ends_at, expression_from, node_named, number_from, scope_named, token_at, variable_at};
 ghost use Rattle.shell_lines.specs.Seen.{ReadsAs, ReadsCommand, command, scope};
-ghost use Rattle.watch_expr.specs.Lexing.{texts};
+ghost use Rattle.watch_expr.specs.Lexing.{token_texts};
 ghost use Rattle.watch_expr.specs.Expression.{expression_of};
 
 use crate::command::{DebuggerCommand, WhichNodes};
@@ -19,7 +19,7 @@ pub(crate) fn read_number(
     least: u64,
     most: u64,
 ) -> Result<u64, ExprError>
-    ensures { ReadsAs (λ v. v) tokens.now (token_at (number_from least most) (texts tokens.now) n) result }
+    ensures { ReadsAs (λ v. v) tokens.now (token_at (number_from least most) (token_texts tokens.now) n) result }
 {
     match tokens.number(n) {
         Some(number) if least <= number && number <= most => Ok(number),
@@ -34,7 +34,7 @@ pub(crate) fn read_count(
     most: u64,
     absent: u64,
 ) -> Result<u64, ExprError>
-    ensures { ReadsAs (λ v. v) tokens.now (count_or least most absent (texts tokens.now)) result }
+    ensures { ReadsAs (λ v. v) tokens.now (count_or least most absent (token_texts tokens.now)) result }
 {
     if tokens.count() <= 1 {
         Ok(absent)
@@ -50,7 +50,7 @@ pub(crate) fn read_node(
     names: &[Bytes],
 ) -> Result<Option<u32>, ExprError>
     requires { length names.now < 2 ^ 32 }
-    ensures { ReadsAs (λ v. v) tokens.now (token_at (node_named names.now) (texts tokens.now) n) result }
+    ensures { ReadsAs (λ v. v) tokens.now (token_at (node_named names.now) (token_texts tokens.now) n) result }
 {
     match tokens.text(n) {
         Some(text) if is_word(text) => Ok(place_of(text, names)),
@@ -65,7 +65,7 @@ pub(crate) fn read_scope(
     names: &[Bytes],
 ) -> Result<WhichNodes, ExprError>
     requires { length names.now < 2 ^ 32 }
-    ensures { ReadsAs scope tokens.now (token_at (scope_named names.now) (texts tokens.now) n) result }
+    ensures { ReadsAs scope tokens.now (token_at (scope_named names.now) (token_texts tokens.now) n) result }
 {
     let place = tokens.text(n).and_then(|text| scope_named(text, names));
     place.ok_or(ExprError::Syntax(tokens.column(n)))
@@ -86,7 +86,7 @@ fn scope_named(text: &[u8], names: &[Bytes]) -> Option<WhichNodes>
 
 /// The kind of call that token n names.
 pub(crate) fn read_kind(tokens: &Tokens<'_>, n: usize) -> Result<Kind, ExprError>
-    ensures { ReadsAs (λ v. v) tokens.now (token_at kind_named (texts tokens.now) n) result }
+    ensures { ReadsAs (λ v. v) tokens.now (token_at kind_named (token_texts tokens.now) n) result }
 {
     let kind = tokens.text(n).and_then(Kind::from_name);
     kind.ok_or(ExprError::Syntax(tokens.column(n)))
@@ -107,7 +107,7 @@ pub(crate) fn read_variable(
     tokens: &Tokens<'_>,
     n: usize,
 ) -> Result<Bytes, ExprError>
-    ensures { ReadsAs (λ v. v) tokens.now (variable_at (texts tokens.now) n) result }
+    ensures { ReadsAs (λ v. v) tokens.now (variable_at (token_texts tokens.now) n) result }
 {
     if tokens.text(n) != Some(b"$".as_slice()) {
         return Err(ExprError::Syntax(tokens.column(n)));
@@ -126,7 +126,7 @@ pub(crate) fn read_expression(
     names: &[Bytes],
 ) -> Result<Expr, ExprError>
     requires { length names.now < 2 ^ 32 }
-    ensures { ReadsAs expression_of tokens.now (expression_from names.now (texts tokens.now) from) result }
+    ensures { ReadsAs expression_of tokens.now (expression_from names.now (token_texts tokens.now) from) result }
 {
     watch_expr::laws::exact_reading();
     let (expression, next) = parse(alloc, tokens, from, names)?;
@@ -142,7 +142,7 @@ pub(crate) fn ending(
     n: usize,
     spelled: DebuggerCommand,
 ) -> Result<DebuggerCommand, ExprError>
-    ensures { ReadsCommand tokens.now (ends_at (texts tokens.now) n (command spelled)) result }
+    ensures { ReadsCommand tokens.now (ends_at (token_texts tokens.now) n (command spelled)) result }
 {
     if tokens.count() <= n {
         Ok(spelled)

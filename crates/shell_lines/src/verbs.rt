@@ -3,7 +3,7 @@ ghost use Rattle.std.specs.Prelude.{◌≡◌, ◌<◌, ◌^◌, length};
 ghost use Rattle.shell_lines.specs.Lines.{command_of_verb, command_spelled, token_at, verb_of};
 ghost use Rattle.shell_lines.specs.declared.command.Verb.TheVariants as verb;
 ghost use Rattle.shell_lines.specs.Seen.{ReadsAs, ReadsCommand};
-ghost use Rattle.watch_expr.specs.Lexing.{texts};
+ghost use Rattle.watch_expr.specs.Lexing.{token_texts};
 
 use crate::command::{DebuggerCommand, Verb};
 use crate::read::{
@@ -71,7 +71,7 @@ pub(crate) fn read_command(
     names: &[Bytes],
 ) -> Result<DebuggerCommand, ExprError>
     requires { length names.now < 2 ^ 32 }
-    ensures { ReadsCommand tokens.now (command_spelled names.now (texts tokens.now)) result }
+    ensures { ReadsCommand tokens.now (command_spelled names.now (token_texts tokens.now)) result }
 {
     let verb = read_verb(tokens)?;
     read_behind(alloc, verb, tokens, names)
@@ -85,7 +85,7 @@ fn read_behind(
     names: &[Bytes],
 ) -> Result<DebuggerCommand, ExprError>
     requires { length names.now < 2 ^ 32 }
-    ensures { ReadsCommand tokens.now (command_of_verb names.now (texts tokens.now) verb) result }
+    ensures { ReadsCommand tokens.now (command_of_verb names.now (token_texts tokens.now) verb) result }
 {
     match verb {
         Verb::Goto => {
@@ -129,7 +129,7 @@ fn read_behind(
 // A node, an address and a length.
 fn read_mem(tokens: &Tokens<'_>, names: &[Bytes]) -> Result<DebuggerCommand, ExprError>
     requires { length names.now < 2 ^ 32 }
-    ensures { ReadsCommand tokens.now (command_of_verb names.now (texts tokens.now) verb.Mem) result }
+    ensures { ReadsCommand tokens.now (command_of_verb names.now (token_texts tokens.now) verb.Mem) result }
 {
     let node = read_node(tokens, 1, names)?;
     let addr = read_number(tokens, 2, 0, MOST_NUMBER)?;
@@ -140,7 +140,7 @@ fn read_mem(tokens: &Tokens<'_>, names: &[Bytes]) -> Result<DebuggerCommand, Exp
 // Which nodes, and the kind of call.
 fn read_break(tokens: &Tokens<'_>, names: &[Bytes]) -> Result<DebuggerCommand, ExprError>
     requires { length names.now < 2 ^ 32 }
-    ensures { ReadsCommand tokens.now (command_of_verb names.now (texts tokens.now) verb.Break) result }
+    ensures { ReadsCommand tokens.now (command_of_verb names.now (token_texts tokens.now) verb.Break) result }
 {
     let place = read_scope(tokens, 1, names)?;
     let kind = read_kind(tokens, 2)?;
@@ -154,7 +154,7 @@ fn read_do(
     names: &[Bytes],
 ) -> Result<DebuggerCommand, ExprError>
     requires { length names.now < 2 ^ 32 }
-    ensures { ReadsCommand tokens.now (command_of_verb names.now (texts tokens.now) verb.Do) result }
+    ensures { ReadsCommand tokens.now (command_of_verb names.now (token_texts tokens.now) verb.Do) result }
 {
     let number = read_number(tokens, 1, 0, MOST_NUMBER)?;
     let program = parse_program(alloc, tokens, 2, names)?;
@@ -168,7 +168,7 @@ fn read_set(
     names: &[Bytes],
 ) -> Result<DebuggerCommand, ExprError>
     requires { length names.now < 2 ^ 32 }
-    ensures { ReadsCommand tokens.now (command_of_verb names.now (texts tokens.now) verb.Set) result }
+    ensures { ReadsCommand tokens.now (command_of_verb names.now (token_texts tokens.now) verb.Set) result }
 {
     let name = read_variable(alloc, tokens, 1)?;
     let value = read_expression(alloc, tokens, 3, names)?;
@@ -177,7 +177,7 @@ fn read_set(
 
 // The verb in front.
 fn read_verb(tokens: &Tokens<'_>) -> Result<Verb, ExprError>
-    ensures { ReadsAs (λ v. v) tokens.now (token_at verb_of (texts tokens.now) 0) result }
+    ensures { ReadsAs (λ v. v) tokens.now (token_at verb_of (token_texts tokens.now) 0) result }
 {
     let verb = tokens.text(0).and_then(named_verb);
     verb.ok_or(ExprError::Syntax(tokens.column(0)))

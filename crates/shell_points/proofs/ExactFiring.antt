@@ -9,16 +9,16 @@ use Rattle.std.specs.Prelude.{codes, negsuc, pos}
 use Rattle.embed_cmds.specs.Running.{ProgramState}
 use Rattle.embed_cmds.specs.Tree.{Statements}
 use Rattle.embed_cmds.specs.Variables.{Variable}
-use Rattle.group_state.specs.Place.{events}
+use Rattle.group_state.specs.Place.{events_of_replays}
 use Rattle.group_state.specs.Seen.{nodes_at}
 use Rattle.proc_replay.specs.Replaying.{Replaying}
 use Rattle.watch_expr.specs.Value.{equal}
 use Rattle.watch_expr.specs.View.{Node}
-use Rattle.shell_points.specs.Firing.{firing_line, firing_lines, has_due, is_due_at, is_unchanged, place_at, said_at, value_at_position}
-use Rattle.shell_points.specs.Laws.{ExactFiring, IsContinued, IsLastDue, IsNextDue, NoneBelow, ends, stops}
+use Rattle.shell_points.specs.Firing.{firing_line, firing_lines, has_due_point, is_due_at, is_unchanged, place_at, point_said_at, value_at_position}
+use Rattle.shell_points.specs.Laws.{ExactFiring, IsContinuedTo, IsLastDue, IsNextDue, NoPointBelow, ends, stops}
 use Rattle.shell_points.specs.Points.{Point}
 use Rattle.shell_points.specs.Returning.{last_due}
-use Rattle.shell_points.specs.Walking.{Walk, fired, quiet, treat, treat_all, walk_ended, walk_on, walk_over}
+use Rattle.shell_points.specs.Walking.{Walk, fired_point, quiet_program, treat_point, treat_points, walk_ended, walk_on, walk_over}
 use Rattle.shell_points.proofs.LastFiring.{empty, none_at_start, silent_is}
 use Rattle.shell_points.proofs.PointWalks.{rests_here}
 
@@ -89,7 +89,7 @@ either_side a b = elim (leb_tells a b) [
 
 module _ (start : List Replaying) (points : List Point) where
   abbrev due : ℕ → Bool
-  due k = has_due start points k
+  due k = has_due_point start points k
 
   some_below : (k : ℕ) → due k ≡ true → 1 ≤ k
   some_below zero is = absurd (true_or_false (due 0) is (none_at_start start points))
@@ -121,11 +121,11 @@ module _ (start : List Replaying) (points : List Point) where
             ];
           }
 
-  none_is : (at : ℕ) → last_due start points at ≡ None → NoneBelow start points at
+  none_is : (at : ℕ) → last_due start points at ≡ None → NoPointBelow start points at
   none_is zero e m lt = absurd (omega (arith, lt))
   none_is (suc n) e m lt = by (due n) refl e (none_is n)
     where
-      by : (b : Bool) → due n ≡ b → cond b (Some n) (last_due start points n) ≡ None → (last_due start points n ≡ None → NoneBelow start points n) → due m ≡ false
+      by : (b : Bool) → due n ≡ b → cond b (Some n) (last_due start points n) ≡ None → (last_due start points n ≡ None → NoPointBelow start points n) → due m ≡ false
       by true is e lower = absurd cc
       by false is e lower = elim (either_side m n) [
         | inl less ↦ lower e m less
@@ -145,7 +145,7 @@ module _ (start : List Replaying) (points : List Point) where
       by None e = absurd (true_or_false (due k) h.due (none_is at e k h.below))
       by (Some j) e = ap (λ (n : ℕ). Some n) (one_last at j k (last_is at j e) h)
 
-  none_again : (at : ℕ) → NoneBelow start points at → last_due start points at ≡ None
+  none_again : (at : ℕ) → NoPointBelow start points at → last_due start points at ≡ None
   none_again at none = by (last_due start points at) refl
     where
       by : (o : Option ℕ) → last_due start points at ≡ o → o ≡ None
@@ -171,69 +171,69 @@ abbrev adds : ProgramState → List ℕ → Bool → ProgramState
 adds r line asks = record { variables = r.variables; text = r.text ++ line; stopped = r.stopped || asks }
 
 -- what a point without a program does
-bare : (nodes : List Node) (r : ProgramState) (line : List ℕ) (b : Bool) (program : Option Statements) → program ≡ None → cond b (fired nodes r line program) r ≡ adds r (cond b line []) b
+bare : (nodes : List Node) (r : ProgramState) (line : List ℕ) (b : Bool) (program : Option Statements) → program ≡ None → cond b (fired_point nodes r line program) r ≡ adds r (cond b line []) b
 bare nodes r line b (Some body) e = absurd cc
 bare nodes r line true None e = λ i. record { variables = r.variables; text = r.text ++ line; stopped = sym (or_true r.stopped) i }
 bare nodes r line false None e = λ i. record { variables = r.variables; text = sym (append-nil r.text) i; stopped = sym (or_false r.stopped) i }
 
 module _ (start : List Replaying) (k : ℕ) where
-  one_bare : (r : ProgramState) (p : Point) → p.program ≡ None → treat start k r p ≡ adds r (said_at start k p) (is_due_at start k p.trigger)
+  one_bare : (r : ProgramState) (p : Point) → p.program ≡ None → treat_point start k r p ≡ adds r (point_said_at start k p) (is_due_at start k p.trigger)
   one_bare r p e = bare (nodes_at (place_at start k)) r (firing_line start k p.number p.trigger) (is_due_at start k p.trigger) p.program e
 
-  all_bare : (points : List Point) (r : ProgramState) → AllByRecursion (λ (p : Point). p.program ≡ None) points → treat_all start k r points ≡ adds r (firing_lines start points k) (has_due start points k)
+  all_bare : (points : List Point) (r : ProgramState) → AllByRecursion (λ (p : Point). p.program ≡ None) points → treat_points start k r points ≡ adds r (firing_lines start points k) (has_due_point start points k)
   all_bare [] r none = λ i. record { variables = r.variables; text = sym (append-nil r.text) i; stopped = sym (or_false r.stopped) i }
   all_bare (p ∷ points) r none =
-      let line = said_at start k p in
+      let line = point_said_at start k p in
       let first = is_due_at start k p.trigger in
-      ap (λ (q : ProgramState). treat_all start k q points) (one_bare r p none.0) ∙ all_bare points (adds r line first) none.1
+      ap (λ (q : ProgramState). treat_points start k q points) (one_bare r p none.0) ∙ all_bare points (adds r line first) none.1
       ∙ (λ i. record {
         variables = r.variables;
         text = append_assoc r.text line (firing_lines start points k) i;
-        stopped = or_assoc r.stopped first (has_due start points k) i;
+        stopped = or_assoc r.stopped first (has_due_point start points k) i;
       })
 
 module _ (start : List Replaying) (points : List Point) where
   abbrev After : ℕ → ℕ → List ℕ → Type 0
-  After at k text = IsContinued start points at k text
+  After at k text = IsContinuedTo start points at k text
 
-  later : (at k : ℕ) → has_due start points (suc at) ≡ false → IsNextDue start points (suc at) k → IsNextDue start points at k
+  later : (at k : ℕ) → has_due_point start points (suc at) ≡ false → IsNextDue start points (suc at) k → IsNextDue start points at k
   later at k none h = record {
     after = omega (arith, h.after);
     within = h.within;
     due = h.due;
     none_between = λ m low high. elim (either_side m (suc at)) [
       | inl lt ↦ absurd (omega (arith, low, lt))
-      | inr ge ↦ elim ge [ inl same ↦ ap (λ (j : ℕ). has_due start points j) same ∙ none | inr gt ↦ h.none_between m gt high ]
+      | inr ge ↦ elim ge [ inl same ↦ ap (λ (j : ℕ). has_due_point start points j) same ∙ none | inr gt ↦ h.none_between m gt high ]
     ];
   }
 
-  later_on : (at : ℕ) → has_due start points (suc at) ≡ false → {k : ℕ} {text : List ℕ} → After (suc at) k text → After at k text
+  later_on : (at : ℕ) → has_due_point start points (suc at) ≡ false → {k : ℕ} {text : List ℕ} → After (suc at) k text → After at k text
   later_on at none (stops k h) = stops k (later at k none h)
   later_on at none (ends h) = ends (λ m low high. elim (either_side m (suc at)) [
     | inl lt ↦ absurd (omega (arith, low, lt))
-    | inr ge ↦ elim ge [ inl same ↦ ap (λ (j : ℕ). has_due start points j) same ∙ none | inr gt ↦ h m gt high ]
+    | inr ge ↦ elim ge [ inl same ↦ ap (λ (j : ℕ). has_due_point start points j) same ∙ none | inr gt ↦ h m gt high ]
   ])
 
   one_next : (at j k : ℕ) → IsNextDue start points at j → IsNextDue start points at k → j ≡ k
   one_next at j k h i = elim (either_side j k) [
-    | inl lt ↦ absurd (true_or_false (has_due start points j) h.due (i.none_between j h.after lt))
-    | inr ge ↦ elim ge [ inl same ↦ same | inr gt ↦ absurd (true_or_false (has_due start points k) i.due (h.none_between k i.after gt)) ]
+    | inl lt ↦ absurd (true_or_false (has_due_point start points j) h.due (i.none_between j h.after lt))
+    | inr ge ↦ elim ge [ inl same ↦ same | inr gt ↦ absurd (true_or_false (has_due_point start points k) i.due (h.none_between k i.after gt)) ]
   ]
 
   one_end : (at : ℕ) → {j k : ℕ} {said text : List ℕ} → After at j said → After at k text → (j ≡ k) × (said ≡ text)
   one_end at (stops j h) (stops k i) = let same = one_next at j k h i in (same, ap (firing_lines start points) same)
-  one_end at (stops j h) (ends none) = absurd (true_or_false (has_due start points j) h.due (none j h.after h.within))
-  one_end at (ends none) (stops k i) = absurd (true_or_false (has_due start points k) i.due (none k i.after i.within))
+  one_end at (stops j h) (ends none) = absurd (true_or_false (has_due_point start points j) h.due (none j h.after h.within))
+  one_end at (ends none) (stops k i) = absurd (true_or_false (has_due_point start points k) i.due (none k i.after i.within))
   one_end at (ends none) (ends also) = (refl, refl)
 
   module _ (none : AllByRecursion (λ (p : Point). p.program ≡ None) points) (variables : List Variable) where
     abbrev Comes : ℕ → Walk → Type 0
     Comes at w = (k : ℕ) × (text : List ℕ) × (w ≡ walk_ended k variables text) × After at k text
 
-    comes : (left at : ℕ) → at + left ≡ length (events start) → Comes at (walk_over start points at left variables [])
+    comes : (left at : ℕ) → at + left ≡ length (events_of_replays start) → Comes at (walk_over start points at left variables [])
     comes zero at all =
-        let last : at ≡ length (events start) = omega (arith, all) in (
-          length (events start),
+        let last : at ≡ length (events_of_replays start) = omega (arith, all) in (
+          length (events_of_replays start),
           codes "end\n",
           ap (λ (k : ℕ). walk_ended k variables (codes "end\n")) last,
           ends (λ m low high. absurd (omega (arith, low, high, last))),
@@ -241,12 +241,12 @@ module _ (start : List Replaying) (points : List Point) where
     comes (suc left) at all =
         let next = suc at in
         let rest = walk_over start points next left in
-        let did : walk_on rest next [] (treat_all start next (quiet variables) points) ≡ walk_on rest next [] (adds (quiet variables) (firing_lines start points next) (has_due start points next)) =
-        ap (walk_on rest next []) (all_bare start next points (quiet variables) none) in
-        by (has_due start points next) refl did (comes left next (omega (arith, all)))
+        let did : walk_on rest next [] (treat_points start next (quiet_program variables) points) ≡ walk_on rest next [] (adds (quiet_program variables) (firing_lines start points next) (has_due_point start points next)) =
+        ap (walk_on rest next []) (all_bare start next points (quiet_program variables) none) in
+        by (has_due_point start points next) refl did (comes left next (omega (arith, all)))
       where
-        by : (b : Bool) → has_due start points (suc at) ≡ b
-            → walk_over start points at (suc left) variables [] ≡ walk_on (walk_over start points (suc at) left) (suc at) [] (adds (quiet variables) (firing_lines start points (suc at)) b)
+        by : (b : Bool) → has_due_point start points (suc at) ≡ b
+            → walk_over start points at (suc left) variables [] ≡ walk_on (walk_over start points (suc at) left) (suc at) [] (adds (quiet_program variables) (firing_lines start points (suc at)) b)
             → Comes (suc at) (walk_over start points (suc at) left variables []) → Comes at (walk_over start points at (suc left) variables [])
         by true is did further = (
           suc at,
@@ -264,15 +264,15 @@ module _ (start : List Replaying) (points : List Point) where
             let rest = walk_over start points next left in
             let silent : firing_lines start points next ≡ [] = none_said (firing_lines start points next) (silent_is start points next ∙ ap not is) in
             let on : walk_over start points at (suc left) variables [] ≡ rest variables [] =
-            did ∙ ap (λ (lines : List ℕ). walk_on rest next [] (adds (quiet variables) lines false)) silent
-            ∙ rests_here rest next [] (adds (quiet variables) [] false) refl (omega arith) in
+            did ∙ ap (λ (lines : List ℕ). walk_on rest next [] (adds (quiet_program variables) lines false)) silent
+            ∙ rests_here rest next [] (adds (quiet_program variables) [] false) refl (omega arith) in
             (further.0, further.1, on ∙ further.2, later_on at is further.3)
 
   comes_to : (at : ℕ) (variables : List Variable) (k : ℕ) (text : List ℕ) → AllByRecursion (λ (p : Point). p.program ≡ None) points
-      → at ≤ length (events start) → (walk_over start points at (length (events start) - at) variables [] ≡ walk_ended k variables text) ↔ After at k text
+      → at ≤ length (events_of_replays start) → (walk_over start points at (length (events_of_replays start) - at) variables [] ≡ walk_ended k variables text) ↔ After at k text
   comes_to at variables k text none within =
-      let walk = walk_over start points at (length (events start) - at) variables [] in
-      let w = comes none variables (length (events start) - at) at (omega (arith, within)) in (
+      let walk = walk_over start points at (length (events_of_replays start) - at) variables [] in
+      let w = comes none variables (length (events_of_replays start) - at) at (omega (arith, within)) in (
         λ (e : walk ≡ walk_ended k variables text).
             let one : walk_ended w.0 variables w.1 ≡ walk_ended k variables text = sym w.2 ∙ e in
             subst (λ (v : Walk). After at v.at v.text) one w.3,

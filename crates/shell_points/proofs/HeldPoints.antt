@@ -5,7 +5,7 @@ use Rattle.std.specs.List.{flat_map, list_any, position, position_or_len, prefix
 use Rattle.std.proofs.lemmas.List.{length-map}
 use Rattle.std.proofs.lemmas.List.{drop_more}
 use Rattle.embed_cmds.specs.declared.program.Program.{Program}
-use Rattle.embed_cmds.specs.Tree.{body}
+use Rattle.embed_cmds.specs.Tree.{program_body}
 use Rattle.shell_points.specs.declared.point.Point.{Point as Held}
 use Rattle.shell_points.specs.Points.{Point, has_point, place_of_point, point_text, with_program, without_point}
 use Rattle.shell_points.specs.Seen.{point}
@@ -45,7 +45,7 @@ listed text next whole ps i p d below same is so_far =
 
 -- the point at a place has a program
 pub put_same : (ps : List Held) (k : ℕ) (e : Held) (p : Program) → k < length ps → get_or ps k e ≡ e
-    → map {A = Held} point (slice_set ps k (record { number = e.number; text = e.text; trigger = e.trigger; program = Some p })) ≡ with_program (map {A = Held} point ps) k (body p)
+    → map {A = Held} point (slice_set ps k (record { number = e.number; text = e.text; trigger = e.trigger; program = Some p })) ≡ with_program (map {A = Held} point ps) k (program_body p)
 put_same [] k e p within here = absurd (omega (arith, within))
 put_same (q ∷ ps) zero e p within here = ap (λ (r : Held). point (record { number = r.number; text = r.text; trigger = r.trigger; program = Some p }) ∷ map {A = Held} point ps) (sym here)
 put_same (q ∷ ps) (suc k) e p within here = ap (λ (rest : List Point). point q ∷ rest) (put_same ps k e p (omega (arith, within)) here)

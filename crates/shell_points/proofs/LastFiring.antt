@@ -4,27 +4,27 @@ use Rattle.std.specs.Prelude.{codes}
 use Rattle.std.proofs.lemmas.Bool.{cases_Bool, eqb-true}
 use Rattle.std.proofs.lemmas.List.{drop_more}
 use Rattle.group_state.specs.declared.event.GroupEvent.{GroupEvent}
-use Rattle.group_state.specs.Moves.{IsAtPosition, Moves}
-use Rattle.group_state.specs.Place.{GroupPlace, events}
+use Rattle.group_state.specs.Moves.{IsAtPosition, GroupMoves}
+use Rattle.group_state.specs.Place.{GroupPlace, events_of_replays}
 use Rattle.proc_replay.specs.Replaying.{Replaying}
 use Rattle.group_texts.specs.Texts.{position_line}
 use Rattle.shell_points.specs.declared.point.Point.{Point as Held}
-use Rattle.shell_points.specs.Firing.{firing_line, firing_lines, has_due, is_due_at, place_at, said_at}
+use Rattle.shell_points.specs.Firing.{firing_line, firing_lines, has_due_point, is_due_at, place_at, point_said_at}
 use Rattle.shell_points.specs.Points.{Break, Point, Trigger, Watch}
 use Rattle.shell_points.specs.Returning.{Return, last_due, return_from, return_to}
-use Rattle.shell_points.specs.Seen.{Returns, point}
+use Rattle.shell_points.specs.Seen.{PointsReturn, point}
 use Rattle.shell_points.proofs.PointWalks.{past, place_is}
 
 -- ---- at one position
 
 -- one point more has said its line
 pub said_more : (start : List Replaying) (at n : ℕ) (points : List Held) (p : Held) (text next whole line : List ℕ) → n < length points → get_or points n p ≡ p
-    → next ≡ text ++ line → line ≡ said_at start at (point p) → text ++ firing_lines start (map {A = Held} point (drop n points)) at ≡ whole
+    → next ≡ text ++ line → line ≡ point_said_at start at (point p) → text ++ firing_lines start (map {A = Held} point (drop n points)) at ≡ whole
     → next ++ firing_lines start (map {A = Held} point (drop (n + 1) points)) at ≡ whole
 said_more start at n points p text next whole line within here pushed is so_far =
     let rest = firing_lines start (map {A = Held} point (drop (n + 1) points)) at in
     ap (λ (t : List ℕ). t ++ rest) pushed ∙ append_assoc text line rest ∙ ap (λ (l : List ℕ). text ++ (l ++ rest)) is
-    ∙ ap (λ (q : Held). text ++ (said_at start at (point q) ++ rest)) (sym here)
+    ∙ ap (λ (q : Held). text ++ (point_said_at start at (point q) ++ rest)) (sym here)
     ∙ ap (λ (ps : List Held). text ++ firing_lines start (map {A = Held} point ps) at) (sym (drop_more points n p within)) ∙ so_far
 
 abbrev pub empty : List ℕ → Bool
@@ -52,13 +52,13 @@ or_others true others line rest some those = some_append line rest (some refl)
 or_others false others line rest some those = those
 
 -- something is said exactly where some point fires
-pub silent_is : (start : List Replaying) (ps : List Point) (k : ℕ) → empty (firing_lines start ps k) ≡ not (has_due start ps k)
+pub silent_is : (start : List Replaying) (ps : List Point) (k : ℕ) → empty (firing_lines start ps k) ≡ not (has_due_point start ps k)
 silent_is start [] k = refl
 silent_is start (p ∷ ps) k =
-    or_others (is_due_at start k p.trigger) (has_due start ps k) (firing_line start k p.number p.trigger) (firing_lines start ps k)
+    or_others (is_due_at start k p.trigger) (has_due_point start ps k) (firing_line start k p.number p.trigger) (firing_lines start ps k)
     (line_some start k p.number p.trigger) (silent_is start ps k)
 
-pub none_at_start : (start : List Replaying) (ps : List Point) → has_due start ps 0 ≡ false
+pub none_at_start : (start : List Replaying) (ps : List Point) → has_due_point start ps 0 ≡ false
 none_at_start start [] = refl
 none_at_start start (p ∷ ps) = none_at_start start ps
 
@@ -80,16 +80,16 @@ not_not false = refl
 pub later_last : (start : List Replaying) (ps : List Point) (k at : ℕ) (r new : Return) (text : List ℕ) → at ≡ k → text ≡ firing_lines start ps k → r ≡ return_from (place_at start k) ps
     → new ≡ cond (nat_eq (length text) 0) r (record { at = at; text = text }) → new ≡ return_from (place_at start (suc k)) ps
 later_last start ps k at r new text here is so_far gives =
-    let silent : empty text ≡ not (has_due start ps k) = ap empty is ∙ silent_is start ps k in
+    let silent : empty text ≡ not (has_due_point start ps k) = ap empty is ∙ silent_is start ps k in
     gives ∙ ap (λ (b : Bool). cond b r (record { at = at; text = text })) (empty_is text) ∙ here_last (empty text) start ps k at r text here is so_far refl
-    ∙ ap (here_or start ps k) (ap not silent ∙ not_not (has_due start ps k))
+    ∙ ap (here_or start ps k) (ap not silent ∙ not_not (has_due_point start ps k))
 
 pub begins : (start : List Replaying) (ps : List Point) → record { at = 0; text = codes "start\n" } ≡ return_from (place_at start 1) ps
 begins start ps = ap (here_or start ps 0) (sym (none_at_start start ps))
 
 -- the position that comes next
-pub goes_on : (old new : GroupPlace) (event : Option GroupEvent) → old.at < length (events old.start) → Moves old new event → new ≡ place_at old.start (suc old.at)
-goes_on old new None before moves = absurd (omega (arith, before, past (events old.start) old.at moves.gives))
+pub goes_on : (old new : GroupPlace) (event : Option GroupEvent) → old.at < length (events_of_replays old.start) → GroupMoves old new event → new ≡ place_at old.start (suc old.at)
+goes_on old new None before moves = absurd (omega (arith, before, past (events_of_replays old.start) old.at moves.gives))
 goes_on old new (Some e) before moves =
     let one : old.at + 1 ≡ suc old.at = omega arith in
     moves.place ∙ ap (place_at old.start) one
@@ -98,23 +98,23 @@ pub begins_so : (start : List Replaying) (ps : List Point) (at : ℕ) (text : Li
 begins_so start ps at text here is = (λ i. record { at = 0; text = is i }) ∙ begins start ps ∙ ap (λ (n : ℕ). return_from (place_at start (suc n)) ps) (sym here)
 
 -- the same, of a group that began there
-pub goes_to : (first old new : GroupPlace) (event : Option GroupEvent) (count : ℕ) → old.start ≡ first.start → old.at < count → count ≤ length (events first.start) → Moves old new event
+pub goes_to : (first old new : GroupPlace) (event : Option GroupEvent) (count : ℕ) → old.start ≡ first.start → old.at < count → count ≤ length (events_of_replays first.start) → GroupMoves old new event
     → new ≡ place_at first.start (suc old.at)
 goes_to first old new event count same lt le moves =
-    goes_on old new event (omega (arith, lt, le, ap (λ (s : List Replaying). length (events s)) same)) moves ∙ ap (λ (s : List Replaying). place_at s (suc old.at)) same
+    goes_on old new event (omega (arith, lt, le, ap (λ (s : List Replaying). length (events_of_replays s)) same)) moves ∙ ap (λ (s : List Replaying). place_at s (suc old.at)) same
 
-pub gone_to : (old new : GroupPlace) (k : ℕ) (went : Bool) → k ≤ length (events old.start) → IsAtPosition old k new went → new ≡ place_at old.start k
+pub gone_to : (old new : GroupPlace) (k : ℕ) (went : Bool) → k ≤ length (events_of_replays old.start) → IsAtPosition old k new went → new ≡ place_at old.start k
 gone_to old new k went within is = place_is new old.start k is.start (is.at (is.exact.1 within))
 
 -- ---- as a whole
 
 ends_within : (start : List Replaying) (ps : List Point) (n : ℕ) → (return_from (place_at start (suc n)) ps).at ≤ n
-ends_within start ps zero = by (has_due start ps 0)
+ends_within start ps zero = by (has_due_point start ps 0)
   where
     by : (b : Bool) → (here_or start ps 0 b).at ≤ 0
     by true = omega arith
     by false = omega arith
-ends_within start ps (suc n) = by (has_due start ps (suc n)) (ends_within start ps n)
+ends_within start ps (suc n) = by (has_due_point start ps (suc n)) (ends_within start ps n)
   where
     by : (b : Bool) → (return_from (place_at start (suc n)) ps).at ≤ n → (here_or start ps (suc n) b).at ≤ suc n
     by true before = omega arith
@@ -131,7 +131,7 @@ front_is start ps (suc k) count is =
     ap (λ (n : ℕ). return_from (place_at start (suc n)) ps) same
 
 pub returns_there : (first new : GroupPlace) (ps : List Point) (count : ℕ) (r : Return) (text : List ℕ) → count ≡ first.at - 1 → r ≡ return_from (place_at first.start (suc count)) ps
-    → new ≡ place_at first.start r.at → text ≡ r.text ++ position_line new → Returns first ps new text
+    → new ≡ place_at first.start r.at → text ≡ r.text ++ position_line new → PointsReturn first ps new text
 returns_there first new ps count r text front is came says =
     let whole : r ≡ return_from first ps = is ∙ front_is first.start ps first.at count front in
     record { place = came ∙ ap (λ (w : Return). place_at first.start w.at) whole; text_is = says ∙ ap (λ (w : Return). w.text ++ position_line new) whole }

@@ -8,20 +8,20 @@ use Rattle.std.proofs.lemmas.List.Sums.{sum_by-append}
 use Rattle.std.proofs.lemmas.Option.{slice_get_within}
 use Rattle.fri_text.specs.Line.{is_line_feed}
 use Rattle.group_state.specs.declared.event.GroupEvent.{GroupEvent}
-use Rattle.group_state.specs.Moves.{Moves, event_of, last_event_of}
-use Rattle.group_state.specs.Place.{GroupPlace, events}
+use Rattle.group_state.specs.Moves.{GroupMoves, event_of, last_event_of}
+use Rattle.group_state.specs.Place.{GroupPlace, events_of_replays}
 use Rattle.group_state.specs.Seen.{nodes_at}
 use Rattle.proc_replay.specs.Replaying.{Replaying}
 use Rattle.embed_cmds.specs.Running.{ProgramState}
 use Rattle.embed_cmds.specs.Variables.{Variable}
 use Rattle.shell_points.specs.declared.point.Point.{Point as Held}
-use Rattle.shell_points.specs.Firing.{place_at, reading, said_at}
+use Rattle.shell_points.specs.Firing.{place_at, reading, point_said_at}
 use Rattle.shell_points.specs.Points.{Point}
-use Rattle.shell_points.specs.Reading.{readings, said_by, treat_by}
-use Rattle.shell_points.specs.Seen.{Walks, point, trigger}
+use Rattle.shell_points.specs.Reading.{point_readings, point_said_by, treat_by}
+use Rattle.shell_points.specs.Seen.{PointsWalk, point, trigger}
 use Rattle.shell_points.specs.declared.walk.WalkEnd.{WalkEnd}
 use Rattle.group_texts.specs.Texts.{position_line}
-use Rattle.shell_points.specs.Walking.{Walk, lines_in, most_lines, quiet, treat, treat_all, walk_ended, walk_from, walk_on, walk_over}
+use Rattle.shell_points.specs.Walking.{Walk, lines_in, most_lines, quiet_program, treat_point, treat_points, walk_ended, walk_from, walk_on, walk_over}
 
 -- ---- at one position
 
@@ -29,7 +29,7 @@ use Rattle.shell_points.specs.Walking.{Walk, lines_in, most_lines, quiet, treat,
 pub treated : (start : List Replaying) (at : ℕ) (r new : ProgramState) (p : Point) (before now : Option ℤ) → 0 < at
     → before ≡ reading start (at - 1) p.trigger → now ≡ reading start at p.trigger
     → new ≡ treat_by before now (last_event_of (place_at start at)) (nodes_at (place_at start at)) r p
-    → new ≡ treat start at r p
+    → new ≡ treat_point start at r p
 treated start zero r new p before now moved was is did = absurd (omega (arith, moved))
 treated start (suc k) r new p before now moved was is did =
     let e : suc k - 1 ≡ k = omega arith in
@@ -40,36 +40,36 @@ treated start (suc k) r new p before now moved was is did =
 
 -- what one point says, by what was read
 pub said : (start : List Replaying) (at : ℕ) (p : Point) (before now : Option ℤ) → 0 < at → before ≡ reading start (at - 1) p.trigger → now ≡ reading start at p.trigger
-    → said_by before now (last_event_of (place_at start at)) p ≡ said_at start at p
+    → point_said_by before now (last_event_of (place_at start at)) p ≡ point_said_at start at p
 said start zero p before now moved was is = absurd (omega (arith, moved))
 said start (suc k) p before now moved was is =
     let e : suc k - 1 ≡ k = omega arith in
     let event = last_event_of (place_at start (suc k)) in
-    ap (λ (b : Option ℤ). said_by b now event p) (was ∙ ap (λ (m : ℕ). reading start m p.trigger) e)
-    ∙ ap (λ (b : Option ℤ). said_by (reading start k p.trigger) b event p) is
+    ap (λ (b : Option ℤ). point_said_by b now event p) (was ∙ ap (λ (m : ℕ). reading start m p.trigger) e)
+    ∙ ap (λ (b : Option ℤ). point_said_by (reading start k p.trigger) b event p) is
 
 among : (start : List Replaying) (k m : ℕ) (ps : List Held) (p : Held) (value : Option ℤ) → m < length ps → get_or ps m p ≡ p
-    → get_or (readings start k (map {A = Held} point ps)) m value ≡ reading start k (trigger p.trigger)
+    → get_or (point_readings start k (map {A = Held} point ps)) m value ≡ reading start k (trigger p.trigger)
 among start k m [] p value lt e = absurd (omega (arith, lt))
 among start k zero (q ∷ ps) p value lt e = ap (λ (r : Held). reading start k (trigger r.trigger)) e
 among start k (suc m) (q ∷ ps) p value lt e = among start k m ps p value (omega (arith, lt)) e
 
 -- what one point reads, among all that are read
 pub read_at : (start : List Replaying) (k n : ℕ) (points : List Held) (p : Held) (values : List (Option ℤ)) (value : Option ℤ)
-    → values ≡ readings start k (map {A = Held} point points) → n < length points → get_or points n p ≡ p
+    → values ≡ point_readings start k (map {A = Held} point points) → n < length points → get_or points n p ≡ p
     → get_or values n value ≡ reading start k (trigger p.trigger)
 read_at start k n points p values value is within here =
     ap (λ (vs : List (Option ℤ)). get_or vs n value) is ∙ among start k n points p value within here
 
 -- one point more was treated, of those that are still to come
 pub treated_more : (start : List Replaying) (at n : ℕ) (points : List Held) (p : Held) (r new whole : ProgramState) → n < length points → get_or points n p ≡ p
-    → new ≡ treat start at r (point p) → treat_all start at r (map {A = Held} point (drop n points)) ≡ whole
-    → treat_all start at new (map {A = Held} point (drop (n + 1) points)) ≡ whole
+    → new ≡ treat_point start at r (point p) → treat_points start at r (map {A = Held} point (drop n points)) ≡ whole
+    → treat_points start at new (map {A = Held} point (drop (n + 1) points)) ≡ whole
 treated_more start at n points p r new whole within here did so_far =
     let rest = drop (n + 1) points in
-    ap (λ (q : ProgramState). treat_all start at q (map {A = Held} point rest)) did
-    ∙ ap (λ (q : Held). treat_all start at (treat start at r (point q)) (map {A = Held} point rest)) (sym here)
-    ∙ ap (λ (ps : List Held). treat_all start at r (map {A = Held} point ps)) (sym (drop_more points n p within))
+    ap (λ (q : ProgramState). treat_points start at q (map {A = Held} point rest)) did
+    ∙ ap (λ (q : Held). treat_points start at (treat_point start at r (point q)) (map {A = Held} point rest)) (sym here)
+    ∙ ap (λ (ps : List Held). treat_points start at r (map {A = Held} point ps)) (sym (drop_more points n p within))
     ∙ so_far
 
 -- ---- from one position to the next
@@ -83,21 +83,21 @@ past (x ∷ xs) zero e = absurd cc
 past (x ∷ xs) (suc n) e = omega (arith, past xs n e)
 
 -- an event is made
-pub moves_on : (old new : GroupPlace) (event : Option GroupEvent) → is_some event ≡ true → Moves old new event
-    → (new ≡ place_at old.start (suc old.at)) × (old.at < length (events old.start))
+pub moves_on : (old new : GroupPlace) (event : Option GroupEvent) → is_some event ≡ true → GroupMoves old new event
+    → (new ≡ place_at old.start (suc old.at)) × (old.at < length (events_of_replays old.start))
 moves_on old new None some moves = absurd cc
 moves_on old new (Some e) some moves =
     let one : old.at + 1 ≡ suc old.at = omega arith in
-    (moves.place ∙ ap (place_at old.start) one, slice_get_within (events old.start) old.at (event_of e) (sym moves.gives))
+    (moves.place ∙ ap (place_at old.start) one, slice_get_within (events_of_replays old.start) old.at (event_of e) (sym moves.gives))
 
 -- there is no event more
-pub stays : (old new : GroupPlace) (event : Option GroupEvent) → is_some event ≡ false → Moves old new event → (new ≡ old) × (length (events old.start) ≤ old.at)
-stays old new None none moves = (moves.place, past (events old.start) old.at moves.gives)
+pub stays : (old new : GroupPlace) (event : Option GroupEvent) → is_some event ≡ false → GroupMoves old new event → (new ≡ old) × (length (events_of_replays old.start) ≤ old.at)
+stays old new None none moves = (moves.place, past (events_of_replays old.start) old.at moves.gives)
 stays old new (Some e) none moves = absurd cc
 
 -- what the walk over one position more is
 pub step : (start : List Replaying) (ps : List Point) (at end : ℕ) (variables : List Variable) (said : List ℕ) → at < end
-    → walk_over start ps at (end - at) variables said ≡ walk_on (walk_over start ps (suc at) (end - suc at)) (suc at) said (treat_all start (suc at) (quiet variables) ps)
+    → walk_over start ps at (end - at) variables said ≡ walk_on (walk_over start ps (suc at) (end - suc at)) (suc at) said (treat_points start (suc at) (quiet_program variables) ps)
 step start ps at end variables said before =
     let e : end - at ≡ suc (end - suc at) = omega arith in
     ap (λ (left : ℕ). walk_over start ps at left variables said) e
@@ -134,7 +134,7 @@ lines_append a b = sum_by-append (λ (x : ℕ). cond (is_line_feed x) 1 0) a b
 -- a walk that ended came there
 pub arrives : (first : GroupPlace) (ps : List Point) (before after : List Variable) (at : ℕ) (said : List ℕ) → walk_from first ps before ≡ walk_ended at after said
     → (new : GroupPlace) (done : WalkEnd) → new ≡ place_at first.start at → done.group ≡ new → done.variables ≡ after → done.text ≡ said ++ position_line new
-    → Walks first ps before done
+    → PointsWalk first ps before done
 arrives first ps before after at said is new done here same kept says = record {
   place = same ∙ here ∙ ap (λ (w : Walk). place_at first.start w.at) (sym is);
   variables = kept ∙ ap (λ (w : Walk). w.variables) (sym is);

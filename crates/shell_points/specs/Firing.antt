@@ -59,9 +59,9 @@ abbrev pub change_by : Option ℤ → Option ℤ → List ℕ
 change_by before now = value_word before ++ (codes " -> " ++ value_word now)
 
 -- the line that it then says
-abbrev pub line_by : Option ℤ → Option ℤ → ℕ → Trigger → List ℕ
-line_by before now number (Watch x) = codes "watch " ++ (decimal number ++ (codes ": " ++ (change_by before now ++ codes "\n")))
-line_by before now number (Break of_node kind) = codes "break " ++ (decimal number ++ codes "\n")
+abbrev pub firing_line_by : Option ℤ → Option ℤ → ℕ → Trigger → List ℕ
+firing_line_by before now number (Watch x) = codes "watch " ++ (decimal number ++ (codes ": " ++ (change_by before now ++ codes "\n")))
+firing_line_by before now number (Break of_node kind) = codes "break " ++ (decimal number ++ codes "\n")
 
 -- ---- at a position
 
@@ -71,21 +71,21 @@ is_due_at start zero t = false
 is_due_at start (suc k) t = is_due_by (reading start k t) (reading start (suc k) t) (last_event_of (place_at start (suc k))) t
 
 -- a watchpoint on this expression fires at position k
-abbrev pub fires : List Replaying → Expression → ℕ → Bool
-fires start x k = is_due_at start k (Watch x)
+abbrev pub watchpoint_fires : List Replaying → Expression → ℕ → Bool
+watchpoint_fires start x k = is_due_at start k (Watch x)
 
 abbrev pub firing_line : List Replaying → ℕ → ℕ → Trigger → List ℕ
 firing_line start zero number t = []
-firing_line start (suc k) number t = line_by (reading start k t) (reading start (suc k) t) number t
+firing_line start (suc k) number t = firing_line_by (reading start k t) (reading start (suc k) t) number t
 
 -- some point fires at position k
-abbrev pub has_due : List Replaying → List Point → ℕ → Bool
-has_due start points k = list_any (λ p. is_due_at start k p.trigger) points
+abbrev pub has_due_point : List Replaying → List Point → ℕ → Bool
+has_due_point start points k = list_any (λ p. is_due_at start k p.trigger) points
 
 -- the line of a point at position k, if it fires there
-abbrev pub said_at : List Replaying → ℕ → Point → List ℕ
-said_at start k p = if is_due_at start k p.trigger then firing_line start k p.number p.trigger else []
+abbrev pub point_said_at : List Replaying → ℕ → Point → List ℕ
+point_said_at start k p = if is_due_at start k p.trigger then firing_line start k p.number p.trigger else []
 
 -- the lines of all points that fire at position k, in their order, whether programs are attached to them or not
 abbrev pub firing_lines : List Replaying → List Point → ℕ → List ℕ
-firing_lines start points k = flat_map (said_at start k) points
+firing_lines start points k = flat_map (point_said_at start k) points

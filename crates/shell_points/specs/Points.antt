@@ -31,13 +31,13 @@ without_point points n = filter (λ p. not (p.number == n)) points
 abbrev pub place_of_point : List Point → ℕ → Option ℕ
 place_of_point points n = position (λ p. p.number == n) points
 
-abbrev pub attached : Point → Statements → Point
-attached p body = record { number = p.number; text = p.text; trigger = p.trigger; program = Some body }
+abbrev pub point_with_attached : Point → Statements → Point
+point_with_attached p body = record { number = p.number; text = p.text; trigger = p.trigger; program = Some body }
 
 -- the program is attached to the point at this place, instead of an older one
 abbrev pub with_program : List Point → ℕ → Statements → List Point
 with_program [] place body = []
-with_program (p ∷ points) zero body = attached p body ∷ points
+with_program (p ∷ points) zero body = point_with_attached p body ∷ points
 with_program (p ∷ points) (suc place) body = p ∷ with_program points place body
 
 -- the number of a point, and the line that made it

@@ -4,7 +4,7 @@ use Rattle.watch_expr.specs.Expression.{expression_of}
 use Rattle.group_state.specs.Place.{GroupPlace}
 use Rattle.group_texts.specs.Texts.{position_line}
 use Rattle.embed_cmds.specs.Running.{ProgramState}
-use Rattle.embed_cmds.specs.Tree.{body}
+use Rattle.embed_cmds.specs.Tree.{program_body}
 use Rattle.embed_cmds.specs.Variables.{Variable}
 use Rattle.shell_points.specs.declared.back.Return.{Return as Ended}
 use Rattle.shell_points.specs.declared.point.Point.{Point as Held}
@@ -22,7 +22,7 @@ trigger (held.Watch x) = Watch (expression_of x)
 trigger (held.Break of_node kind) = Break of_node kind
 
 abbrev pub point : Held → Point
-point p = record { number = p.number; text = p.text; trigger = trigger p.trigger; program = option_map body p.program }
+point p = record { number = p.number; text = p.text; trigger = trigger p.trigger; program = option_map program_body p.program }
 
 -- what points did so far at a position
 abbrev pub run_so_far : Turn → ProgramState
@@ -33,12 +33,12 @@ abbrev pub return_of : Ended → Return
 return_of r = record { at = r.at; text = r.text }
 
 -- a walk from a place ended where it ends
-pub record Walks (old : GroupPlace) (points : List Point) (before : List Variable) (done : WalkEnd) : Type 0 where
+pub record PointsWalk (old : GroupPlace) (points : List Point) (before : List Variable) (done : WalkEnd) : Type 0 where
   pub place : done.group ≡ place_at old.start (walk_from old points before).at
   pub variables : done.variables ≡ (walk_from old points before).variables
   pub text_is : done.text ≡ (walk_from old points before).text ++ position_line done.group
 
 -- a walk back from a place ended where it ends
-pub record Returns (old : GroupPlace) (points : List Point) (new : GroupPlace) (text : List ℕ) : Type 0 where
+pub record PointsReturn (old : GroupPlace) (points : List Point) (new : GroupPlace) (text : List ℕ) : Type 0 where
   pub place : new ≡ place_at old.start (return_from old points).at
   pub text_is : text ≡ (return_from old points).text ++ position_line new

@@ -2,7 +2,7 @@
 use Rattle.std.specs.Prelude.{ℕ, zero, suc, ◌-◌, nat_le, Bool, true, false, ◌||◌, List, [], ◌∷◌, ◌++◌, length, codes, count_by, Option, Some, None, if◌then◌else◌}
 use Rattle.fri_text.specs.Line.{is_line_feed}
 use Rattle.proc_replay.specs.Replaying.{Replaying}
-use Rattle.group_state.specs.Place.{GroupPlace, events}
+use Rattle.group_state.specs.Place.{GroupPlace, events_of_replays}
 use Rattle.group_state.specs.Seen.{nodes_at}
 use Rattle.watch_expr.specs.View.{Node}
 use Rattle.embed_cmds.specs.Running.{ProgramState, after_statements}
@@ -21,19 +21,19 @@ abbrev pub with_earlier_stop : Bool → ProgramState → ProgramState
 with_earlier_stop asked r = with_stop r (asked || r.stopped)
 
 -- Without a program a point says its line and asks to stop. With one it runs it, and asks to stop where the program did.
-abbrev pub fired : List Node → ProgramState → List ℕ → Option Statements → ProgramState
-fired nodes r line None = record { variables = r.variables; text = r.text ++ line; stopped = true }
-fired nodes r line (Some body) = with_earlier_stop r.stopped (after_statements nodes (with_stop r false) body)
+abbrev pub fired_point : List Node → ProgramState → List ℕ → Option Statements → ProgramState
+fired_point nodes r line None = record { variables = r.variables; text = r.text ++ line; stopped = true }
+fired_point nodes r line (Some body) = with_earlier_stop r.stopped (after_statements nodes (with_stop r false) body)
 
 -- what a point does at position k, if it fires there
-abbrev pub treat : List Replaying → ℕ → ProgramState → Point → ProgramState
-treat start k r p =
-    if is_due_at start k p.trigger then fired (nodes_at (place_at start k)) r (firing_line start k p.number p.trigger) p.program else r
+abbrev pub treat_point : List Replaying → ℕ → ProgramState → Point → ProgramState
+treat_point start k r p =
+    if is_due_at start k p.trigger then fired_point (nodes_at (place_at start k)) r (firing_line start k p.number p.trigger) p.program else r
 
 -- what points do at position k, one after the other
-abbrev pub treat_all : List Replaying → ℕ → ProgramState → List Point → ProgramState
-treat_all start k r [] = r
-treat_all start k r (p ∷ points) = treat_all start k (treat start k r p) points
+abbrev pub treat_points : List Replaying → ℕ → ProgramState → List Point → ProgramState
+treat_points start k r [] = r
+treat_points start k r (p ∷ points) = treat_points start k (treat_point start k r p) points
 
 -- ---- from one position to the next
 
@@ -62,15 +62,15 @@ walk_on rest at said r =
     else rest r.variables (said ++ r.text)
 
 -- nothing said, and not asked to stop
-abbrev pub quiet : List Variable → ProgramState
-quiet variables = record { variables = variables; text = []; stopped = false }
+abbrev pub quiet_program : List Variable → ProgramState
+quiet_program variables = record { variables = variables; text = []; stopped = false }
 
 -- the walk over so many positions after this one, which has said this
 abbrev pub walk_over : List Replaying → List Point → ℕ → ℕ → List Variable → List ℕ → Walk
 walk_over start points at zero variables said = walk_ended at variables (said ++ codes "end\n")
 walk_over start points at (suc left) variables said =
-    walk_on (walk_over start points (suc at) left) (suc at) said (treat_all start (suc at) (quiet variables) points)
+    walk_on (walk_over start points (suc at) left) (suc at) said (treat_points start (suc at) (quiet_program variables) points)
 
 -- the walk from a position, which may go on to the last
 abbrev pub walk_from : GroupPlace → List Point → List Variable → Walk
-walk_from place points variables = walk_over place.start points place.at (length (events place.start) - place.at) variables []
+walk_from place points variables = walk_over place.start points place.at (length (events_of_replays place.start) - place.at) variables []

@@ -1,13 +1,13 @@
 // Goes back to where points fired last.
 ghost use Rattle.std.specs.Prelude.{◌≡◌, ◌+◌, ◌<◌, ◌≤◌, ◌-◌, ◌++◌, ◌==◌, IfOk, MatchOption, OnOk, if◌then◌else◌, length, map, suc};
 ghost use Rattle.group_state.specs.Moves.{last_event_of};
-ghost use Rattle.group_state.specs.Place.{events};
-ghost use Rattle.group_state.specs.Touch.{ticks};
+ghost use Rattle.group_state.specs.Place.{events_of_replays};
+ghost use Rattle.group_state.specs.Touch.{watch_ticks};
 ghost use Rattle.shell_points.specs.Firing.{firing_lines, place_at};
-ghost use Rattle.shell_points.specs.Reading.{NoneFires, readings, readings_before, said_by};
+ghost use Rattle.shell_points.specs.Reading.{NoneFires, point_readings, readings_before, point_said_by};
 ghost use Rattle.shell_points.specs.Returning.{return_from};
-ghost use Rattle.shell_points.specs.Seen.{Returns, point as seen, return_of};
-ghost use Rattle.shell_points.specs.Watching.{IsWatching, watched};
+ghost use Rattle.shell_points.specs.Seen.{PointsReturn, point as seen, return_of};
+ghost use Rattle.shell_points.specs.Watching.{IsWatching, watched_expressions};
 ghost use Rattle.shell_points.specs.declared.point.Point.{Point as Held};
 
 use crate::firing::{is_due, push_line};
@@ -34,8 +34,8 @@ pub(crate) fn walk_back<'m, 'a, L: Ledger>(
     points: &[Point],
     steps: &mut Steps<L>,
 ) -> Result<(Group<'m, 'a>, Text), AllocError>
-    ensures returns { IfOk result (λ done. Returns group.entry (map {A = Held} seen points.now) done.0 done.1) }
-    ensures ticks { OnOk result (steps.new ≡ steps.old + ticks group.entry.start (watched (map {A = Held} seen points.now)) 0 (group.entry.at - 1)) }
+    ensures returns { IfOk result (λ done. PointsReturn group.entry (map {A = Held} seen points.now) done.0 done.1) }
+    ensures ticks { OnOk result (steps.new ≡ steps.old + watch_ticks group.entry.start (watched_expressions (map {A = Held} seen points.now)) 0 (group.entry.at - 1)) }
 {
     let count = group.position().saturating_sub(1);
     let (group, _) = group.goto(alloc, 0)?;
@@ -56,10 +56,10 @@ fn last_firing<'m, 'a, L: Ledger>(
     steps: &mut Steps<L>,
 ) -> Result<(Group<'m, 'a>, Return), AllocError>
     requires begins { group.at ≡ 0 }
-    requires within { count ≤ length (events group.start) }
+    requires within { count ≤ length (events_of_replays group.start) }
     ensures start { IfOk result (λ done. done.0.start ≡ group.entry.start) }
     ensures last { IfOk result (λ done. return_of done.1 ≡ return_from (place_at group.entry.start (suc count)) (map {A = Held} seen points.now)) }
-    ensures ticks { OnOk result (steps.new ≡ steps.old + ticks group.entry.start (watched (map {A = Held} seen points.now)) 0 count) }
+    ensures ticks { OnOk result (steps.new ≡ steps.old + watch_ticks group.entry.start (watched_expressions (map {A = Held} seen points.now)) 0 count) }
 {
     let mut text = Text::new(alloc);
     text.push_str("start\n")?;
@@ -119,7 +119,7 @@ fn said_here(
 ) -> Result<Text, AllocError>
     requires moved { 0 < group.now.at }
     requires before { before.now ≡ readings_before group.now (map {A = Held} seen points.now) }
-    requires now { now.now ≡ readings group.now.start group.now.at (map {A = Held} seen points.now) }
+    requires now { now.now ≡ point_readings group.now.start group.now.at (map {A = Held} seen points.now) }
     ensures { IfOk result (λ text. text ≡ firing_lines group.now.start (map {A = Held} seen points.now) group.now.at) }
 {
     let mut text = Text::new(alloc);
@@ -137,7 +137,7 @@ fn push_said(
     now: Option<i64>,
     group: &Group<'_, '_>,
 ) -> Result<(), AllocError>
-    ensures { OnOk result (text.new ≡ text.old ++ said_by before now (last_event_of group.now) (seen point.now)) }
+    ensures { OnOk result (text.new ≡ text.old ++ point_said_by before now (last_event_of group.now) (seen point.now)) }
 {
     if is_due(&point.trigger, before, now, group) {
         push_line(text, point, before, now)?;

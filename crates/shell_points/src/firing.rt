@@ -1,7 +1,7 @@
 // Where points fire, and what they say there.
 ghost use Rattle.std.specs.Prelude.{◌≡◌, ◌++◌, Some, OnOk};
 ghost use Rattle.group_state.specs.Moves.{event_of, last_event_of};
-ghost use Rattle.shell_points.specs.Firing.{is_due_by, is_event_of_kind, is_unchanged, line_by};
+ghost use Rattle.shell_points.specs.Firing.{is_due_by, is_event_of_kind, is_unchanged, firing_line_by};
 ghost use Rattle.shell_points.specs.Seen.{trigger as seen_trigger};
 
 use crate::point::{Point, Trigger};
@@ -59,7 +59,7 @@ pub(crate) fn push_line(
     before: Option<i64>,
     now: Option<i64>,
 ) -> Result<(), AllocError>
-    ensures { OnOk result (text.new ≡ text.old ++ line_by before now point.now.number (seen_trigger point.now.trigger)) }
+    ensures { OnOk result (text.new ≡ text.old ++ firing_line_by before now point.now.number (seen_trigger point.now.trigger)) }
 {
     match point.trigger {
         Trigger::Watch(_) => {

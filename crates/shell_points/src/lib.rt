@@ -5,7 +5,7 @@
 //! logs, or by the event between them (`specs/Firing`), as if nothing had come before. A walk is promised to end at the
 //! position, with the variables and the text, that `walk_from` of `specs/Walking` gives, or to want memory; a walk back at
 //! that of `return_from` of `specs/Returning`. Both evaluate a watchpoint where they begin, and then where an event touched
-//! something that it reads (`watched` of `specs/Watching`, `ticks` of group_state). The law `exact_firing` says at which
+//! something that it reads (`watched_expressions` of `specs/Watching`, `ticks` of group_state). The law `exact_firing` says at which
 //! positions points fire. How many points there may be, and what a line answers that changes them, is said in friday_shell.
 //! Inside is what points read at one position (`specs/Reading`).
 #![tactic(auto)]

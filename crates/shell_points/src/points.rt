@@ -1,11 +1,11 @@
 // The points that a session holds.
 ghost use Rattle.std.specs.Prelude.{◌≡◌, ◌+◌, ◌-◌, ◌<◌, ◌++◌, ◌∷◌, ◌==◌, [], IfOk, IfSome, OnErr, OnOk, length, map, position};
 ghost use Rattle.std.specs.List.{flat_map};
-ghost use Rattle.embed_cmds.specs.Tree.{body};
-ghost use Rattle.group_state.specs.Touch.{ticks};
+ghost use Rattle.embed_cmds.specs.Tree.{program_body};
+ghost use Rattle.group_state.specs.Touch.{watch_ticks};
 ghost use Rattle.shell_points.specs.Points.{has_point, new_point, place_of_point, point_text, with_program, without_point};
-ghost use Rattle.shell_points.specs.Seen.{Returns, Walks, point as point_meant, trigger as trigger_meant};
-ghost use Rattle.shell_points.specs.Watching.{watched};
+ghost use Rattle.shell_points.specs.Seen.{PointsReturn, PointsWalk, point as point_meant, trigger as trigger_meant};
+ghost use Rattle.shell_points.specs.Watching.{watched_expressions};
 
 use crate::back::walk_back;
 use crate::point::{Point, Trigger};
@@ -107,7 +107,7 @@ impl Points {
     /// Attaches a program to the point at this place, in place of an older one.
     pub fn attach(&mut self, place: usize, program: Program)
         requires { place < length self.old }
-        ensures { self.new ≡ with_program self.old place (body program) }
+        ensures { self.new ≡ with_program self.old place (program_body program) }
     {
         put(&mut self.held, place, program);
     }
@@ -129,8 +129,8 @@ impl Points {
         variables: Vars,
         steps: &mut Steps<L>,
     ) -> Result<WalkEnd<'m, 'a>, AllocError>
-        ensures walks { IfOk result (λ done. Walks group.entry self.now variables done) }
-        ensures ticks { IfOk result (λ done. steps.new ≡ steps.old + ticks group.entry.start (watched self.now) group.entry.at (done.group.at - group.entry.at)) }
+        ensures walks { IfOk result (λ done. PointsWalk group.entry self.now variables done) }
+        ensures ticks { IfOk result (λ done. steps.new ≡ steps.old + watch_ticks group.entry.start (watched_expressions self.now) group.entry.at (done.group.at - group.entry.at)) }
     {
         walk(alloc, group, &self.held, variables, steps)
     }
@@ -144,8 +144,8 @@ impl Points {
         group: Group<'m, 'a>,
         steps: &mut Steps<L>,
     ) -> Result<(Group<'m, 'a>, Text), AllocError>
-        ensures returns { IfOk result (λ done. Returns group.entry self.now done.0 done.1) }
-        ensures ticks { OnOk result (steps.new ≡ steps.old + ticks group.entry.start (watched self.now) 0 (group.entry.at - 1)) }
+        ensures returns { IfOk result (λ done. PointsReturn group.entry self.now done.0 done.1) }
+        ensures ticks { OnOk result (steps.new ≡ steps.old + watch_ticks group.entry.start (watched_expressions self.now) 0 (group.entry.at - 1)) }
     {
         walk_back(alloc, group, &self.held, steps)
     }
@@ -169,7 +169,7 @@ fn place_of_point(points: &[Point], number: u64) -> Option<usize>
 // The program is attached to the point at this place.
 fn put(points: &mut Vec<Point>, place: usize, program: Program)
     requires { place < length points.now.items }
-    ensures { map point_meant points.new.items ≡ with_program (map point_meant points.old.items) place (body program) }
+    ensures { map point_meant points.new.items ≡ with_program (map point_meant points.old.items) place (program_body program) }
 {
     points[place].program = Some(program);
 }

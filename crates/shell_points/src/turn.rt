@@ -1,8 +1,8 @@
 // What points do at a position.
 ghost use Rattle.std.specs.Prelude.{◌≡◌, ◌<◌, IfOk, MatchOption, OnOk, map};
-ghost use Rattle.shell_points.specs.Reading.{NoneFires, readings, readings_before, treat_by};
+ghost use Rattle.shell_points.specs.Reading.{NoneFires, point_readings, readings_before, treat_by};
 ghost use Rattle.shell_points.specs.Seen.{point as seen, run_so_far};
-ghost use Rattle.shell_points.specs.Walking.{quiet, treat_all};
+ghost use Rattle.shell_points.specs.Walking.{quiet_program, treat_points};
 ghost use Rattle.shell_points.specs.Watching.{IsWatching};
 ghost use Rattle.shell_points.specs.declared.point.Point.{Point as Held};
 ghost use Rattle.group_state.specs.Moves.{last_event_of};
@@ -39,10 +39,10 @@ pub(crate) fn turn_here(
     requires before { MatchOption before (NoneFires group.now (map {A = Held} seen points.now))
         (λ before. before.items ≡ readings_before group.now (map {A = Held} seen points.now)) }
     requires now { IsWatching group.now.start group.now.at (map {A = Held} seen points.now) now.now }
-    ensures { IfOk result (λ turn. run_so_far turn ≡ treat_all group.now.start group.now.at (quiet variables) (map {A = Held} seen points.now)) }
+    ensures { IfOk result (λ turn. run_so_far turn ≡ treat_points group.now.start group.now.at (quiet_program variables) (map {A = Held} seen points.now)) }
 {
     match before {
-        Some(before) => treat_all(alloc, points, &before, &now.values, group, variables),
+        Some(before) => treat_points(alloc, points, &before, &now.values, group, variables),
         None => {
             let text = Text::new(alloc);
             Ok(Turn {
@@ -55,7 +55,7 @@ pub(crate) fn turn_here(
 }
 
 // The same, in the order of the points.
-fn treat_all(
+fn treat_points(
     alloc: Global,
     points: &[Point],
     before: &[Option<i64>],
@@ -65,8 +65,8 @@ fn treat_all(
 ) -> Result<Turn, AllocError>
     requires moved { 0 < group.now.at }
     requires before { before.now ≡ readings_before group.now (map {A = Held} seen points.now) }
-    requires now { now.now ≡ readings group.now.start group.now.at (map {A = Held} seen points.now) }
-    ensures { IfOk result (λ turn. run_so_far turn ≡ treat_all group.now.start group.now.at (quiet variables) (map {A = Held} seen points.now)) }
+    requires now { now.now ≡ point_readings group.now.start group.now.at (map {A = Held} seen points.now) }
+    ensures { IfOk result (λ turn. run_so_far turn ≡ treat_points group.now.start group.now.at (quiet_program variables) (map {A = Held} seen points.now)) }
 {
     let mut turn = Turn {
         variables,
@@ -74,13 +74,13 @@ fn treat_all(
         stops: false,
     };
     for (n, point) in points.iter().enumerate() {
-        treat(alloc, point, before[n], now[n], group, &mut turn)?;
+        treat_point(alloc, point, before[n], now[n], group, &mut turn)?;
     }
     Ok(turn)
 }
 
 // What a point does where the group is, if it fires there.
-fn treat(
+fn treat_point(
     alloc: Global,
     point: &Point,
     before: Option<i64>,

@@ -1,10 +1,10 @@
 // Goes on to where a point asks to stop.
 ghost use Rattle.std.specs.Prelude.{◌≡◌, ◌+◌, ◌-◌, ◌++◌, IfOk, map};
-ghost use Rattle.group_state.specs.Touch.{ticks};
-ghost use Rattle.shell_points.specs.Seen.{Walks, point as seen};
+ghost use Rattle.group_state.specs.Touch.{watch_ticks};
+ghost use Rattle.shell_points.specs.Seen.{PointsWalk, point as seen};
 ghost use Rattle.group_texts.specs.Texts.{position_line};
 ghost use Rattle.shell_points.specs.Walking.{lines_in};
-ghost use Rattle.shell_points.specs.Watching.{watched};
+ghost use Rattle.shell_points.specs.Watching.{watched_expressions};
 ghost use Rattle.shell_points.specs.declared.point.Point.{Point as Held};
 
 use crate::point::Point;
@@ -37,8 +37,8 @@ pub(crate) fn walk<'m, 'a, L: Ledger>(
     variables: Vars,
     steps: &mut Steps<L>,
 ) -> Result<WalkEnd<'m, 'a>, AllocError>
-    ensures walks { IfOk result (λ done. Walks group.entry (map {A = Held} seen points.now) variables done) }
-    ensures ticks { IfOk result (λ done. steps.new ≡ steps.old + ticks group.entry.start (watched (map {A = Held} seen points.now)) group.entry.at (done.group.at - group.entry.at)) }
+    ensures walks { IfOk result (λ done. PointsWalk group.entry (map {A = Held} seen points.now) variables done) }
+    ensures ticks { IfOk result (λ done. steps.new ≡ steps.old + watch_ticks group.entry.start (watched_expressions (map {A = Held} seen points.now)) group.entry.at (done.group.at - group.entry.at)) }
 {
     let _ = group.position();
     let mut walked = WalkEnd {

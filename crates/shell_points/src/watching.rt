@@ -2,11 +2,11 @@
 ghost use Rattle.std.specs.Prelude.{◌≡◌, ℕ, ℤ, ◌+◌, ◌-◌, ◌<◌, ◌≤◌, ◌^◌, ◌∷◌, ◌++◌, All, List, Option, IfOk, MatchOption, OnOk, count_by, drop, length, map};
 ghost use Rattle.std.specs.List.{list_any};
 ghost use Rattle.group_state.specs.Seen.{nodes_at};
-ghost use Rattle.group_state.specs.Touch.{is_met};
-ghost use Rattle.page_watch.specs.Watched.{Stands, Watched};
+ghost use Rattle.group_state.specs.Touch.{is_met_by_event};
+ghost use Rattle.page_watch.specs.Watched.{WatchStands, Watched};
 ghost use Rattle.shell_points.specs.Reading.{NoneFires, readings_before};
 ghost use Rattle.shell_points.specs.Seen.{point as seen, trigger};
-ghost use Rattle.shell_points.specs.Watching.{IsWatching, dealt, expressions_of, is_break, values_by, watched};
+ghost use Rattle.shell_points.specs.Watching.{IsWatching, dealt_values, expressions_of, is_break, values_by, watched_expressions};
 ghost use Rattle.shell_points.specs.declared.point.Point.{Point as Held};
 
 use crate::point::{Point, Trigger};
@@ -56,7 +56,7 @@ impl Watching {
         ensures now { IfOk result (λ done. IsWatching group.now.start group.now.at (map {A = Held} seen points.now) done.0) }
         ensures before { IfOk result (λ done. MatchOption done.1 (NoneFires group.now (map {A = Held} seen points.now))
             (λ before. before.items ≡ readings_before group.now (map {A = Held} seen points.now))) }
-        ensures ticks { OnOk result (steps.new ≡ steps.old + count_by (is_met group.now.start group.now.at) (watched (map {A = Held} seen points.now))) }
+        ensures ticks { OnOk result (steps.new ≡ steps.old + count_by (is_met_by_event group.now.start group.now.at) (watched_expressions (map {A = Held} seen points.now))) }
     {
         let Watching {
             watches,
@@ -92,8 +92,8 @@ fn watch_all<L: Ledger>(
     requires name { blank.name ≡ L.name }
     requires parts { blank.parts ≡ L.parts }
     requires some { 0 < blank.parts }
-    ensures expressions { IfOk result (λ watches. map (λ w. w.expression) watches ≡ watched (map {A = Held} seen points.now)) }
-    ensures stand { IfOk result (All (λ w. Stands w (nodes_at group.now))) }
+    ensures expressions { IfOk result (λ watches. map (λ w. w.expression) watches ≡ watched_expressions (map {A = Held} seen points.now)) }
+    ensures stand { IfOk result (All (λ w. WatchStands w (nodes_at group.now))) }
 {
     let mut steps = Steps::<L>::new(blank);
     let mut watches = Watches::new(alloc);
@@ -112,7 +112,7 @@ fn watch_point<L: Ledger>(
     steps: &mut Steps<L>,
 ) -> Result<Watches, AllocError>
     ensures expressions { IfOk result (λ done. map (λ w. w.expression) done ≡ map (λ w. w.expression) watches ++ expressions_of (seen point.now)) }
-    ensures stand { IfOk result (λ done. All (λ w. Stands w (nodes_at group.now)) watches → All (λ w. Stands w (nodes_at group.now)) done) }
+    ensures stand { IfOk result (λ done. All (λ w. WatchStands w (nodes_at group.now)) watches → All (λ w. WatchStands w (nodes_at group.now)) done) }
 {
     match &point.trigger {
         Trigger::Watch(expression) => {
@@ -129,7 +129,7 @@ fn values_by(
     points: &[Point],
     watches: &Watches,
 ) -> Result<Vec<Option<i64>>, AllocError>
-    requires { map (λ w. w.expression) watches.now ≡ watched (map {A = Held} seen points.now) }
+    requires { map (λ w. w.expression) watches.now ≡ watched_expressions (map {A = Held} seen points.now) }
     ensures { IfOk result (λ values. values.items ≡ values_by (map {A = Held} seen points.now) watches.now) }
 {
     let _ = watches.len();
@@ -148,7 +148,7 @@ fn value_by(point: &Point, watches: &Watches, n: usize) -> (Option<i64>, usize)
     requires fits { length watches.now < 2 ^ 64 }
     requires room { n + length (expressions_of (seen point.now)) ≤ length watches.now }
     ensures next { result.1 ≡ n + length (expressions_of (seen point.now)) }
-    ensures value { (rest : List Watched → List (Option ℤ)) → dealt (trigger point.now.trigger) rest (drop n watches.now) ≡ result.0 ∷ rest (drop result.1 watches.now) }
+    ensures value { (rest : List Watched → List (Option ℤ)) → dealt_values (trigger point.now.trigger) rest (drop n watches.now) ≡ result.0 ∷ rest (drop result.1 watches.now) }
 {
     match point.trigger {
         Trigger::Watch(_) => (watches.value(n), n + 1),

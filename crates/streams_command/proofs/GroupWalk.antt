@@ -10,8 +10,8 @@ use Rattle.group_order.specs.Order.{NodeEvent}
 use Rattle.proc_replay.specs.Replaying.{Replaying}
 use Rattle.group_state.specs.declared.event.GroupEvent.{GroupEvent}
 use Rattle.group_state.specs.Laws.{Ordered, Stepwise}
-use Rattle.group_state.specs.Moves.{Moves, event_of}
-use Rattle.group_state.specs.Place.{AreParts, PartsFit, GroupPlace, events, states, states_from}
+use Rattle.group_state.specs.Moves.{GroupMoves, event_of}
+use Rattle.group_state.specs.Place.{AreParts, PartsFit, GroupPlace, events_of_replays, states_of_nodes, states_from}
 use Rattle.byte_streams.specs.Laws.{UnsentIsFree}
 use Rattle.byte_streams.specs.Traffic.{SendOrReceive}
 use Rattle.streams_command.specs.declared.telling.Told.{Told}
@@ -36,23 +36,23 @@ count_states node (r ∷ rs) es = ap suc (count_states (suc node) rs es)
 -- the walk of these logs has reached a position, and what was sent and taken up to there was told
 pub record WalkedTo (start : List Replaying) (here : GroupPlace) (t : Told) : Type 0 where
   pub same : here.start ≡ start
-  pub told : IsToldOf t (traffic_of_events start (take here.at (events start)))
+  pub told : IsToldOf t (traffic_of_events start (take here.at (events_of_replays start)))
 
 pub none_walked : (start : List Replaying) (here : GroupPlace) (told : Told) → here ≡ record { start = start; at = 0 } → IsToldOf told [] → WalkedTo start here told
 none_walked start here told is none = record {
   same = ap (λ (p : GroupPlace). p.start) is;
-  told = subst (λ (n : ℕ). IsToldOf told (traffic_of_events start (take n (events start)))) (sym (ap (λ (p : GroupPlace). p.at) is)) none;
+  told = subst (λ (n : ℕ). IsToldOf told (traffic_of_events start (take n (events_of_replays start)))) (sym (ap (λ (p : GroupPlace). p.at) is)) none;
 }
 
 -- there is no event more
-pub all_walked : (start : List Replaying) (old new : GroupPlace) (told : Told) → WalkedTo start old told → Moves old new None → IsToldOf told (traffic_of_events start (events start))
+pub all_walked : (start : List Replaying) (old new : GroupPlace) (told : Told) → WalkedTo start old told → GroupMoves old new None → IsToldOf told (traffic_of_events start (events_of_replays start))
 all_walked start old new told so_far moves =
-    let none : None ≡ slice_get (events start) old.at = moves.gives ∙ ap (λ (s : List Replaying). slice_get (events s) old.at) so_far.same in
-    subst (λ (es : List (NodeEvent Entry)). IsToldOf told (traffic_of_events start es)) (take_all old.at (events start) (past (events start) old.at none)) so_far.told
+    let none : None ≡ slice_get (events_of_replays start) old.at = moves.gives ∙ ap (λ (s : List Replaying). slice_get (events_of_replays s) old.at) so_far.same in
+    subst (λ (es : List (NodeEvent Entry)). IsToldOf told (traffic_of_events start es)) (take_all old.at (events_of_replays start) (past (events_of_replays start) old.at none)) so_far.told
 
 -- the event after the position: its node is there, its send was not told, and it can be counted
 pub record IsNext (start : List Replaying) (old new : GroupPlace) (event : GroupEvent) (t : Told) : Type 0 where
-  pub at : slice_get (events start) old.at ≡ Some (event_of event)
+  pub at : slice_get (events_of_replays start) old.at ≡ Some (event_of event)
   pub new_at : new.at ≡ old.at + 1
   pub same : new.start ≡ start
   pub within : event.node < length start
@@ -61,17 +61,17 @@ pub record IsNext (start : List Replaying) (old new : GroupPlace) (event : Group
   pub foreign : t.foreign + 1 < 2 ^ 64
 
 pub is_next : Ordered → Stepwise → UnsentIsFree → (start : List Replaying) (old new : GroupPlace) (event : GroupEvent) (told : Told) → AreParts start → PartsFit new.start → new.at < 2 ^ 64
-    → WalkedTo start old told → Moves old new (Some event) → IsNext start old new event told
+    → WalkedTo start old told → GroupMoves old new (Some event) → IsNext start old new event told
 is_next ordered stepwise free start old new event told parts fits bound so_far moves =
-    let es = events start in
+    let es = events_of_replays start in
     let e = event_of event in
     let traffic = traffic_of_events start (take old.at es) in
-    let at : slice_get es old.at ≡ Some e = ap (λ (s : List Replaying). slice_get (events s) old.at) (sym so_far.same) ∙ sym moves.gives in
+    let at : slice_get es old.at ≡ Some e = ap (λ (s : List Replaying). slice_get (events_of_replays s) old.at) (sym so_far.same) ∙ sym moves.gives in
     let more : new.at ≡ old.at + 1 = ap (λ (p : GroupPlace). p.at) moves.place in
     let same : new.start ≡ start = ap (λ (p : GroupPlace). p.start) moves.place ∙ so_far.same in
     let first_fits = subst PartsFit same fits in
     let step = stepwise.steps start parts first_fits old.at e at in
-    let among = slice_get_within (states start old.at) event.node step.state step.stands in
+    let among = slice_get_within (states_of_nodes start old.at) event.node step.state step.stands in
     let within : event.node < length start = omega (arith, among, count_states 0 start (take old.at es)) in
     let some = few start (take old.at es) in
     let front = length-take old.at es in
@@ -90,7 +90,7 @@ pub one_walked : (start : List Replaying) (old new : GroupPlace) (event : GroupE
     → ((early : List SendOrReceive) → IsToldOf told early → IsToldOf later (traffic_at start (event_of event) ++ early)) → WalkedTo start new later
 one_walked start old new event told later so_far next tells =
     let e = event_of event in
-    let es = events start in
+    let es = events_of_replays start in
     let more : traffic_at start e ++ traffic_of_events start (take old.at es) ≡ traffic_of_events start (take new.at es) =
     one_behind start (take old.at es) e
     ∙ ap (λ f. traffic_of_events start (take old.at es ++ f ∷ [])) (sym (get_or_from_slice_get es old.at e e next.at))

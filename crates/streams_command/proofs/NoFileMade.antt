@@ -6,10 +6,10 @@ use Rattle.command_run.specs.declared.refusal.WorkText.{WorkText}
 use Rattle.command_run.specs.declared.refusal.WorkText.TheVariants as answered
 use Rattle.command_run.specs.declared.refusal.StopCause.{StopCause}
 use Rattle.command_run.specs.declared.refusal.StopCause.TheVariants as refusal
-use Rattle.command_run.specs.Call.{CountsFaults, KeepsFolder, MakesWorkFiles, Raises, StopsAs}
+use Rattle.command_run.specs.Call.{CountsFaults, KeepsFolder, MakesWorkFiles, RaisesCount, StopsAsCause}
 use Rattle.command_run.specs.Outcome.{CommandOutcome, CommandStop, and_then, writes_of}
-use Rattle.command_run.specs.OutcomeLaws.{outcome_when_told, refused_makes, refused_tells, stops_then}
-use Rattle.command_run.specs.Run.{Performed, expectation, file_state}
+use Rattle.command_run.specs.OutcomeLaws.{outcome_when_told, refused_makes, refused_tells, stops_before_next}
+use Rattle.command_run.specs.Run.{PerformedCommand, expectation, file_state}
 use Rattle.log_pairs.specs.Pairs.{NoneOpened, Pair, WasOpened, replays_of_pairs}
 use Rattle.streams_command.specs.Streams.{streams_outcome, work_of_streams}
 
@@ -23,12 +23,12 @@ keeps before after refusal.WriteFault same = tt
 keeps before after refusal.NoMemory same = tt
 
 -- no replays, no streams
-pub stops_too : (pairs : List Pair) (told : Option Folder) (e : StopCause) → NoneOpened pairs told e → WhenTold told (λ folder. StopsAs (streams_outcome pairs folder) e)
-stops_too pairs told e none folder is = stops_then (replays_of_pairs folder pairs) _ e (none folder is)
+pub stops_too : (pairs : List Pair) (told : Option Folder) (e : StopCause) → NoneOpened pairs told e → WhenTold told (λ folder. StopsAsCause (streams_outcome pairs folder) e)
+stops_too pairs told e none folder is = stops_before_next (replays_of_pairs folder pairs) _ e (none folder is)
 
-pub stopped : (pairs : List Pair) (told after : Option Folder) (counts counts_after : Counts) (e : StopCause) → WhenTold told (λ folder. StopsAs (streams_outcome pairs folder) e) → after ≡ told
-    → CountsFaults {T = WorkText} counts counts_after (Err e) → Raises counts counts_after e
-    → Performed (expectation (option_map (streams_outcome pairs) told) (λ folder. []) false) (file_state told counts) (file_state after counts_after) (Err e)
+pub stopped : (pairs : List Pair) (told after : Option Folder) (counts counts_after : Counts) (e : StopCause) → WhenTold told (λ folder. StopsAsCause (streams_outcome pairs folder) e) → after ≡ told
+    → CountsFaults {T = WorkText} counts counts_after (Err e) → RaisesCount counts counts_after e
+    → PerformedCommand (expectation (option_map (streams_outcome pairs) told) (λ folder. []) false) (file_state told counts) (file_state after counts_after) (Err e)
 stopped pairs told after counts counts_after e stops same counted cause = record {
   tells = refused_tells (streams_outcome pairs) told e stops;
   makes = refused_makes (streams_outcome pairs) told after e stops same;
@@ -48,7 +48,7 @@ works pairs told start opened o is =
 
 pub finished : (pairs : List Pair) (told after : Option Folder) (counts counts_after : Counts) (start : List Replaying) (text : List ℕ) → WasOpened pairs told start → text ≡ (work_of_streams start).text → after ≡ told
     → CountsFaults {T = WorkText} counts counts_after (Ok (answered.Done text))
-    → Performed (expectation (option_map (streams_outcome pairs) told) (λ folder. []) false) (file_state told counts) (file_state after counts_after) (Ok (answered.Done text))
+    → PerformedCommand (expectation (option_map (streams_outcome pairs) told) (λ folder. []) false) (file_state told counts) (file_state after counts_after) (Ok (answered.Done text))
 finished pairs told after counts counts_after start text opened is same counted = record {
   tells = λ o at. (work_of_streams start, works pairs told start opened o at, is, refl);
   makes = λ o at. subst (λ (o : CommandOutcome). MakesWorkFiles (Ok (answered.Done text)) (writes_of o) told after) (sym (works pairs told start opened o at)) same;

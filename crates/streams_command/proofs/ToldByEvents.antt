@@ -9,10 +9,10 @@ use Rattle.lib_calls.specs.Traffic.{is_sent, is_taken}
 use Rattle.group_order.specs.Order.{NodeEvent}
 use Rattle.group_state.specs.Place.{group_count}
 use Rattle.proc_replay.specs.Replaying.{Replaying}
-use Rattle.byte_streams.specs.declared.mark.Mark.{Mark}
-use Rattle.byte_streams.specs.declared.mark.Mark.TheVariants.{Plain, Counted, Strange}
+use Rattle.byte_streams.specs.declared.mark.PayloadMark.{PayloadMark}
+use Rattle.byte_streams.specs.declared.mark.PayloadMark.TheVariants.{Plain, Counted, Strange}
 use Rattle.byte_streams.specs.Traffic.{Received, Sent, SendOrReceive, mark_of_receive, mark_of_send}
-use Rattle.streams_command.specs.Streams.{foreign_receives, odd_sends, one_if_strange, process_at, received, traffic_by, traffic_of_events, traffic_of_event}
+use Rattle.streams_command.specs.Streams.{foreign_receives, odd_sends, one_if_strange, process_at, received_traffic, traffic_by, traffic_of_events, traffic_of_event}
 
 -- ---- one event
 
@@ -20,7 +20,7 @@ use Rattle.streams_command.specs.Streams.{foreign_receives, odd_sends, one_if_st
 abbrev pub traffic_at : List Replaying → NodeEvent Entry → List SendOrReceive
 traffic_at start e = traffic_of_event (group_count start) (process_at start e.node) e.entry
 
-turned_receive : (p : ℕ) (e : Entry) (tag : Option Tag) → reverse (received p e tag) ≡ received p e tag
+turned_receive : (p : ℕ) (e : Entry) (tag : Option Tag) → reverse (received_traffic p e tag) ≡ received_traffic p e tag
 turned_receive p e None = refl
 turned_receive p e (Some tag) = refl
 
@@ -29,7 +29,7 @@ turned true taken p e = refl
 turned false true p e = turned_receive p e e.tag
 turned false false p e = refl
 
-few_received : (p : ℕ) (e : Entry) (tag : Option Tag) → length (received p e tag) ≤ 1
+few_received : (p : ℕ) (e : Entry) (tag : Option Tag) → length (received_traffic p e tag) ≤ 1
 few_received p e None = omega arith
 few_received p e (Some tag) = omega arith
 
@@ -68,7 +68,7 @@ module _ (start : List Replaying) where
         few_by (is_sent (group_count start) e.entry) (is_taken e.entry) (process_at start e.node) e.entry,
       )
 
-at_most_one : (mark : Mark) → one_if_strange mark ≤ 1
+at_most_one : (mark : PayloadMark) → one_if_strange mark ≤ 1
 at_most_one Plain = omega arith
 at_most_one Counted = omega arith
 at_most_one Strange = omega arith

@@ -4,9 +4,9 @@ ghost use Rattle.std.specs.FinMap as map;
 ghost use Rattle.lib_calls.specs.Entry.{entry_of};
 ghost use Rattle.byte_streams.specs.Traffic.{SendOrReceive};
 ghost use Rattle.streams_command.specs.Seen.{IsToldOf};
-ghost use Rattle.streams_command.specs.Streams.{one_if_strange, received, traffic_of_event};
+ghost use Rattle.streams_command.specs.Streams.{one_if_strange, received_traffic, traffic_of_event};
 
-use byte_streams::{Mark, Streams};
+use byte_streams::{PayloadMark, Streams};
 use group_state::GroupEvent;
 use lib_calls::{is_sent, is_taken};
 use std::alloc::{AllocError, Global};
@@ -20,13 +20,13 @@ pub(crate) struct Told {
     pub(crate) foreign: u64,
 }
 
-fn one_if_strange(mark: Mark) -> u64
+fn one_if_strange(mark: PayloadMark) -> u64
     ensures value { result ≡ one_if_strange mark }
     ensures small { result ≤ 1 }
 {
     match mark {
-        Mark::Strange => 1,
-        Mark::Plain | Mark::Counted => 0,
+        PayloadMark::Strange => 1,
+        PayloadMark::Plain | PayloadMark::Counted => 0,
     }
 }
 
@@ -46,7 +46,7 @@ impl Told {
     fn tell_receive(&mut self, process: u32, event: &GroupEvent<'_>) -> Result<(), AllocError>
         requires { self.old.foreign + 1 < 2 ^ 64 }
         ensures { OnOk result ((early : List SendOrReceive) → IsToldOf self.old early
-            → IsToldOf self.new (received process (entry_of event.now.entry) event.now.entry.tag ++ early)) }
+            → IsToldOf self.new (received_traffic process (entry_of event.now.entry) event.now.entry.tag ++ early)) }
     {
         let entry = &event.entry;
         if let Some(tag) = entry.tag {

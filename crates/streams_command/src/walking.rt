@@ -1,7 +1,7 @@
 // `streams MODULE LOG ..`: what was written to each stream of a group, and read of it.
 ghost use Rattle.std.specs.Prelude.{◌≡◌, [], false, map, option_map, IfOk};
-ghost use Rattle.command_run.specs.Run.{Performed, expectation, file_state};
-ghost use Rattle.group_state.specs.Place.{AreParts, events, group_count};
+ghost use Rattle.command_run.specs.Run.{PerformedCommand, expectation, file_state};
+ghost use Rattle.group_state.specs.Place.{AreParts, events_of_replays, group_count};
 ghost use Rattle.log_pairs.specs.Seen.{pair_of};
 ghost use Rattle.streams_command.specs.Seen.{IsToldOf};
 ghost use Rattle.streams_command.specs.Streams.{streams_outcome, streams_text, traffic_of_events};
@@ -42,7 +42,7 @@ fn group_count(parts: &[Replayer<'_, '_>]) -> u32
 // What the events of these logs sent and took, all told in their order.
 fn walk(alloc: Global, parts: Vec<Replayer<'_, '_>>) -> Result<Told, AllocError>
     requires { AreParts parts.items }
-    ensures { IfOk result (λ told. IsToldOf told (traffic_of_events parts.entry.items (events parts.entry.items))) }
+    ensures { IfOk result (λ told. IsToldOf told (traffic_of_events parts.entry.items (events_of_replays parts.entry.items))) }
 {
     group_state::laws::ordered();
     group_state::laws::stepwise();
@@ -66,7 +66,7 @@ fn walk(alloc: Global, parts: Vec<Replayer<'_, '_>>) -> Result<Told, AllocError>
 // What is said of the streams of these logs.
 fn text_of(alloc: Global, parts: Vec<Replayer<'_, '_>>) -> Result<Text, AllocError>
     requires { AreParts parts.items }
-    ensures { IfOk result (λ text. text ≡ streams_text (traffic_of_events parts.entry.items (events parts.entry.items))) }
+    ensures { IfOk result (λ text. text ≡ streams_text (traffic_of_events parts.entry.items (events_of_replays parts.entry.items))) }
 {
     let told = walk(alloc, parts)?;
     print(alloc, &told)
@@ -78,7 +78,7 @@ pub fn streams<F: Files>(
     pairs: &[Pair<'_>],
     files: &mut F,
 ) -> Result<WorkText, StopCause>
-    ensures performed { Performed (expectation (option_map (streams_outcome (map pair_of pairs.now)) (F.told files.old)) (λ folder. []) false)
+    ensures performed { PerformedCommand (expectation (option_map (streams_outcome (map pair_of pairs.now)) (F.told files.old)) (λ folder. []) false)
         (file_state (F.told files.old) (F.counts files.old)) (file_state (F.told files.new) (F.counts files.new)) result }
     ensures same { F.told files.new ≡ F.told files.old }
 {

@@ -16,11 +16,11 @@ use Rattle.schedule_text.specs.declared.process.ProcessLine.{ProcessLine}
 use Rattle.group_record.specs.Answer.{first_states}
 use Rattle.group_record.specs.Images.{images_from, images_of, images as all_images}
 use Rattle.process_files.specs.Images.{mem_name, out_name}
-use Rattle.group_record.specs.Logs.{files_from, log_name, logs}
-use Rattle.group_record.specs.Run.{GroupStart, Progress, Step, log_of}
+use Rattle.group_record.specs.Logs.{files_from, log_name, logs_of_steps}
+use Rattle.group_record.specs.Run.{GroupStart, RunProgress, RunStep, log_of}
 use Rattle.command_run.specs.declared.status.Status.TheVariants as ends
 use Rattle.command_run.specs.Outcome.{CommandOutcome, CommandStop, and_then, file_of, outcome_status, written_names}
-use Rattle.command_run.specs.OutcomeLaws.{follows, same_Ok}
+use Rattle.command_run.specs.OutcomeLaws.{result_follows, same_Ok_value}
 use Rattle.record_command.specs.Agreement.{IsRecordable, group_in, run_in, steps_in}
 use Rattle.record_command.specs.Expected.{group_outcome, module_name, modules_of, record_outcome, schedule_in, schedule_or_refusal}
 use Rattle.schedule_text.specs.Limits.{most_schedule}
@@ -29,13 +29,13 @@ use Rattle.record_command.specs.Record.{outcome_by_room, recorded_work}
 -- ---- a schedule that was read
 
 read_by : (name : List ℕ) (r : Result Schedule ScheduleRefusal) (schedule : Schedule) → schedule_or_refusal name r ≡ Ok schedule → r ≡ Ok schedule
-read_by name (Ok s) schedule is = ap (λ (s : Schedule). Ok s) (same_Ok (schedule_or_refusal name (Ok s)) s schedule refl is)
+read_by name (Ok s) schedule is = ap (λ (s : Schedule). Ok s) (same_Ok_value (schedule_or_refusal name (Ok s)) s schedule refl is)
 read_by name (Err (BadLineAt line)) schedule is = cc
 read_by name (Err TooManyRuns) schedule is = cc
 
 pub schedule_formed : GivesSchedules → (folder : Folder) (name : List ℕ) (schedule : Schedule) → schedule_in folder name ≡ Ok schedule → IsWellFormed schedule
 schedule_formed gives folder name schedule is =
-    let bytes = follows (file_of folder name most_schedule) _ schedule is in
+    let bytes = result_follows (file_of folder name most_schedule) _ schedule is in
     ((gives bytes.given schedule).0 (read_by name (schedule_of bytes.given) schedule bytes.comes)).0.formed
 
 -- ---- the outcome of a recording that is done
@@ -76,7 +76,7 @@ logs_made : (p : ℕ) (names : List (List ℕ)) (bytes : ℕ → List ℕ) → A
 logs_made p [] bytes = tt
 logs_made p (name ∷ names) bytes = ((name, inl refl), logs_made (suc p) names bytes)
 
-images_made : (group : GroupStart) (steps : List Step) (p : ℕ) (names : List (List ℕ)) → AreMade (images_from group steps p names)
+images_made : (group : GroupStart) (steps : List RunStep) (p : ℕ) (names : List (List ℕ)) → AreMade (images_from group steps p names)
 images_made group steps p [] = tt
 images_made group steps p (name ∷ names) = ((name, inr (inl refl)), ((name, inr (inr refl)), images_made group steps (suc p) names))
 
@@ -84,9 +84,9 @@ made_if : (b : Bool) (files : List (List ℕ × List ℕ)) → AreMade files →
 made_if true files made = made
 made_if false files made = tt
 
-pub recording_made : (images : Bool) (group : GroupStart) (done : Progress) → AreMade (logs group done.steps ++ images_of images group done)
+pub recording_made : (images : Bool) (group : GroupStart) (done : RunProgress) → AreMade (logs_of_steps group done.steps ++ images_of images group done)
 recording_made images group done =
-    both (logs group done.steps) (images_of images group done) (logs_made 0 group.names (log_of group done.steps))
+    both (logs_of_steps group done.steps) (images_of images group done) (logs_made 0 group.names (log_of group done.steps))
     (made_if (images && is_none done.full) (all_images group done.steps) (images_made group done.steps 0 group.names))
 
 made_at : (files : List (List ℕ × List ℕ)) (name d : List ℕ) (k : ℕ) → AreMade files → k < length (map (λ (file : List ℕ × List ℕ). file.0) files) → slice_index_or (map (λ (file : List ℕ × List ℕ). file.0) files) k d ≡ name → EndsAsMade name
@@ -164,7 +164,7 @@ pub module_not_written : (images : Bool) {folder : Folder} {name : List ℕ} (r 
 module_not_written images {folder} {name} r formed done p below among =
     let none : ProcessLine = record { name = []; «module» = [] } in
     let named : IsTrue (is_module_name (module_name r.schedule p)) = subst (λ (n : List ℕ). IsTrue (is_module_name n)) (module_at r.schedule.processes p none below) (formed.lines p none below).file in
-    let files = logs (group_in r) (steps_in r) ++ images_of images (group_in r) (run_in r) in
+    let files = logs_of_steps (group_in r) (steps_in r) ++ images_of images (group_in r) (run_in r) in
     let there : Contains (map (λ (file : List ℕ × List ℕ). file.0) files) (module_name r.schedule p) =
     subst (λ (o : CommandOutcome). Contains (written_names o) (module_name r.schedule p)) done.outcome among in
     module_is_not_made (module_name r.schedule p) named (among_made files (module_name r.schedule p) (recording_made images (group_in r) (run_in r)) there)

@@ -11,8 +11,8 @@ use Rattle.fri_outside.specs.Terminal.{Hearing}
 use Rattle.schedule_text.specs.Laws.{GivesSchedules}
 use Rattle.schedule_text.specs.declared.process.ProcessLine.{ProcessLine}
 use Rattle.group_record.specs.Images.{images_of}
-use Rattle.group_record.specs.Logs.{logs}
-use Rattle.group_record.specs.Run.{size}
+use Rattle.group_record.specs.Logs.{logs_of_steps}
+use Rattle.group_record.specs.Run.{processes_in_group}
 use Rattle.command_run.specs.declared.status.Status.{Status}
 use Rattle.command_run.specs.declared.status.Status.TheVariants as ends
 use Rattle.command_run.specs.Call.{IsAnswerStatus}
@@ -23,7 +23,7 @@ use Rattle.record_command.specs.Expected.{module_name, record_outcome}
 use Rattle.replay_command.specs.Report.{replay_outcome}
 use Rattle.debug_command.specs.Debug.{debug_outcome, session_outcome}
 use Rattle.friday_app.specs.Command.{Command, Debug, Record, Replay}
-use Rattle.friday_app.specs.Expected.{expected}
+use Rattle.friday_app.specs.Expected.{expected_outcome}
 use Rattle.friday_app.specs.Run.{CommandRun}
 use Rattle.two_calls.specs.Calls.{CameTo, ShowsRecorded, ShowsThese, printed_by}
 use Rattle.headline.specs.Headline.{AreProcesses, HasFiles, ShowsSteps, pairs_of_processes}
@@ -37,9 +37,9 @@ record Recorded (images : Bool) {before : Folder} {name : List ℕ} (r : IsRecor
   done : IsDone images r
   folder : Folder
   told : middle.told ≡ Some folder
-  left : with_files (logs (group_in r) (steps_in r) ++ images_of images (group_in r) (run_in r)) (Some before) ≡ Some folder
+  left : with_files (logs_of_steps (group_in r) (steps_in r) ++ images_of images (group_in r) (run_in r)) (Some before) ≡ Some folder
   shows : ShowsSteps r (steps_in r) no_cut folder
-  modules : (p : ℕ) → p < size (group_in r) → get folder (module_name r.schedule p) ≡ get before (module_name r.schedule p)
+  modules : (p : ℕ) → p < processes_in_group (group_in r) → get folder (module_name r.schedule p) ≡ get before (module_name r.schedule p)
   printed : middle.taken ≡ printed_by images r old.taken
   unheard : middle.hearing ≡ old.hearing
 
@@ -47,10 +47,10 @@ recorded : GivesSchedules → (images : Bool) (before : Folder) (name : List ℕ
     → Recorded images r old middle
 recorded gives images before name r old middle is run =
     let outcome = record_outcome images name before in
-    let known : expected (Some (Record images name)) old.told old.hearing.left ≡ Some outcome = ap (option_map (record_outcome images name)) is in
+    let known : expected_outcome (Some (Record images name)) old.told old.hearing.left ≡ Some outcome = ap (option_map (record_outcome images name)) is in
     let done : IsDone images r = is_done images r (run.call.status outcome known tt) in
     let others = run.call.others.each before is in
-    let files : middle.told ≡ with_files (logs (group_in r) (steps_in r) ++ images_of images (group_in r) (run_in r)) (Some before) =
+    let files : middle.told ≡ with_files (logs_of_steps (group_in r) (steps_in r) ++ images_of images (group_in r) (run_in r)) (Some before) =
     (run.call.files outcome known).whole tt ∙ ap (with_files (writes_of outcome)) is ∙ ap (λ (o : CommandOutcome). with_files (writes_of o) (Some before)) done.outcome in
     let formed = schedule_formed gives before name r.schedule r.spelled in
     let count = length-map r.schedule.processes (λ (line : ProcessLine). line.name) in
@@ -66,7 +66,7 @@ recorded gives images before name r old middle is run =
     }
 
 -- the folder then has the files of each process
-has_all : (images : Bool) {before : Folder} {name : List ℕ} (r : IsRecordable before name) (old middle : Outside) (rec : Recorded images r old middle) (ps : List ℕ) → AllByRecursion (λ p. p < size (group_in r)) ps
+has_all : (images : Bool) {before : Folder} {name : List ℕ} (r : IsRecordable before name) (old middle : Outside) (rec : Recorded images r old middle) (ps : List ℕ) → AllByRecursion (λ p. p < processes_in_group (group_in r)) ps
     → AllByRecursion (HasFiles r rec.folder rec.folder) ps
 has_all images r old middle rec [] below = tt
 has_all images r old middle rec (p ∷ ps) below = (record { «module» = rec.modules p below.0; log = refl }, has_all images r old middle rec ps below.1)
@@ -75,7 +75,7 @@ has_all images r old middle rec (p ∷ ps) below = (record { «module» = rec.mo
 
 -- a call from which this is expected has this outcome
 came_to : (command : Option Command) (outcome : CommandOutcome) (folder : Folder) (printed : Option (List ℕ)) (middle new : Outside) (answer : Status) → CommandRun command middle new answer
-    → expected command middle.told middle.hearing.left ≡ Some outcome → middle.told ≡ Some folder → middle.taken ≡ printed → IsAnswerStatus answer → CameTo outcome folder printed new answer
+    → expected_outcome command middle.told middle.hearing.left ≡ Some outcome → middle.told ≡ Some folder → middle.taken ≡ printed → IsAnswerStatus answer → CameTo outcome folder printed new answer
 came_to command outcome folder printed middle new answer run known told said answers = record {
   status = run.call.status outcome known answers;
   text = (run.call.text outcome known).whole answers ∙ ap (λ (t : Option (List ℕ)). append_known t (outcome_text outcome)) said;
@@ -83,7 +83,7 @@ came_to command outcome folder printed middle new answer run known told said ans
 }
 
 these : GivesSchedules → (images : Bool) (before : Folder) (name : List ℕ) (r : IsRecordable before name) (second : Option Command) (old middle new : Outside) (answer : Status) → old.told ≡ Some before
-    → CommandRun (Some (Record images name)) old middle ends.Done → CommandRun second middle new answer → (ps : List ℕ) → AreProcesses (size (group_in r)) ps → ShowsThese images r ps second old new answer
+    → CommandRun (Some (Record images name)) old middle ends.Done → CommandRun second middle new answer → (ps : List ℕ) → AreProcesses (processes_in_group (group_in r)) ps → ShowsThese images r ps second old new answer
 these gives images before name r second old middle new answer is first run ps are =
     let rec = recorded gives images before name r old middle is first in
     let pairs = pairs_of_processes r.schedule ps in

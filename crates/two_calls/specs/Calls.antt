@@ -4,8 +4,8 @@ use Rattle.std.specs.Io.KnownBytes.{append_known}
 use Rattle.fri_outside.specs.Outside.{Folder, WhenTold}
 use Rattle.fri_outside.specs.Several.{with_files}
 use Rattle.group_record.specs.Images.{images_of}
-use Rattle.group_record.specs.Logs.{logs}
-use Rattle.group_record.specs.Run.{size}
+use Rattle.group_record.specs.Logs.{logs_of_steps}
+use Rattle.group_record.specs.Run.{processes_in_group}
 use Rattle.command_run.specs.declared.status.Status.{Status}
 use Rattle.command_run.specs.Call.{IsAnswerStatus}
 use Rattle.command_run.specs.Outcome.{CommandOutcome, outcome_status, outcome_text, writes_of}
@@ -34,7 +34,7 @@ pub record ShowsThese {before : Folder} {schedule_name : List ℕ} (images : Boo
     (second : Option Command) (old new : Outside) (answer : Status) : Type 0 where
   pub whole : (run_in r).full ≡ None
   pub folder : Folder
-  pub left : with_files (logs (group_in r) (steps_in r) ++ images_of images (group_in r) (run_in r)) (Some before) ≡ Some folder
+  pub left : with_files (logs_of_steps (group_in r) (steps_in r) ++ images_of images (group_in r) (run_in r)) (Some before) ≡ Some folder
   pub shown : IsShown (group_in r) (steps_in r) no_cut folder ps (pairs_of_processes r.schedule ps)
   pub replayed : (asked : Bool) → second ≡ Some (Replay asked (pairs_of_processes r.schedule ps)) → IsAnswerStatus answer
       → CameTo (Ok (recorded_report asked (group_in r) (steps_in r) no_cut shown.sorted)) folder (printed_by images r old.taken) new answer
@@ -45,5 +45,5 @@ pub record ShowsThese {before : Folder} {schedule_name : List ℕ} (images : Boo
 abbrev pub ShowsRecorded : Option Command → Option Command → Outside → Outside → Status → Type 0
 ShowsRecorded first second old new answer =
     (images : Bool) (schedule_name : List ℕ) → first ≡ Some (Record images schedule_name)
-    → WhenTold old.told (λ before. (r : IsRecordable before schedule_name) (ps : List ℕ) → AreProcesses (size (group_in r)) ps
+    → WhenTold old.told (λ before. (r : IsRecordable before schedule_name) (ps : List ℕ) → AreProcesses (processes_in_group (group_in r)) ps
     → ShowsThese images r ps second old new answer)

@@ -2,7 +2,7 @@
 -- holds of the parts.
 use Rattle.std.proofs.Common.{◌≡◌, ℕ, cond, eqb, inl, inr, List, [], ◌∷◌, ◌++◌, Option, Some, None, refl, sym, ap, ◌∙◌, subst, append_assoc}
 use Rattle.std.proofs.lemmas.Bool.{eqb-true, eq-eqb}
-use Rattle.fri_bytes.specs.Reading.{Reads, Begins, byte_at}
+use Rattle.fri_bytes.specs.Reading.{Reads, BeginsSpelling, byte_at}
 use Rattle.wasm_decode.specs.Values.{Reader, ◌>>=◌, exact_byte_at}
 use Rattle.wasm_decode.proofs.ReaderSteps.{chosen, bind_some, some_is, kept, joined, joined_byte, joined_three, byte_takes}
 
@@ -21,7 +21,7 @@ one_read {A} {B} P R p make laws to from = record {
   takes = λ bytes z rest e.
       let a = bind_some _ _ _ e in
       let one = laws.takes bytes a.0.0 a.0.1 a.1 in
-      subst (λ (y : B × List ℕ). Begins R bytes y.0 y.1) (some_is (make a.0.0, a.0.1) (z, rest) a.2) (one.0, one.1, to one.0 a.0.0 one.2);
+      subst (λ (y : B × List ℕ). BeginsSpelling R bytes y.0 y.1) (some_is (make a.0.0, a.0.1) (z, rest) a.2) (one.0, one.1, to one.0 a.0.0 one.2);
   again = λ s z rest h.
       let x = from s z h in
       rw (laws.again s x.0 rest x.1) (ap (λ (y : B). Some (y, rest)) (sym x.2));
@@ -38,7 +38,7 @@ two_read {A} {B} {C} P Q R p q make first second to from = record {
       let b = bind_some _ _ _ a.2 in
       let one = first.takes bytes a.0.0 a.0.1 a.1 in
       let two = second.takes a.0.1 b.0.0 b.0.1 b.1 in
-      subst (λ (y : C × List ℕ). Begins R bytes y.0 y.1) (some_is (make a.0.0 b.0.0, b.0.1) (z, rest) b.2)
+      subst (λ (y : C × List ℕ). BeginsSpelling R bytes y.0 y.1) (some_is (make a.0.0 b.0.0, b.0.1) (z, rest) b.2)
       (one.0 ++ two.0, joined bytes one.0 a.0.1 two.0 b.0.1 one.1 two.1, to one.0 two.0 a.0.0 b.0.0 one.2 two.2);
   again = λ s z rest h.
       let x = from s z h in
@@ -60,7 +60,7 @@ three_read {A} {B} {C} {D} P Q S R p q r make first second third to from = recor
       let one = first.takes bytes a.0.0 a.0.1 a.1 in
       let two = second.takes a.0.1 b.0.0 b.0.1 b.1 in
       let three = third.takes b.0.1 c.0.0 c.0.1 c.1 in
-      subst (λ (y : D × List ℕ). Begins R bytes y.0 y.1) (some_is (make a.0.0 b.0.0 c.0.0, c.0.1) (w, rest) c.2)
+      subst (λ (y : D × List ℕ). BeginsSpelling R bytes y.0 y.1) (some_is (make a.0.0 b.0.0 c.0.0, c.0.1) (w, rest) c.2)
       ((one.0 ++ two.0) ++ three.0, joined_three bytes one.0 a.0.1 two.0 b.0.1 three.0 c.0.1 one.1 two.1 three.1, to one.0 two.0 three.0 a.0.0 b.0.0 c.0.0 one.2 two.2 three.2);
   again = λ s w rest h.
       let x = from s w h in

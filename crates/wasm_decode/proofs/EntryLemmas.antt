@@ -2,7 +2,7 @@
 use Rattle.std.proofs.Common.{◌≡◌, ℕ, true, List, [], ◌∷◌, ◌++◌, length, Option, Some, None, refl, sym, ap, ◌∙◌, subst, append_assoc}
 use Rattle.std.proofs.lemmas.Bool.{eqb-true, eq-eqb, ltb-true, lt-ltb}
 use Rattle.fri_bytes.specs.Laws.{ExactReaders}
-use Rattle.fri_bytes.specs.Reading.{Reads, Begins}
+use Rattle.fri_bytes.specs.Reading.{Reads, BeginsSpelling}
 use Rattle.wasm_types.specs.declared.modules.ImportDesc.{ImportDesc}
 use Rattle.wasm_types.specs.declared.modules.ImportDesc.TheVariants as imported
 use Rattle.wasm_types.specs.declared.modules.ExportDesc.{ExportDesc}
@@ -11,7 +11,7 @@ use Rattle.wasm_types.specs.Modules.{Func}
 use Rattle.wasm_decode.specs.Grammar.{IsU32, IsVector, IsBytes, IsName, IsSized, IsValType, IsLimits, IsTable, IsGlobalType, IsExpression, IsImportDesc, IsImport, IsGlobal, IsExportDesc, IsExport, IsStart, IsElem, IsLocals, IsFunc, AreFuncs, IsCode, IsSegment}
 use Rattle.wasm_decode.specs.Values.{Reader, ◌>>=◌, u32_at, vector_at, byte_vector_at, utf8_name_at, whole_read, sized_at, val_type_at, limits_at, table_at, global_type_at}
 use Rattle.wasm_decode.specs.Instrs.{expression_at}
-use Rattle.wasm_decode.specs.Entries.{imported_at, import_desc_at, import_at, exported_of, export_desc_at, export_at, global_def_at, start_at, elem_at, segment_at, locals_at, are_few, func_at, funcs_at, code_at}
+use Rattle.wasm_decode.specs.Entries.{imported_at, import_desc_at, import_at, exported_of, export_desc_at, export_at, global_def_at, start_at, elem_at, segment_at, locals_at, are_few_locals, func_at, funcs_at, code_at}
 use Rattle.wasm_decode.proofs.ReaderSteps.{bind_some, some_is, kept, joined}
 use Rattle.wasm_decode.proofs.ComposedReaders.{Behind, AgainBehind, one_read, two_read, three_read, byte_read, case_takes, last_takes, one_takes, value_takes}
 use Rattle.wasm_decode.proofs.ValueLemmas.{u32_reads, vector_reads, bytes_reads, name_reads, all_reads, sized_reads, val_type_reads, limits_reads, table_reads, global_type_reads}
@@ -140,27 +140,27 @@ module _ (readers : ExactReaders) where
         let made : Func × List ℕ = (record { type_index = index; locals = a.0.0; body = b.0.0 }, b.0.1) in
         let locals = locals_read.takes bytes a.0.0 a.0.1 a.1 in
         let body = (expr_reads readers).takes a.0.1 b.0.0 b.0.1 b.1 in
-        subst (λ (y : Func × List ℕ). Begins (IsFunc index) bytes y.0 y.1) (some_is made (f, rest) b.2)
+        subst (λ (y : Func × List ℕ). BeginsSpelling (IsFunc index) bytes y.0 y.1) (some_is made (f, rest) b.2)
         (locals.0 ++ body.0, joined bytes locals.0 a.0.1 body.0 b.0.1 locals.1 body.1, (locals.0, body.0, refl, locals.2, body.2, ltb-true _ _ p.0, refl));
     again = λ s f rest h.
         let parts : s ++ rest ≡ h.0 ++ (h.1 ++ rest) = ap (λ (r : List ℕ). r ++ rest) h.2 ∙ append_assoc h.0 h.1 rest in
         let front : vector_at locals_at (s ++ rest) ≡ Some (f.locals, h.1 ++ rest) = ap (vector_at locals_at) parts ∙ locals_read.again h.0 f.locals (h.1 ++ rest) h.3 in
-        let few : are_few f.locals ≡ true = lt-ltb _ _ h.5 in
+        let few : are_few_locals f.locals ≡ true = lt-ltb _ _ h.5 in
         rw (front, few, (expr_reads readers).again h.1 f.body rest h.4) (ap (λ (k : ℕ). Some (record f { type_index = k }, rest)) (sym h.6));
   }
 
   sized_func_reads : (index : ℕ) → Reads (IsSized (IsFunc index)) (sized_at (whole_read (func_at index)))
   sized_func_reads index = sized_reads readers (IsFunc index) (whole_read (func_at index)) (all_reads (IsFunc index) (func_at index) (func_reads index))
 
-  funcs_take : (indices bytes : List ℕ) (fs : List Func) (rest : List ℕ) → funcs_at indices bytes ≡ Some (fs, rest) → Begins (AreFuncs indices) bytes fs rest
+  funcs_take : (indices bytes : List ℕ) (fs : List Func) (rest : List ℕ) → funcs_at indices bytes ≡ Some (fs, rest) → BeginsSpelling (AreFuncs indices) bytes fs rest
   unfolding funcs_at
-  funcs_take [] bytes fs rest e = subst (λ (y : List Func × List ℕ). Begins (AreFuncs []) bytes y.0 y.1) (some_is ([], bytes) (fs, rest) e) ([], refl, refl)
+  funcs_take [] bytes fs rest e = subst (λ (y : List Func × List ℕ). BeginsSpelling (AreFuncs []) bytes y.0 y.1) (some_is ([], bytes) (fs, rest) e) ([], refl, refl)
   funcs_take (index ∷ indices) bytes fs rest e =
       let a = bind_some _ _ _ e in
       let b = bind_some _ _ _ a.2 in
       let first = (sized_func_reads index).takes bytes a.0.0 a.0.1 a.1 in
       let others = funcs_take indices a.0.1 b.0.0 b.0.1 b.1 in
-      subst (λ (y : List Func × List ℕ). Begins (AreFuncs (index ∷ indices)) bytes y.0 y.1) (some_is (a.0.0 ∷ b.0.0, b.0.1) (fs, rest) b.2)
+      subst (λ (y : List Func × List ℕ). BeginsSpelling (AreFuncs (index ∷ indices)) bytes y.0 y.1) (some_is (a.0.0 ∷ b.0.0, b.0.1) (fs, rest) b.2)
       (first.0 ++ others.0, joined bytes first.0 a.0.1 others.0 b.0.1 first.1 others.1, (first.0, others.0, refl, first.2, others.2))
 
   funcs_again : (indices s : List ℕ) (fs : List Func) (rest : List ℕ) → AreFuncs indices s fs → funcs_at indices (s ++ rest) ≡ Some (fs, rest)

@@ -2,18 +2,18 @@
 use Rattle.std.proofs.Common.{◌≡◌, ℕ, zero, suc, ◌+◌, ◌<◌, ◌≤◌, true, false, eqb, leb, ◌&&◌, ◌⊎◌, inl, inr, List, [], ◌∷◌, ◌++◌, length, Option, Some, refl, sym, ap, ◌∙◌, subst, append_assoc, arith, length-append}
 use Rattle.std.proofs.lemmas.Bool.{eqb-true, eqb-false, leb-true, le-leb, lt-leb, ne_eqb, and_parts, or_cases}
 use Rattle.fri_bytes.specs.Laws.{ExactReaders}
-use Rattle.fri_bytes.specs.Reading.{Reads, Begins}
+use Rattle.fri_bytes.specs.Reading.{Reads, BeginsSpelling}
 use Rattle.wasm_types.specs.declared.code.ValType.{ValType}
 use Rattle.wasm_types.specs.Code.{Tree, Trees, Unreachable, Nop, Block, Loop, If, Br, BrIf, BrTable, Return, CallFunc, CallIndirect, DropTop, Select, LocalGet, LocalSet, LocalTee, GlobalGet, GlobalSet, Load, Store, MemorySize, MemoryGrow, ConstI32, ConstI64, ConstF32, ConstF64, Op, End, Then}
 use Rattle.wasm_decode.specs.Grammar.{IsU32, IsI32, IsI64, IsF32, IsF64, IsVector, IsResultType, IsMemArg, IsInstr, IsInstrs, NestsWithin, AllNestWithin, IsExpression}
 use Rattle.wasm_decode.specs.Values.{u32_at, i32_at, i64_at, f32_at, f64_at, exact_byte_at, vector_at, result_type_at}
-use Rattle.wasm_decode.specs.Instrs.{Ended, whole_at, block_at, if_at, zero_at, br_table_at, indirect_at, access_at, control_at, variable_instr_at, memory_at, numeric_at, plain_at, instr_at, is_end_opcode, sequence_at, levels_at, expression_at}
+use Rattle.wasm_decode.specs.Instrs.{EndedInstructions, whole_at, block_at, if_at, zero_at, br_table_at, indirect_at, access_at, control_at, variable_instr_at, memory_at, numeric_at, plain_at, instr_at, is_end_opcode, sequence_at, levels_at, expression_at}
 use Rattle.wasm_decode.proofs.ReaderSteps.{chosen, bind_some, some_is, guard_some, joined, byte_takes}
 use Rattle.wasm_decode.proofs.ComposedReaders.{Behind, two_read, tag_takes, case_takes, last_takes, alone_takes, one_takes, all_takes}
 use Rattle.wasm_decode.proofs.ValueLemmas.{u32_reads, i32_reads, i64_reads, f32_reads, f64_reads, vector_reads, result_type_reads}
 
 -- instructions and the byte that ends them, which nest within less levels than n
-pub record IsLevel (n : ℕ) (bytes : List ℕ) (x : Ended) : Type 0 where
+pub record IsLevel (n : ℕ) (bytes : List ℕ) (x : EndedInstructions) : Type 0 where
   pub less : ℕ
   pub inside : List ℕ
   pub level : n ≡ less + 1
@@ -35,7 +35,7 @@ whole_reads n laws = record {
       let t = laws.takes bytes b.0.0 b.0.1 b.1 in
       let last : b.0.0.1 ≡ 0x0b = eqb-true b.0.0.1 0x0b g.0 in
       let whole : IsWhole n t.0 b.0.0.0 = subst (λ (k : ℕ). IsLevel n t.0 (b.0.0.0, k)) last t.2 in
-      subst (λ (y : Trees × List ℕ). Begins (IsWhole n) bytes y.0 y.1) g.1 (t.0, t.1, whole);
+      subst (λ (y : Trees × List ℕ). BeginsSpelling (IsWhole n) bytes y.0 y.1) g.1 (t.0, t.1, whole);
   again = λ s ts rest h. rw (laws.again s (ts, 0x0b) rest h) refl;
 }
 
@@ -187,7 +187,7 @@ is_end_from b (inl e) = rw e refl
 is_end_from b (inr e) = rw e refl
 
 -- what a sequence is, before its level is known
-abbrev Sequence : ℕ → List ℕ → Ended → List ℕ → Type 0
+abbrev Sequence : ℕ → List ℕ → EndedInstructions → List ℕ → Type 0
 Sequence less bytes x rest = (inside : List ℕ) × (bytes ≡ (inside ++ x.1 ∷ []) ++ rest) × IsInstrs inside x.0 × AllNestWithin less x.0 × ((x.1 ≡ 0x0b) ⊎ (x.1 ≡ 0x05))
 
 regrouped_four : (a b c d : List ℕ) → ((a ++ b) ++ c) ++ d ≡ a ++ ((b ++ c) ++ d)
@@ -387,7 +387,7 @@ module _ (readers : ExactReaders) where
   instr_again n laws s (ConstF32 k) h nests = record { opcode = 0x43; behind = h.0; parts = h.1; goes_on = refl; read = λ rest. rw ((f32_reads readers).again h.0 k rest h.2) refl }
   instr_again n laws s (ConstF64 k) h nests = record { opcode = 0x44; behind = h.0; parts = h.1; goes_on = refl; read = λ rest. rw ((f64_reads readers).again h.0 k rest h.2) refl }
 
-  sequence_takes : (n : ℕ) → Reads (IsLevel n) (levels_at n) → (count : ℕ) (bytes : List ℕ) (x : Ended) (rest : List ℕ) → sequence_at (levels_at n) count bytes ≡ Some (x, rest) → Sequence n bytes x rest
+  sequence_takes : (n : ℕ) → Reads (IsLevel n) (levels_at n) → (count : ℕ) (bytes : List ℕ) (x : EndedInstructions) (rest : List ℕ) → sequence_at (levels_at n) count bytes ≡ Some (x, rest) → Sequence n bytes x rest
   unfolding sequence_at
   sequence_takes n laws zero bytes x rest e = absurd cc
   sequence_takes n laws (suc count) bytes x rest e =
@@ -395,18 +395,18 @@ module _ (readers : ExactReaders) where
       let front = byte_takes bytes b.0.0 b.0.1 b.1 in
       elim (chosen (is_end_opcode b.0.0) _ _ _ b.2) [
         | inl p ↦
-            let made : Ended × List ℕ = ((End, b.0.0), b.0.1) in
-            subst (λ (y : Ended × List ℕ). Sequence n bytes y.0 y.1) (some_is made (x, rest) p.1) ([], front, refl, tt, ends_from b.0.0 p.0)
+            let made : EndedInstructions × List ℕ = ((End, b.0.0), b.0.1) in
+            subst (λ (y : EndedInstructions × List ℕ). Sequence n bytes y.0 y.1) (some_is made (x, rest) p.1) ([], front, refl, tt, ends_from b.0.0 p.0)
         | inr p ↦
             let c = bind_some _ _ _ p.1 in
             let d = bind_some _ _ _ c.2 in
             let one = instr_takes n laws b.0.0 b.0.1 c.0.0 c.0.1 c.1 in
             let more = sequence_takes n laws count c.0.1 d.0.0 d.0.1 d.1 in
-            let made : Ended × List ℕ = ((Then c.0.0 d.0.0.0, d.0.0.1), d.0.1) in
+            let made : EndedInstructions × List ℕ = ((Then c.0.0 d.0.0.0, d.0.0.1), d.0.1) in
             let head = b.0.0 ∷ one.0 in
             let parts : bytes ≡ ((head ++ more.0) ++ d.0.0.1 ∷ []) ++ d.0.1 =
             front ∙ ap (λ (r : List ℕ). b.0.0 ∷ r) one.1 ∙ ap (λ (r : List ℕ). head ++ r) more.1 ∙ simp append_assoc in
-            subst (λ (y : Ended × List ℕ). Sequence n bytes y.0 y.1) (some_is made (x, rest) d.2)
+            subst (λ (y : EndedInstructions × List ℕ). Sequence n bytes y.0 y.1) (some_is made (x, rest) d.2)
             (head ++ more.0, parts, (head, more.0, refl, one.2.0, more.2), (one.2.1, more.3), more.4)
       ]
 

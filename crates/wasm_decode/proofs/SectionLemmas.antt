@@ -9,11 +9,11 @@ use Rattle.wasm_decode.specs.declared.error.DecodeError.TheVariants as errors
 use Rattle.wasm_decode.specs.Decoding.{IsErrorOf}
 use Rattle.wasm_decode.specs.Grammar.{IsBytes, IsEach, IsSized, BeginsWithName, IsCustom, AreCustoms, IsSection, HasSection}
 use Rattle.wasm_decode.specs.Values.{Reader, byte_vector_at, utf8_name_at, whole_read, sized_at}
-use Rattle.wasm_decode.specs.Sections.{custom_name_of, starts, skip_at, customs_at, contents_at, contents_value, section_at}
+use Rattle.wasm_decode.specs.Sections.{custom_name_of, starts_with_byte, skip_customs_at, customs_at, contents_at, contents_value, section_at}
 use Rattle.wasm_decode.proofs.ReaderSteps.{chosen, bind_some, some_is, joined, joined_byte, byte_takes}
 use Rattle.wasm_decode.proofs.ValueLemmas.{ReadsAll, bytes_reads, name_reads, all_reads, sized_reads}
 
-starts_is : (id : ℕ) (bytes : List ℕ) → starts id bytes ≡ true → bytes ≡ id ∷ drop 1 bytes
+starts_is : (id : ℕ) (bytes : List ℕ) → starts_with_byte id bytes ≡ true → bytes ≡ id ∷ drop 1 bytes
 starts_is id [] e = absurd cc
 starts_is id (b ∷ bytes) e = ap (λ (k : ℕ). k ∷ bytes) (eqb-true b id e)
 
@@ -23,26 +23,26 @@ more_customs sized name rest one others = (name ∷ others.0, (0 ∷ sized, rest
 
 -- passing over custom sections leaves this, however many may be passed over
 abbrev pub Leads : List ℕ → List ℕ → Type 0
-Leads bytes rest = (count : ℕ) → length bytes ≤ count → skip_at count bytes ≡ Some rest
+Leads bytes rest = (count : ℕ) → length bytes ≤ count → skip_customs_at count bytes ≡ Some rest
 
-stays : (bytes : List ℕ) → starts 0 bytes ≡ false → Leads bytes bytes
-unfolding skip_at
+stays : (bytes : List ℕ) → starts_with_byte 0 bytes ≡ false → Leads bytes bytes
+unfolding skip_customs_at
 stays bytes none zero room = refl
 stays bytes none (suc count) room = rw none refl
 
-pub skip_fails : (e : DecodeError) (count : ℕ) (bytes : List ℕ) (b : ℕ) (behind : List ℕ) (total : Option (List ℕ)) → byte_at bytes ≡ Some (b, behind) → starts 0 bytes ≡ true → IsErrorOf e (sized_at custom_name_of behind) → length bytes ≤ count → skip_at count bytes ≡ total → IsErrorOf e total
-unfolding skip_at
+pub skip_fails : (e : DecodeError) (count : ℕ) (bytes : List ℕ) (b : ℕ) (behind : List ℕ) (total : Option (List ℕ)) → byte_at bytes ≡ Some (b, behind) → starts_with_byte 0 bytes ≡ true → IsErrorOf e (sized_at custom_name_of behind) → length bytes ≤ count → skip_customs_at count bytes ≡ total → IsErrorOf e total
+unfolding skip_customs_at
 skip_fails errors.NoMemory count bytes b behind total byte next custom room so_far = tt
 skip_fails errors.Malformed zero bytes b behind total byte next custom room so_far = absurd (omega (arith, ap length (byte_takes bytes b behind byte)))
 skip_fails errors.Malformed (suc count) bytes b behind total byte next custom room so_far =
     let rest : drop 1 bytes ≡ behind = ap (drop 1) (byte_takes bytes b behind byte) in
-    let one : skip_at (suc count) bytes ≡ None = rw (next, rest, custom) refl in
+    let one : skip_customs_at (suc count) bytes ≡ None = rw (next, rest, custom) refl in
     sym so_far ∙ one
 
-pub skip_done : (count : ℕ) (bytes : List ℕ) (total : Option (List ℕ)) → starts 0 bytes ≡ false → length bytes ≤ count → skip_at count bytes ≡ total → total ≡ Some bytes
+pub skip_done : (count : ℕ) (bytes : List ℕ) (total : Option (List ℕ)) → starts_with_byte 0 bytes ≡ false → length bytes ≤ count → skip_customs_at count bytes ≡ total → total ≡ Some bytes
 skip_done count bytes total none room so_far = sym so_far ∙ stays bytes none count room
 
-pub customs_is : (bytes : List ℕ) → skip_at (length bytes) bytes ≡ customs_at bytes
+pub customs_is : (bytes : List ℕ) → skip_customs_at (length bytes) bytes ≡ customs_at bytes
 unfolding customs_at
 customs_is bytes = refl
 
@@ -50,7 +50,7 @@ customs_is bytes = refl
 
 -- the bytes begin with no id up to this one
 abbrev Above : ℕ → List ℕ → Type 0
-Above from bytes = (k : ℕ) → k ≤ from → starts k bytes ≡ false
+Above from bytes = (k : ℕ) → k ≤ from → starts_with_byte k bytes ≡ false
 
 -- what follows a section: after custom sections it is still that, and begins with a greater id
 pub record Tail (from : ℕ) (Q : List ℕ → Type 0) : Type 0 where
@@ -86,11 +86,11 @@ module _ (readers : ExactReaders) where
   custom_reads : Reads (IsSized BeginsWithName) (sized_at custom_name_of)
   custom_reads = sized_reads readers BeginsWithName custom_name_of custom_name_reads
 
-  skip_takes : (count : ℕ) (bytes rest : List ℕ) → length bytes ≤ count → skip_at count bytes ≡ Some rest → (c : List ℕ) × (bytes ≡ c ++ rest) × AreCustoms c
-  unfolding skip_at
+  skip_takes : (count : ℕ) (bytes rest : List ℕ) → length bytes ≤ count → skip_customs_at count bytes ≡ Some rest → (c : List ℕ) × (bytes ≡ c ++ rest) × AreCustoms c
+  unfolding skip_customs_at
   skip_takes zero bytes rest room e = subst (λ (r : List ℕ). (c : List ℕ) × (bytes ≡ c ++ r) × AreCustoms c) (some_is bytes rest e) ([], refl, ([], refl))
   skip_takes (suc count) bytes rest room e =
-      elim (chosen (starts 0 bytes) _ _ _ e) [
+      elim (chosen (starts_with_byte 0 bytes) _ _ _ e) [
         | inl p ↦
             let a = bind_some _ _ _ p.1 in
             let whole : bytes ≡ 0 ∷ drop 1 bytes = starts_is 0 bytes p.0 in
@@ -104,14 +104,14 @@ module _ (readers : ExactReaders) where
       ]
 
   customs_then : (names : List (List ℕ)) (c bytes rest : List ℕ) → IsEach IsCustom c names → Leads bytes rest → Leads (c ++ bytes) rest
-  unfolding skip_at
+  unfolding skip_customs_at
   customs_then [] c bytes rest h leads count room = rw h (leads count (subst (λ (s : List ℕ). length (s ++ bytes) ≤ count) h room))
   customs_then (name ∷ names) c bytes rest (front, others, parts, (sized, begins, one), more) leads zero room =
       absurd (omega (arith, ap length parts, ap length begins, length-append front others, length-append c bytes))
   customs_then (name ∷ names) c bytes rest (front, others, parts, (sized, begins, one), more) leads (suc count) room =
       let all : c ++ bytes ≡ 0 ∷ (sized ++ (others ++ bytes)) = ap (λ (s : List ℕ). s ++ bytes) (parts ∙ ap (λ (s : List ℕ). s ++ others) begins) ∙ ap (λ (s : List ℕ). 0 ∷ s) (append_assoc sized others bytes) in
       let less : length (others ++ bytes) ≤ count = omega (arith, ap length all, length-append sized (others ++ bytes)) in
-      ap (skip_at (suc count)) all ∙ rw (custom_reads.again sized name (others ++ bytes) one) (customs_then names others bytes rest more leads count less)
+      ap (skip_customs_at (suc count)) all ∙ rw (custom_reads.again sized name (others ++ bytes) one) (customs_then names others bytes rest more leads count less)
 
   pub customs_take : (bytes : List ℕ) → customs_at bytes ≡ Some [] → AreCustoms bytes
   unfolding customs_at
@@ -132,15 +132,15 @@ module _ (readers : ExactReaders) where
       let one = custom_reads.takes behind name after custom in
       omega (arith, ap length (byte_takes bytes b behind byte), ap length one.1, length-append one.0 after)
 
-  pub skip_more : (count : ℕ) (bytes : List ℕ) (b : ℕ) (behind name after : List ℕ) (total : Option (List ℕ)) → byte_at bytes ≡ Some (b, behind) → starts 0 bytes ≡ true → sized_at custom_name_of behind ≡ Some (name, after) → length bytes ≤ count → skip_at count bytes ≡ total
-      → (k : ℕ) × (length after ≤ k) × (skip_at k after ≡ total)
-  unfolding skip_at
+  pub skip_more : (count : ℕ) (bytes : List ℕ) (b : ℕ) (behind name after : List ℕ) (total : Option (List ℕ)) → byte_at bytes ≡ Some (b, behind) → starts_with_byte 0 bytes ≡ true → sized_at custom_name_of behind ≡ Some (name, after) → length bytes ≤ count → skip_customs_at count bytes ≡ total
+      → (k : ℕ) × (length after ≤ k) × (skip_customs_at k after ≡ total)
+  unfolding skip_customs_at
   skip_more zero bytes b behind name after total byte next custom room so_far = absurd (omega (arith, custom_shorter bytes b behind name after byte custom))
   skip_more (suc count) bytes b behind name after total byte next custom room so_far =
       let all : bytes ≡ b ∷ behind = byte_takes bytes b behind byte in
       let less : length after ≤ count = omega (arith, custom_shorter bytes b behind name after byte custom) in
       let rest : drop 1 bytes ≡ behind = ap (drop 1) all in
-      let one : skip_at (suc count) bytes ≡ skip_at count after = rw (next, rest, custom) refl in
+      let one : skip_customs_at (suc count) bytes ≡ skip_customs_at count after = rw (next, rest, custom) refl in
       (count, less, sym one ∙ so_far)
 
   pub tail_end : (from : ℕ) → Tail from AreCustoms
@@ -179,16 +179,16 @@ module _ (readers : ExactReaders) where
             let t = tail.skips h.others h.follow in
             let all : h.customs ++ h.others ≡ bytes = sym (h.parts ∙ ap (λ (s : List ℕ). (h.customs ++ s) ++ h.others) gone.0 ∙ ap (λ (s : List ℕ). s ++ h.others) (append-nil h.customs)) in
             let leads : Leads bytes t.0 = subst (λ (s : List ℕ). Leads s t.0) all (customs_then h.are_customs.0 h.customs h.others t.0 h.are_customs.1 t.1) in
-            let skipped : skip_at (length bytes) bytes ≡ Some t.0 = leads (length bytes) (omega arith) in
-            let other : starts id t.0 ≡ false = t.3 id (omega arith) in
+            let skipped : skip_customs_at (length bytes) bytes ≡ Some t.0 = leads (length bytes) (omega arith) in
+            let other : starts_with_byte id t.0 ≡ false = t.3 id (omega arith) in
             (t.0, rw (skipped, other) (ap (λ (y : A). Some (y, t.0)) (sym gone.1)), t.2)
         | inr present ↦
             let sized = present.0 in
             let rest = (id ∷ sized) ++ h.others in
             let all : h.customs ++ rest ≡ bytes = sym (h.parts ∙ ap (λ (s : List ℕ). (h.customs ++ s) ++ h.others) present.1 ∙ append_assoc h.customs (id ∷ sized) h.others) in
-            let not_custom : starts 0 rest ≡ false = ne_eqb id 0 (λ same. omega arith) in
+            let not_custom : starts_with_byte 0 rest ≡ false = ne_eqb id 0 (λ same. omega arith) in
             let leads : Leads bytes rest = subst (λ (s : List ℕ). Leads s rest) all (customs_then h.are_customs.0 h.customs rest rest h.are_customs.1 (stays rest not_custom)) in
-            let skipped : skip_at (length bytes) bytes ≡ Some rest = leads (length bytes) (omega arith) in
+            let skipped : skip_customs_at (length bytes) bytes ≡ Some rest = leads (length bytes) (omega arith) in
             let same : eqb id id ≡ true = eq-eqb id id refl in
             let contents = present.2.0 in
             let piece : byte_vector_at (sized ++ h.others) ≡ Some (contents, h.others) = (bytes_reads readers).again sized contents h.others present.2.1 in
@@ -201,7 +201,7 @@ module _ (readers : ExactReaders) where
   contents_take id bytes found rest e =
       let a = bind_some _ _ _ e in
       let s = skip_takes (length bytes) bytes a.0 (omega arith) a.1 in
-      elim (chosen (starts id a.0) _ _ _ a.2) [
+      elim (chosen (starts_with_byte id a.0) _ _ _ a.2) [
         | inl p ↦
             let b = bind_some _ _ _ p.1 in
             let piece = (bytes_reads readers).takes (drop 1 a.0) b.0.0 b.0.1 b.1 in

@@ -7,30 +7,30 @@ use Rattle.std.proofs.lemmas.List.{append-nil, nil_from_length}
 use Rattle.std.proofs.lemmas.Str.{is_utf8-from_IsUtf8, IsUtf8-from_is_utf8}
 use Rattle.fri_bytes.specs.Laws.{ExactReaders}
 use Rattle.fri_bytes.specs.Leb.{IsSigned, signed_at}
-use Rattle.fri_bytes.specs.Reading.{Reads, Begins}
+use Rattle.fri_bytes.specs.Reading.{Reads, BeginsSpelling}
 use Rattle.wasm_types.specs.declared.code.ValType.{ValType}
 use Rattle.wasm_types.specs.declared.code.ValType.TheVariants.{I32, I64, F32, F64}
 use Rattle.wasm_types.specs.declared.modules.Limits.{Limits}
 use Rattle.wasm_types.specs.Modules.{FuncType}
 use Rattle.wasm_decode.specs.Grammar.{IsU32, IsI32, IsI64, IsF32, IsF64, IsEach, IsVector, IsBytes, IsName, IsSized, IsValType, IsResultType, IsFuncType, IsMinMax, IsLimits, IsTable, IsMutable, IsGlobalType}
-use Rattle.wasm_decode.specs.Values.{Reader, ◌>>=◌, u32_at, i32_at, i64_at, f32_at, f64_at, each_at, vector_at, byte_vector_at, utf8_name_at, end_of, whole_read, sized_at, val_type_of, val_type_at, result_type_at, func_type_at, min_at, min_max_at, limits_of, limits_at, table_at, mutable_of, mutable_at, global_type_at}
+use Rattle.wasm_decode.specs.Values.{Reader, ◌>>=◌, u32_at, i32_at, i64_at, f32_at, f64_at, each_at, vector_at, byte_vector_at, utf8_name_at, end_of, whole_read, sized_at, val_type_of, val_type_at, result_type_at, func_type_at, min_limits_at, min_max_at, limits_of, limits_at, table_at, mutable_of, mutable_at, global_type_at}
 use Rattle.wasm_decode.proofs.ReaderSteps.{bind_some, some_is, guard_some, joined}
 use Rattle.wasm_decode.proofs.ComposedReaders.{Behind, AgainBehind, read_as, one_read, two_read, tag_read, byte_read, case_takes, last_takes, alone_takes, all_takes, value_takes}
 
 -- ---- vectors
 
-each_takes : {A : Type 0} (P : List ℕ → A → Type 0) (read : Reader A) → Reads P read → (n : ℕ) (bytes : List ℕ) (xs : List A) (rest : List ℕ) → each_at read n bytes ≡ Some (xs, rest) → Begins (IsEach P) bytes xs rest × (length xs ≡ n)
+each_takes : {A : Type 0} (P : List ℕ → A → Type 0) (read : Reader A) → Reads P read → (n : ℕ) (bytes : List ℕ) (xs : List A) (rest : List ℕ) → each_at read n bytes ≡ Some (xs, rest) → BeginsSpelling (IsEach P) bytes xs rest × (length xs ≡ n)
 unfolding each_at
 each_takes {A} P read laws zero bytes xs rest e =
     let is = some_is ([], bytes) (xs, rest) e in
-    subst (λ (y : List A × List ℕ). Begins (IsEach P) bytes y.0 y.1 × (length y.0 ≡ 0)) is (([], refl, refl), refl)
+    subst (λ (y : List A × List ℕ). BeginsSpelling (IsEach P) bytes y.0 y.1 × (length y.0 ≡ 0)) is (([], refl, refl), refl)
 each_takes {A} P read laws (suc n) bytes xs rest e =
     let a = bind_some _ _ _ e in
     let b = bind_some _ _ _ a.2 in
     let first = laws.takes bytes a.0.0 a.0.1 a.1 in
     let others = each_takes P read laws n a.0.1 b.0.0 b.0.1 b.1 in
     let is = some_is (a.0.0 ∷ b.0.0, b.0.1) (xs, rest) b.2 in
-    subst (λ (y : List A × List ℕ). Begins (IsEach P) bytes y.0 y.1 × (length y.0 ≡ suc n)) is
+    subst (λ (y : List A × List ℕ). BeginsSpelling (IsEach P) bytes y.0 y.1 × (length y.0 ≡ suc n)) is
     ((first.0 ++ others.0.0, joined bytes first.0 a.0.1 others.0.0 b.0.1 first.1 others.0.1, (first.0, others.0.0, refl, first.2, others.0.2)), ap suc others.1)
 
 each_again : {A : Type 0} (P : List ℕ → A → Type 0) (read : Reader A) → Reads P read → (s : List ℕ) (xs : List A) (rest : List ℕ) → IsEach P s xs → each_at read (length xs) (s ++ rest) ≡ Some (xs, rest)
@@ -209,7 +209,7 @@ module _ (readers : ExactReaders) where
         let a = bind_some _ _ _ e in
         let g = guard_some _ _ _ a.2 in
         let one = bytes_reads.takes bytes a.0.0 a.0.1 a.1 in
-        subst (λ (y : List ℕ × List ℕ). Begins IsName bytes y.0 y.1) g.1 (one.0, one.1, (one.2, IsUtf8-from_is_utf8 a.0.0 g.0));
+        subst (λ (y : List ℕ × List ℕ). BeginsSpelling IsName bytes y.0 y.1) g.1 (one.0, one.1, (one.2, IsUtf8-from_is_utf8 a.0.0 g.0));
     again = λ s name rest h. rw (bytes_reads.again s name rest h.0, is_utf8-from_IsUtf8 name h.1) refl;
   }
 
@@ -220,7 +220,7 @@ module _ (readers : ExactReaders) where
         let a = bind_some _ _ _ e in
         let b = bind_some _ _ _ a.2 in
         let sized = bytes_reads.takes bytes a.0.0 a.0.1 a.1 in
-        subst (λ (y : A × List ℕ). Begins (IsSized P) bytes y.0 y.1) (some_is (b.0, a.0.1) (x, rest) b.2)
+        subst (λ (y : A × List ℕ). BeginsSpelling (IsSized P) bytes y.0 y.1) (some_is (b.0, a.0.1) (x, rest) b.2)
         (sized.0, sized.1, (a.0.0, sized.2, laws.takes a.0.0 b.0 b.1));
     again = λ s x rest h. rw (bytes_reads.again s h.0 rest h.1, laws.again h.0 x h.2) refl;
   }
@@ -240,8 +240,8 @@ module _ (readers : ExactReaders) where
       read_as _ IsFuncType func_type_at (tag_read 0x60 AreParams params_at params_read)
       (λ s t h. (h.2.0, h.2.1, h.1 ∙ ap (λ (r : List ℕ). 0x60 ∷ r) h.2.2, h.2.3, h.2.4)) (λ s t h. (h.0 ++ h.1, h.2, (h.0, h.1, refl, h.3, h.4)))
 
-  min_reads : Reads (λ s (l : Limits). IsU32 s l.min × (l.max ≡ None)) min_at
-  unfolding min_at
+  min_reads : Reads (λ s (l : Limits). IsU32 s l.min × (l.max ≡ None)) min_limits_at
+  unfolding min_limits_at
   min_reads = one_read IsU32 _ u32_at (λ min. record { min = min; max = None }) u32_reads (λ s n h. (h, refl)) (λ s l h. (l.min, h.0, ap (λ (m : Option ℕ). record l { max = m }) h.1))
 
   min_max_reads : Reads (λ s (l : Limits). (max : ℕ) × (l.max ≡ Some max) × (low high : List ℕ) × (s ≡ low ++ high) × IsU32 low l.min × IsU32 high max) min_max_at
@@ -253,7 +253,7 @@ module _ (readers : ExactReaders) where
   limits_take : (flag : ℕ) (bytes : List ℕ) (l : Limits) (rest : List ℕ) → limits_of flag bytes ≡ Some (l, rest) → Behind IsLimits flag bytes l rest
   unfolding limits_of
   limits_take flag bytes l rest e =
-      case_takes IsLimits 0x00 flag bytes l rest _ _ e (λ here. all_takes IsLimits 0x00 bytes l rest _ min_at min_reads here (λ s h. subst (IsMinMax (0x00 ∷ s) l.min) (sym h.1) (s, refl, h.0))) (λ there.
+      case_takes IsLimits 0x00 flag bytes l rest _ _ e (λ here. all_takes IsLimits 0x00 bytes l rest _ min_limits_at min_reads here (λ s h. subst (IsMinMax (0x00 ∷ s) l.min) (sym h.1) (s, refl, h.0))) (λ there.
       last_takes IsLimits 0x01 flag bytes l rest _ there (λ here. all_takes IsLimits 0x01 bytes l rest _ min_max_at min_max_reads here (λ s h.
       subst (IsMinMax (0x01 ∷ s) l.min) (sym h.1) (h.2, h.3, ap (λ (r : List ℕ). 0x01 ∷ r) h.4, h.5, h.6))))
 

@@ -10,9 +10,9 @@ IsErrorOf errors.Malformed read = read ≡ None
 IsErrorOf errors.NoMemory read = Unit {0}
 
 -- What a function returned, seen by `view`, and the bytes that it left are what reading gives.
-abbrev pub Decodes : {X Y : Type 0} → (X → Y) → Result X DecodeError → CursorState → Option (Y × List ℕ) → Type 0
-Decodes view (Ok x) new read = read ≡ Some (view x, new.left)
-Decodes view (Err e) new read = IsErrorOf e read
+abbrev pub DecodesTo : {X Y : Type 0} → (X → Y) → Result X DecodeError → CursorState → Option (Y × List ℕ) → Type 0
+DecodesTo view (Ok x) new read = read ≡ Some (view x, new.left)
+DecodesTo view (Err e) new read = IsErrorOf e read
 
 -- the same for a function that reads all of its bytes
 abbrev pub DecodesAll : {X Y : Type 0} → (X → Y) → Result X DecodeError → Option Y → Type 0
@@ -20,6 +20,6 @@ DecodesAll view (Ok x) read = read ≡ Some (view x)
 DecodesAll view (Err e) read = IsErrorOf e read
 
 -- the same for a function that passes over bytes
-abbrev pub Passes : Result (Unit {0}) DecodeError → CursorState → Option (List ℕ) → Type 0
-Passes (Ok x) new read = read ≡ Some new.left
-Passes (Err e) new read = IsErrorOf e read
+abbrev pub PassesOver : Result (Unit {0}) DecodeError → CursorState → Option (List ℕ) → Type 0
+PassesOver (Ok x) new read = read ≡ Some new.left
+PassesOver (Err e) new read = IsErrorOf e read

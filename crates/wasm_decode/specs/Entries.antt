@@ -106,14 +106,14 @@ locals_at bytes = do
   Some ((count.0, type.0), type.1)
 
 -- there are fewer than 2 ^ 32 locals
-abbrev pub are_few : List (ℕ × ValType) → Bool
-are_few locals = nat_lt (sum_by (λ l. l.0) locals) (2 ^ 32)
+abbrev pub are_few_locals : List (ℕ × ValType) → Bool
+are_few_locals locals = nat_lt (sum_by (λ l. l.0) locals) (2 ^ 32)
 
 -- a function of the type with this index
 unfoldable pub func_at : ℕ → Reader Func
 func_at type_index bytes = do
   locals ← vector_at locals_at bytes
-  if are_few locals.0 then (do
+  if are_few_locals locals.0 then (do
     body ← expression_at locals.1
     Some (record { type_index = type_index; locals = locals.0; body = body.0 }, body.1)) else None
 

@@ -6,24 +6,24 @@ use Rattle.wasm_types.specs.Code.{Tree, Trees, Unreachable, Nop, Block, Loop, If
 use Rattle.wasm_decode.specs.Values.{Reader, ◌>>=◌, u32_at, i32_at, i64_at, f32_at, f64_at, exact_byte_at, vector_at, result_type_at}
 
 -- instructions with the byte that ends them, 05 or 0B
-abbrev pub Ended : Type 0
-Ended = Trees × ℕ
+abbrev pub EndedInstructions : Type 0
+EndedInstructions = Trees × ℕ
 
 -- instructions that 0B ends
-unfoldable pub whole_at : Reader Ended → Reader Trees
+unfoldable pub whole_at : Reader EndedInstructions → Reader Trees
 whole_at inner bytes = do
   b ← inner bytes
   if b.0.1 == 0x0b then Some (b.0.0, b.1) else None
 
 -- a block or a loop
-unfoldable pub block_at : (Option ValType → Trees → Tree) → Reader Ended → Reader Tree
+unfoldable pub block_at : (Option ValType → Trees → Tree) → Reader EndedInstructions → Reader Tree
 block_at make inner bytes = do
   result ← result_type_at bytes
   body ← whole_at inner result.1
   Some (make result.0 body.0, body.1)
 
 -- an `if`, with a second branch where 05 ends the first
-unfoldable pub if_at : Reader Ended → Reader Tree
+unfoldable pub if_at : Reader EndedInstructions → Reader Tree
 if_at inner bytes = do
   result ← result_type_at bytes
   first ← inner result.1
@@ -115,7 +115,7 @@ plain_at opcode bytes =
 -- ---- instructions
 
 -- an instruction after its first byte, where `inner` reads the instructions of a block
-unfoldable pub instr_at : Reader Ended → ℕ → Reader Tree
+unfoldable pub instr_at : Reader EndedInstructions → ℕ → Reader Tree
 instr_at inner opcode bytes =
     if opcode == 0x02 then block_at Block inner bytes else
     (if opcode == 0x03 then block_at Loop inner bytes else
@@ -126,7 +126,7 @@ abbrev pub is_end_opcode : ℕ → Bool
 is_end_opcode b = b == 0x0b || b == 0x05
 
 -- at most so many instructions and their end
-unfoldable pub sequence_at : Reader Ended → ℕ → Reader Ended
+unfoldable pub sequence_at : Reader EndedInstructions → ℕ → Reader EndedInstructions
 sequence_at inner zero bytes = None
 sequence_at inner (suc count) bytes = do
   b ← byte_at bytes
@@ -136,7 +136,7 @@ sequence_at inner (suc count) bytes = do
     Some ((Then first.0 others.0.0, others.0.1), others.1))
 
 -- instructions and their end, in less than this many levels; each of them takes a byte at least
-unfoldable pub levels_at : ℕ → Reader Ended
+unfoldable pub levels_at : ℕ → Reader EndedInstructions
 levels_at zero bytes = None
 levels_at (suc less) bytes = sequence_at (levels_at less) (length bytes) bytes
 

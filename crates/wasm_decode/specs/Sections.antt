@@ -13,27 +13,27 @@ custom_name_of bytes = do
   Some name.0
 
 -- this byte is the next one
-abbrev pub starts : ℕ → List ℕ → Bool
-starts id [] = false
-starts id (b ∷ bytes) = b == id
+abbrev pub starts_with_byte : ℕ → List ℕ → Bool
+starts_with_byte id [] = false
+starts_with_byte id (b ∷ bytes) = b == id
 
 -- what follows the custom sections, of which there are at most so many
-unfoldable pub skip_at : ℕ → List ℕ → Option (List ℕ)
-skip_at zero bytes = Some bytes
-skip_at (suc count) bytes =
-    if starts 0 bytes then (do
+unfoldable pub skip_customs_at : ℕ → List ℕ → Option (List ℕ)
+skip_customs_at zero bytes = Some bytes
+skip_customs_at (suc count) bytes =
+    if starts_with_byte 0 bytes then (do
       custom ← sized_at custom_name_of (drop 1 bytes)
-      skip_at count custom.1) else Some bytes
+      skip_customs_at count custom.1) else Some bytes
 
 -- what follows the custom sections; each of them takes a byte at least
 unfoldable pub customs_at : List ℕ → Option (List ℕ)
-customs_at bytes = skip_at (length bytes) bytes
+customs_at bytes = skip_customs_at (length bytes) bytes
 
 -- the contents of the section with this id, after custom sections, or nothing where it is absent
 unfoldable pub contents_at : ℕ → Reader (Option (List ℕ))
 contents_at id bytes = do
   rest ← customs_at bytes
-  if starts id rest then (do
+  if starts_with_byte id rest then (do
     contents ← byte_vector_at (drop 1 rest)
     Some (Some contents.0, contents.1)) else Some (None, rest)
 

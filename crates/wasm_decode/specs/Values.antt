@@ -131,8 +131,8 @@ func_type_at bytes = do
   Some (record { params = params.0; results = results.0 }, results.1)
 
 -- limits with a minimum alone
-unfoldable pub min_at : Reader Limits
-min_at bytes = do
+unfoldable pub min_limits_at : Reader Limits
+min_limits_at bytes = do
   min ← u32_at bytes
   Some (record { min = min.0; max = None }, min.1)
 
@@ -146,7 +146,7 @@ min_max_at bytes = do
 -- limits, after the byte that says whether there is a maximum
 unfoldable pub limits_of : ℕ → Reader Limits
 limits_of flag bytes =
-    if flag == 0x00 then min_at bytes else
+    if flag == 0x00 then min_limits_at bytes else
     (if flag == 0x01 then min_max_at bytes else None)
 
 -- limits

@@ -1,7 +1,7 @@
 // Imports, exports, globals and segments (WebAssembly 1.0, sections 5.5.5 to 5.5.14).
 ghost use Rattle.std.specs.Prelude.{◌≡◌};
 ghost use Rattle.wasm_types.specs.Modules.{import_of, export, global_def, elem, segment};
-ghost use Rattle.wasm_decode.specs.Decoding.{Decodes};
+ghost use Rattle.wasm_decode.specs.Decoding.{DecodesTo};
 ghost use Rattle.wasm_decode.specs.Entries.{imported_at, import_desc_at, import_at, exported_of, export_desc_at, export_at, global_def_at, elem_at, segment_at};
 
 use crate::error::DecodeError;
@@ -15,7 +15,7 @@ use wasm_types::{Elem, Export, ExportDesc, GlobalDef, Import, ImportDesc, Segmen
 
 #[tactic(auto, unfolding(crate::specs::Entries::import_desc_at, crate::specs::Entries::imported_at))]
 fn import_desc(cursor: &mut Cursor) -> Result<ImportDesc, DecodeError>
-    ensures { Decodes (λ desc. desc) result cursor.new (import_desc_at cursor.old.left) }
+    ensures { DecodesTo (λ desc. desc) result cursor.new (import_desc_at cursor.old.left) }
 {
     match byte(cursor)? {
         0x00 => Ok(ImportDesc::Func(number(cursor)?)),
@@ -31,7 +31,7 @@ fn import_desc(cursor: &mut Cursor) -> Result<ImportDesc, DecodeError>
 
 #[tactic(auto, unfolding(crate::specs::Entries::import_at))]
 fn import(alloc: Global, cursor: &mut Cursor) -> Result<Import, DecodeError>
-    ensures { Decodes import_of result cursor.new (import_at cursor.old.left) }
+    ensures { DecodesTo import_of result cursor.new (import_at cursor.old.left) }
 {
     let module = Vec::from_slice(alloc, utf8_name(cursor)?)?;
     let name = Vec::from_slice(alloc, utf8_name(cursor)?)?;
@@ -41,7 +41,7 @@ fn import(alloc: Global, cursor: &mut Cursor) -> Result<Import, DecodeError>
 
 #[tactic(auto, unfolding(crate::specs::Entries::export_desc_at, crate::specs::Entries::exported_of))]
 fn export_desc(cursor: &mut Cursor) -> Result<ExportDesc, DecodeError>
-    ensures { Decodes (λ desc. desc) result cursor.new (export_desc_at cursor.old.left) }
+    ensures { DecodesTo (λ desc. desc) result cursor.new (export_desc_at cursor.old.left) }
 {
     let byte = byte(cursor)?;
     let index = number(cursor)?;
@@ -56,7 +56,7 @@ fn export_desc(cursor: &mut Cursor) -> Result<ExportDesc, DecodeError>
 
 #[tactic(auto, unfolding(crate::specs::Entries::export_at))]
 fn export(alloc: Global, cursor: &mut Cursor) -> Result<Export, DecodeError>
-    ensures { Decodes export result cursor.new (export_at cursor.old.left) }
+    ensures { DecodesTo export result cursor.new (export_at cursor.old.left) }
 {
     let name = Vec::from_slice(alloc, utf8_name(cursor)?)?;
     let desc = export_desc(cursor)?;
@@ -65,7 +65,7 @@ fn export(alloc: Global, cursor: &mut Cursor) -> Result<Export, DecodeError>
 
 #[tactic(auto, unfolding(crate::specs::Entries::global_def_at))]
 fn global_def(alloc: Global, cursor: &mut Cursor) -> Result<GlobalDef, DecodeError>
-    ensures { Decodes global_def result cursor.new (global_def_at cursor.old.left) }
+    ensures { DecodesTo global_def result cursor.new (global_def_at cursor.old.left) }
 {
     let (value_type, mutable) = global_type(cursor)?;
     let init = expression(alloc, cursor)?;
@@ -78,7 +78,7 @@ fn global_def(alloc: Global, cursor: &mut Cursor) -> Result<GlobalDef, DecodeErr
 
 #[tactic(auto, unfolding(crate::specs::Entries::elem_at))]
 fn elem(alloc: Global, cursor: &mut Cursor) -> Result<Elem, DecodeError>
-    ensures { Decodes elem result cursor.new (elem_at cursor.old.left) }
+    ensures { DecodesTo elem result cursor.new (elem_at cursor.old.left) }
 {
     let table = number(cursor)?;
     let offset = expression(alloc, cursor)?;
@@ -92,7 +92,7 @@ fn elem(alloc: Global, cursor: &mut Cursor) -> Result<Elem, DecodeError>
 
 #[tactic(auto, unfolding(crate::specs::Entries::segment_at))]
 fn segment(alloc: Global, cursor: &mut Cursor) -> Result<Segment, DecodeError>
-    ensures { Decodes segment result cursor.new (segment_at cursor.old.left) }
+    ensures { DecodesTo segment result cursor.new (segment_at cursor.old.left) }
 {
     let memory = number(cursor)?;
     let offset = expression(alloc, cursor)?;

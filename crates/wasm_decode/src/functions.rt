@@ -1,9 +1,9 @@
 // The code section: locals and bodies of functions (WebAssembly 1.0, section 5.5.13).
 ghost use Rattle.std.specs.Prelude.{◌≡◌, map};
 ghost use Rattle.wasm_types.specs.Modules.{func};
-ghost use Rattle.wasm_decode.specs.Decoding.{Decodes, DecodesAll};
+ghost use Rattle.wasm_decode.specs.Decoding.{DecodesTo, DecodesAll};
 ghost use Rattle.wasm_decode.specs.Values.{sized_at, whole_read};
-ghost use Rattle.wasm_decode.specs.Entries.{are_few, locals_at, func_at, funcs_at, code_at};
+ghost use Rattle.wasm_decode.specs.Entries.{are_few_locals, locals_at, func_at, funcs_at, code_at};
 
 use crate::error::DecodeError;
 use crate::instructions::expression;
@@ -17,7 +17,7 @@ use wasm_types::{Func, ValType};
 /// Locals of one type, as their count and the type.
 #[tactic(auto, unfolding(crate::specs::Entries::locals_at))]
 fn locals(cursor: &mut Cursor) -> Result<(u32, ValType), DecodeError>
-    ensures { Decodes (λ locals. locals) result cursor.new (locals_at cursor.old.left) }
+    ensures { DecodesTo (λ locals. locals) result cursor.new (locals_at cursor.old.left) }
 {
     let count = number(cursor)?;
     Ok((count, val_type(cursor)?))
@@ -44,8 +44,8 @@ impl Entry for LocalsEntry {
 }
 
 /// Whether there are fewer than 2 ^ 32 locals.
-fn are_few(locals: &[(u32, ValType)]) -> bool
-    ensures { result ≡ are_few locals.now }
+fn are_few_locals(locals: &[(u32, ValType)]) -> bool
+    ensures { result ≡ are_few_locals locals.now }
 {
     let mut total: u32 = 0;
     for (count, _) in locals {
@@ -59,10 +59,10 @@ fn are_few(locals: &[(u32, ValType)]) -> bool
 
 #[tactic(auto, unfolding(crate::specs::Entries::func_at))]
 fn func(alloc: Global, cursor: &mut Cursor, type_index: u32) -> Result<Func, DecodeError>
-    ensures { Decodes func result cursor.new (func_at type_index cursor.old.left) }
+    ensures { DecodesTo func result cursor.new (func_at type_index cursor.old.left) }
 {
     let locals = vector::<LocalsEntry>(alloc, cursor)?;
-    if !are_few(&locals) {
+    if !are_few_locals(&locals) {
         return Err(DecodeError::Malformed);
     }
     let body = expression(alloc, cursor)?;
@@ -87,7 +87,7 @@ fn whole_func(alloc: Global, contents: &[u8], type_index: u32) -> Result<Func, D
 /// A size, and a function of that many bytes.
 #[tactic(auto, unfolding(crate::specs::Values::sized_at))]
 fn sized_func(alloc: Global, cursor: &mut Cursor, type_index: u32) -> Result<Func, DecodeError>
-    ensures { Decodes func result cursor.new (sized_at (whole_read (func_at type_index)) cursor.old.left) }
+    ensures { DecodesTo func result cursor.new (sized_at (whole_read (func_at type_index)) cursor.old.left) }
 {
     let contents = byte_vector(cursor)?;
     whole_func(alloc, contents, type_index)
@@ -95,7 +95,7 @@ fn sized_func(alloc: Global, cursor: &mut Cursor, type_index: u32) -> Result<Fun
 
 /// A function for each index of a type.
 fn funcs(alloc: Global, cursor: &mut Cursor, indices: &[u32]) -> Result<Vec<Func>, DecodeError>
-    ensures { Decodes (λ v. map func v.items) result cursor.new (funcs_at indices.now cursor.old.left) }
+    ensures { DecodesTo (λ v. map func v.items) result cursor.new (funcs_at indices.now cursor.old.left) }
 {
     let mut found = Vec::new(alloc);
     for index in indices {
@@ -111,7 +111,7 @@ pub(crate) fn code(
     cursor: &mut Cursor,
     indices: &[u32],
 ) -> Result<Vec<Func>, DecodeError>
-    ensures { Decodes (λ v. map func v.items) result cursor.new (code_at indices.now cursor.old.left) }
+    ensures { DecodesTo (λ v. map func v.items) result cursor.new (code_at indices.now cursor.old.left) }
 {
     let count = number(cursor)?;
     if count as usize != indices.len() {

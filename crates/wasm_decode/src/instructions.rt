@@ -1,8 +1,8 @@
 // Instructions and expressions (WebAssembly 1.0, section 5.4).
 ghost use Rattle.std.specs.Prelude.{◌≡◌};
 ghost use Rattle.wasm_types.specs.Code.{tree, trees};
-ghost use Rattle.wasm_decode.specs.Decoding.{Decodes};
-ghost use Rattle.wasm_decode.specs.Instrs.{Ended, whole_at, control_at, variable_instr_at, memory_at, numeric_at, plain_at, instr_at, levels_at, expression_at};
+ghost use Rattle.wasm_decode.specs.Decoding.{DecodesTo};
+ghost use Rattle.wasm_decode.specs.Instrs.{EndedInstructions, whole_at, control_at, variable_instr_at, memory_at, numeric_at, plain_at, instr_at, levels_at, expression_at};
 
 use crate::error::DecodeError;
 use crate::numbers::{
@@ -15,7 +15,7 @@ use std::alloc::Global;
 use wasm_types::Instr;
 
 /// The levels of an expression, in which blocks nest at most 1,000 deep. This bounds the recursion too.
-const LEVELS: u32 = 1001;
+const MOST_LEVELS: u32 = 1001;
 
 // The bytes that end instructions.
 
@@ -25,16 +25,16 @@ const END: u8 = 0x0b;
 
 #[tactic(auto, unfolding(crate::specs::Instrs::expression_at))]
 pub(crate) fn expression(alloc: Global, cursor: &mut Cursor) -> Result<Vec<Instr>, DecodeError>
-    ensures { Decodes (λ v. trees v.items) result cursor.new (expression_at cursor.old.left) }
+    ensures { DecodesTo (λ v. trees v.items) result cursor.new (expression_at cursor.old.left) }
 {
-    whole(alloc, cursor, LEVELS)
+    whole(alloc, cursor, MOST_LEVELS)
 }
 
 /// Instructions in less than so many levels that `END` ends.
 #[cycle(instrs)]
 #[tactic(auto, unfolding(crate::specs::Instrs::whole_at))]
 fn whole(alloc: Global, cursor: &mut Cursor, levels: u32) -> Result<Vec<Instr>, DecodeError>
-    ensures { Decodes (λ v. trees v.items) result cursor.new (whole_at (levels_at levels) cursor.old.left) }
+    ensures { DecodesTo (λ v. trees v.items) result cursor.new (whole_at (levels_at levels) cursor.old.left) }
 {
     let (instrs, end) = sequence(alloc, cursor, levels)?;
     if end != END {
@@ -50,7 +50,7 @@ fn sequence(
     cursor: &mut Cursor,
     levels: u32,
 ) -> Result<(Vec<Instr>, u8), DecodeError>
-    ensures { Decodes (λ x. (trees x.0.items, x.1)) result cursor.new (levels_at levels cursor.old.left) }
+    ensures { DecodesTo (λ x. (trees x.0.items, x.1)) result cursor.new (levels_at levels cursor.old.left) }
 {
     if levels == 0 {
         return Err(DecodeError::Malformed);
@@ -72,7 +72,7 @@ fn sequence(
 #[cycle(instrs)]
 #[tactic(auto, unfolding(crate::specs::Instrs::instr_at, crate::specs::Instrs::block_at, crate::specs::Instrs::if_at))]
 fn instr(alloc: Global, cursor: &mut Cursor, levels: u32, opcode: u8) -> Result<Instr, DecodeError>
-    ensures { Decodes tree result cursor.new (instr_at (levels_at levels) opcode cursor.old.left) }
+    ensures { DecodesTo tree result cursor.new (instr_at (levels_at levels) opcode cursor.old.left) }
 {
     match opcode {
         0x02 => {
@@ -101,7 +101,7 @@ fn instr(alloc: Global, cursor: &mut Cursor, levels: u32, opcode: u8) -> Result<
 /// An instruction with none inside it, after its first byte.
 #[tactic(auto, unfolding(crate::specs::Instrs::plain_at))]
 fn plain(alloc: Global, cursor: &mut Cursor, opcode: u8) -> Result<Instr, DecodeError>
-    ensures { Decodes tree result cursor.new (plain_at opcode cursor.old.left) }
+    ensures { DecodesTo tree result cursor.new (plain_at opcode cursor.old.left) }
 {
     match opcode {
         0x00..=0x11 => control(alloc, cursor, opcode),
@@ -114,7 +114,7 @@ fn plain(alloc: Global, cursor: &mut Cursor, opcode: u8) -> Result<Instr, Decode
 /// A control instruction (section 5.4.1).
 #[tactic(auto, unfolding(crate::specs::Instrs::control_at, crate::specs::Instrs::br_table_at, crate::specs::Instrs::indirect_at, crate::specs::Instrs::zero_at))]
 fn control(alloc: Global, cursor: &mut Cursor, opcode: u8) -> Result<Instr, DecodeError>
-    ensures { Decodes tree result cursor.new (control_at opcode cursor.old.left) }
+    ensures { DecodesTo tree result cursor.new (control_at opcode cursor.old.left) }
 {
     match opcode {
         0x00 => Ok(Instr::Unreachable),
@@ -139,7 +139,7 @@ fn control(alloc: Global, cursor: &mut Cursor, opcode: u8) -> Result<Instr, Deco
 /// A parametric instruction or one on variables (sections 5.4.2 and 5.4.3).
 #[tactic(auto, unfolding(crate::specs::Instrs::variable_instr_at))]
 fn variable_instr(cursor: &mut Cursor, opcode: u8) -> Result<Instr, DecodeError>
-    ensures { Decodes tree result cursor.new (variable_instr_at opcode cursor.old.left) }
+    ensures { DecodesTo tree result cursor.new (variable_instr_at opcode cursor.old.left) }
 {
     match opcode {
         0x1a => Ok(Instr::DropTop),
@@ -156,7 +156,7 @@ fn variable_instr(cursor: &mut Cursor, opcode: u8) -> Result<Instr, DecodeError>
 /// A memory instruction (section 5.4.4).
 #[tactic(auto, unfolding(crate::specs::Instrs::memory_at, crate::specs::Instrs::access_at, crate::specs::Instrs::zero_at))]
 fn memory(cursor: &mut Cursor, opcode: u8) -> Result<Instr, DecodeError>
-    ensures { Decodes tree result cursor.new (memory_at opcode cursor.old.left) }
+    ensures { DecodesTo tree result cursor.new (memory_at opcode cursor.old.left) }
 {
     match opcode {
         0x28..=0x35 => {
@@ -192,7 +192,7 @@ fn memory(cursor: &mut Cursor, opcode: u8) -> Result<Instr, DecodeError>
 /// A numeric instruction (section 5.4.5).
 #[tactic(auto, unfolding(crate::specs::Instrs::numeric_at))]
 fn numeric(cursor: &mut Cursor, opcode: u8) -> Result<Instr, DecodeError>
-    ensures { Decodes tree result cursor.new (numeric_at opcode cursor.old.left) }
+    ensures { DecodesTo tree result cursor.new (numeric_at opcode cursor.old.left) }
 {
     match opcode {
         0x41 => Ok(Instr::ConstI32(bits_of_i32(cursor)?)),

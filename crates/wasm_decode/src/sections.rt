@@ -1,10 +1,10 @@
 // Sections (WebAssembly 1.0, sections 5.5.2, 5.5.3 and 5.5.15).
 ghost use Rattle.std.specs.Prelude.{◌≡◌, [], None, map, option_map};
 ghost use Rattle.wasm_types.specs.Modules.{func};
-ghost use Rattle.wasm_decode.specs.Decoding.{Decodes, DecodesAll, Passes};
+ghost use Rattle.wasm_decode.specs.Decoding.{DecodesTo, DecodesAll, PassesOver};
 ghost use Rattle.wasm_decode.specs.Values.{vector_at, whole_read, sized_at};
 ghost use Rattle.wasm_decode.specs.Entries.{start_at, code_at};
-ghost use Rattle.wasm_decode.specs.Sections.{custom_name_of, starts, customs_at, contents_at, section_at, header_at};
+ghost use Rattle.wasm_decode.specs.Sections.{custom_name_of, starts_with_byte, customs_at, contents_at, section_at, header_at};
 
 use crate::error::DecodeError;
 use crate::functions::code;
@@ -19,7 +19,7 @@ const HEADER: [u8; 8] = [0x00, 0x61, 0x73, 0x6d, 0x01, 0x00, 0x00, 0x00];
 
 #[tactic(auto, unfolding(crate::specs::Sections::header_at))]
 pub(crate) fn header(cursor: &mut Cursor) -> Result<(), DecodeError>
-    ensures { Passes result cursor.new (header_at cursor.old.left) }
+    ensures { PassesOver result cursor.new (header_at cursor.old.left) }
 {
     if !cursor.rest().starts_with(&HEADER) {
         return Err(DecodeError::Malformed);
@@ -40,7 +40,7 @@ fn custom_name(contents: &[u8]) -> Result<&[u8], DecodeError>
 /// A custom section after its id.
 #[tactic(auto, unfolding(crate::specs::Values::sized_at))]
 fn custom<'a>(cursor: &mut Cursor<'a>) -> Result<&'a [u8], DecodeError>
-    ensures { Decodes (λ name. name.now) result cursor.new (sized_at custom_name_of cursor.old.left) }
+    ensures { DecodesTo (λ name. name.now) result cursor.new (sized_at custom_name_of cursor.old.left) }
 {
     let contents = byte_vector(cursor)?;
     custom_name(contents)
@@ -48,7 +48,7 @@ fn custom<'a>(cursor: &mut Cursor<'a>) -> Result<&'a [u8], DecodeError>
 
 /// Whether this byte is the next one.
 fn is_next(cursor: &Cursor, byte: u8) -> bool
-    ensures { result ≡ starts byte cursor.now.left }
+    ensures { result ≡ starts_with_byte byte cursor.now.left }
 {
     match cursor.rest() {
         [first, ..] => *first == byte,
@@ -58,7 +58,7 @@ fn is_next(cursor: &Cursor, byte: u8) -> bool
 
 /// Passes over custom sections.
 pub(crate) fn customs(cursor: &mut Cursor) -> Result<(), DecodeError>
-    ensures { Passes result cursor.new (customs_at cursor.old.left) }
+    ensures { PassesOver result cursor.new (customs_at cursor.old.left) }
 {
     fri_bytes::laws::exact_readers();
     while is_next(cursor, 0) {
@@ -71,7 +71,7 @@ pub(crate) fn customs(cursor: &mut Cursor) -> Result<(), DecodeError>
 /// The contents of the section with this id, after custom sections, or nothing where it is absent.
 #[tactic(auto, unfolding(crate::specs::Sections::contents_at))]
 fn contents<'a>(cursor: &mut Cursor<'a>, id: u8) -> Result<Option<&'a [u8]>, DecodeError>
-    ensures { Decodes (option_map (λ contents. contents.now)) result cursor.new (contents_at id cursor.old.left) }
+    ensures { DecodesTo (option_map (λ contents. contents.now)) result cursor.new (contents_at id cursor.old.left) }
 {
     customs(cursor)?;
     if !is_next(cursor, id) {
@@ -99,7 +99,7 @@ pub(crate) fn section<E: Entry>(
     cursor: &mut Cursor,
     id: u8,
 ) -> Result<Vec<E::Value>, DecodeError>
-    ensures { Decodes (λ v. map E.view v.items) result cursor.new (section_at id [] (vector_at E.read_at) cursor.old.left) }
+    ensures { DecodesTo (λ v. map E.view v.items) result cursor.new (section_at id [] (vector_at E.read_at) cursor.old.left) }
 {
     match contents(cursor, id)? {
         Some(contents) => whole_vector::<E>(alloc, contents),
@@ -120,7 +120,7 @@ fn whole_start(contents: &[u8]) -> Result<Option<u32>, DecodeError>
 /// The start section (section 5.5.11).
 #[tactic(auto, unfolding(crate::specs::Sections::section_at))]
 pub(crate) fn start_section(cursor: &mut Cursor) -> Result<Option<u32>, DecodeError>
-    ensures { Decodes (λ func. func) result cursor.new (section_at 8 None start_at cursor.old.left) }
+    ensures { DecodesTo (λ func. func) result cursor.new (section_at 8 None start_at cursor.old.left) }
 {
     match contents(cursor, 8)? {
         Some(contents) => whole_start(contents),
@@ -145,7 +145,7 @@ pub(crate) fn code_section(
     cursor: &mut Cursor,
     indices: &[u32],
 ) -> Result<Vec<Func>, DecodeError>
-    ensures { Decodes (λ v. map func v.items) result cursor.new (section_at 10 [] (code_at indices.now) cursor.old.left) }
+    ensures { DecodesTo (λ v. map func v.items) result cursor.new (section_at 10 [] (code_at indices.now) cursor.old.left) }
 {
     match contents(cursor, 10)? {
         Some(contents) => whole_code(alloc, contents, indices),

@@ -1,7 +1,7 @@
 // Types (WebAssembly 1.0, section 5.3).
 ghost use Rattle.std.specs.Prelude.{◌≡◌};
 ghost use Rattle.wasm_types.specs.Modules.{func_type};
-ghost use Rattle.wasm_decode.specs.Decoding.{Decodes, DecodesAll};
+ghost use Rattle.wasm_decode.specs.Decoding.{DecodesTo, DecodesAll};
 ghost use Rattle.wasm_decode.specs.Values.{vector_at, val_type_of, val_type_at, result_type_at, func_type_at, limits_at, table_at, global_type_at};
 
 use crate::error::DecodeError;
@@ -27,7 +27,7 @@ fn val_type_of(b: u8) -> Result<ValType, DecodeError>
 
 #[tactic(auto, unfolding(crate::specs::Values::val_type_at))]
 pub(crate) fn val_type(cursor: &mut Cursor) -> Result<ValType, DecodeError>
-    ensures { Decodes (λ type. type) result cursor.new (val_type_at cursor.old.left) }
+    ensures { DecodesTo (λ type. type) result cursor.new (val_type_at cursor.old.left) }
 {
     let b = byte(cursor)?;
     val_type_of(b)
@@ -36,7 +36,7 @@ pub(crate) fn val_type(cursor: &mut Cursor) -> Result<ValType, DecodeError>
 /// The result of a block.
 #[tactic(auto, unfolding(crate::specs::Values::result_type_at))]
 pub(crate) fn result_type(cursor: &mut Cursor) -> Result<Option<ValType>, DecodeError>
-    ensures { Decodes (λ type. type) result cursor.new (result_type_at cursor.old.left) }
+    ensures { DecodesTo (λ type. type) result cursor.new (result_type_at cursor.old.left) }
 {
     match byte(cursor)? {
         0x40 => Ok(None),
@@ -46,7 +46,7 @@ pub(crate) fn result_type(cursor: &mut Cursor) -> Result<Option<ValType>, Decode
 
 #[tactic(auto, unfolding(crate::specs::Values::func_type_at))]
 fn func_type(alloc: Global, cursor: &mut Cursor) -> Result<FuncType, DecodeError>
-    ensures { Decodes func_type result cursor.new (func_type_at cursor.old.left) }
+    ensures { DecodesTo func_type result cursor.new (func_type_at cursor.old.left) }
 {
     exact_byte(cursor, 0x60)?;
     let params = vector::<ValTypeEntry>(alloc, cursor)?;
@@ -54,9 +54,9 @@ fn func_type(alloc: Global, cursor: &mut Cursor) -> Result<FuncType, DecodeError
     Ok(FuncType { params, results })
 }
 
-#[tactic(auto, unfolding(crate::specs::Values::limits_at, crate::specs::Values::limits_of, crate::specs::Values::min_at, crate::specs::Values::min_max_at))]
+#[tactic(auto, unfolding(crate::specs::Values::limits_at, crate::specs::Values::limits_of, crate::specs::Values::min_limits_at, crate::specs::Values::min_max_at))]
 pub(crate) fn limits(cursor: &mut Cursor) -> Result<Limits, DecodeError>
-    ensures { Decodes (λ limits. limits) result cursor.new (limits_at cursor.old.left) }
+    ensures { DecodesTo (λ limits. limits) result cursor.new (limits_at cursor.old.left) }
 {
     match byte(cursor)? {
         0x00 => {
@@ -75,7 +75,7 @@ pub(crate) fn limits(cursor: &mut Cursor) -> Result<Limits, DecodeError>
 /// The type of a table.
 #[tactic(auto, unfolding(crate::specs::Values::table_at))]
 pub(crate) fn table(cursor: &mut Cursor) -> Result<Limits, DecodeError>
-    ensures { Decodes (λ limits. limits) result cursor.new (table_at cursor.old.left) }
+    ensures { DecodesTo (λ limits. limits) result cursor.new (table_at cursor.old.left) }
 {
     exact_byte(cursor, 0x70)?;
     limits(cursor)
@@ -84,7 +84,7 @@ pub(crate) fn table(cursor: &mut Cursor) -> Result<Limits, DecodeError>
 /// The type of a global, and whether it is mutable.
 #[tactic(auto, unfolding(crate::specs::Values::global_type_at, crate::specs::Values::mutable_at, crate::specs::Values::mutable_of))]
 pub(crate) fn global_type(cursor: &mut Cursor) -> Result<(ValType, bool), DecodeError>
-    ensures { Decodes (λ type. type) result cursor.new (global_type_at cursor.old.left) }
+    ensures { DecodesTo (λ type. type) result cursor.new (global_type_at cursor.old.left) }
 {
     let value_type = val_type(cursor)?;
     match byte(cursor)? {

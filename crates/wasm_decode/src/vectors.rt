@@ -2,7 +2,7 @@
 // with nothing after it costs nothing.
 ghost use Rattle.std.specs.Prelude.{◌≡◌, ℕ, List, Option, map};
 ghost use Rattle.std.specs.Str.{is_utf8};
-ghost use Rattle.wasm_decode.specs.Decoding.{Decodes};
+ghost use Rattle.wasm_decode.specs.Decoding.{DecodesTo};
 ghost use Rattle.wasm_decode.specs.Values.{each_at, vector_at, byte_vector_at, utf8_name_at};
 
 use crate::error::DecodeError;
@@ -21,7 +21,7 @@ pub(crate) trait Entry {
     ghost read_at: { List ℕ → Option (Shown × List ℕ) };
 
     fn read(alloc: Global, cursor: &mut Cursor) -> Result<Self::Value, DecodeError>
-        ensures { Decodes view result cursor.new (read_at cursor.old.left) };
+        ensures { DecodesTo view result cursor.new (read_at cursor.old.left) };
 }
 
 /// So many entries.
@@ -30,7 +30,7 @@ fn entries<E: Entry>(
     cursor: &mut Cursor,
     count: u32,
 ) -> Result<Vec<E::Value>, DecodeError>
-    ensures { Decodes (λ v. map E.view v.items) result cursor.new (each_at E.read_at count cursor.old.left) }
+    ensures { DecodesTo (λ v. map E.view v.items) result cursor.new (each_at E.read_at count cursor.old.left) }
 {
     let mut found = Vec::new(alloc);
     for _ in 0..count {
@@ -45,7 +45,7 @@ pub(crate) fn vector<E: Entry>(
     alloc: Global,
     cursor: &mut Cursor,
 ) -> Result<Vec<E::Value>, DecodeError>
-    ensures { Decodes (λ v. map E.view v.items) result cursor.new (vector_at E.read_at cursor.old.left) }
+    ensures { DecodesTo (λ v. map E.view v.items) result cursor.new (vector_at E.read_at cursor.old.left) }
 {
     let count = number(cursor)?;
     entries::<E>(alloc, cursor, count)
@@ -54,7 +54,7 @@ pub(crate) fn vector<E: Entry>(
 /// A vector of bytes, as a piece of the bytes that are read.
 #[tactic(auto, unfolding(crate::specs::Values::byte_vector_at))]
 pub(crate) fn byte_vector<'a>(cursor: &mut Cursor<'a>) -> Result<&'a [u8], DecodeError>
-    ensures { Decodes (λ piece. piece.now) result cursor.new (byte_vector_at cursor.old.left) }
+    ensures { DecodesTo (λ piece. piece.now) result cursor.new (byte_vector_at cursor.old.left) }
 {
     let size = number(cursor)?;
     cursor.take(size as usize).ok_or(DecodeError::Malformed)
@@ -63,7 +63,7 @@ pub(crate) fn byte_vector<'a>(cursor: &mut Cursor<'a>) -> Result<&'a [u8], Decod
 /// A name.
 #[tactic(auto, unfolding(crate::specs::Values::utf8_name_at))]
 pub(crate) fn utf8_name<'a>(cursor: &mut Cursor<'a>) -> Result<&'a [u8], DecodeError>
-    ensures { Decodes (λ name. name.now) result cursor.new (utf8_name_at cursor.old.left) }
+    ensures { DecodesTo (λ name. name.now) result cursor.new (utf8_name_at cursor.old.left) }
 {
     let name = byte_vector(cursor)?;
     if !is_utf8(name) {

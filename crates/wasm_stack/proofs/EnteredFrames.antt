@@ -8,19 +8,19 @@ use Rattle.wasm_types.specs.Locals.{zeros}
 use Rattle.wasm_types.specs.Modules.{Func}
 use Rattle.wasm_stack.specs.declared.stack.StackFrame.{StackFrame}
 use Rattle.wasm_stack.specs.declared.stack.Stack.TheInside.{Inside}
-use Rattle.wasm_stack.specs.Limits.{Within}
-use Rattle.wasm_stack.specs.Thread.{Thread, arguments, called_with, entered, size_of_thread, without}
+use Rattle.wasm_stack.specs.Limits.{ThreadWithin}
+use Rattle.wasm_stack.specs.Thread.{Thread, arguments, called_with, entered_frame, size_of_thread, without_operands}
 use Rattle.wasm_stack.specs.View.{AreCut, AreFrameParts, IsStack, thread_of}
 use Rattle.wasm_stack.proofs.StackViews.{IsSound-operands, KeepsBelow, drop_parts, length_of_frames, size_view, thread_of-operands}
 
 -- a stack within the limits
-pub within_of : (s : Inside) → IsStack s → length s.callers.items < 512 → length s.operands.items + length s.labels.items + length s.locals.items ≤ 16384 → Within (thread_of s)
+pub within_of : (s : Inside) → IsStack s → length s.callers.items < 512 → length s.operands.items + length s.labels.items + length s.locals.items ≤ 16384 → ThreadWithin (thread_of s)
 within_of s h frames size = record {
   frames = omega (arith, frames, length-reverse s.callers.items, length_of_frames (reverse s.callers.items) (take s.here.labels_from s.labels.items) (take s.here.locals_from s.locals.items) (take s.here.bottom s.operands.items));
   size = omega (arith, size, size_view s h);
 }
 
-pub size_within : (s : Inside) (t : Thread) → IsStack s → thread_of s ≡ t → Within t → length s.operands.items + length s.labels.items + length s.locals.items ≤ 16384
+pub size_within : (s : Inside) (t : Thread) → IsStack s → thread_of s ≡ t → ThreadWithin t → length s.operands.items + length s.labels.items + length s.locals.items ≤ 16384
 size_within s t h view within = omega (arith, ap size_of_thread view, size_view s h, within.size)
 
 -- the n arguments, which lie between the operands that stay and those that go
@@ -33,7 +33,7 @@ module _ (t : Thread) (above n : ℕ) (kept args gone : List Value) (stack : t.s
   count : length (reverse args) ≡ n
   count = length-reverse args ∙ many
 
-  pub arguments_below : arguments n (without above t) ≡ Some args
+  pub arguments_below : arguments n (without_operands above t) ≡ Some args
   arguments_below =
       let enough : nat_lt (length (reverse args ++ reverse kept)) n ≡ false = search (rules, tests, length-append (reverse args) (reverse kept), count) in
       ap (λ o. arguments n (record t { stack = o })) below
@@ -41,7 +41,7 @@ module _ (t : Thread) (above n : ℕ) (kept args gone : List Value) (stack : t.s
       ∙ ap (λ o. Some (reverse o)) (take_at (reverse args) (reverse kept) n count)
       ∙ ap Some (reverse-reverse args)
 
-  pub without_both : without n (without above t) ≡ record t { stack = reverse kept }
+  pub without_both : without_operands n (without_operands above t) ≡ record t { stack = reverse kept }
   without_both = ap (λ o. record t { stack = o }) (ap (λ o. drop n o) below ∙ drop_at (reverse args) (reverse kept) n count)
 
 -- the frame of a function is entered below so many operands that go: its arguments, the last n below those, are the first
@@ -124,7 +124,7 @@ module _ (s : Inside) (func : Func) (above n first : ℕ) (here : StackFrame) (o
         room = record { place = place; limit = limit };
       }
 
-  entered_here : entered (thread_of cut) here.func (trees here.todo.now) (args ++ zeros func.locals) here.gives ≡ thread_of now
+  entered_here : entered_frame (thread_of cut) here.func (trees here.todo.now) (args ++ zeros func.locals) here.gives ≡ thread_of now
   entered_here =
       let e1 = low_labels in
       let e2 = low_locals in
@@ -135,14 +135,14 @@ module _ (s : Inside) (func : Func) (above n first : ℕ) (here : StackFrame) (o
       let e7 = drop_all here.floor operands.items (omega (arith, height, e.floor)) in
       cc
 
-  pub entered_view : called_with (arguments n (without above (thread_of s))) n (without above (thread_of s)) here.func func here.gives ≡ Some (thread_of now)
+  pub entered_view : called_with (arguments n (without_operands above (thread_of s))) n (without_operands above (thread_of s)) here.func func here.gives ≡ Some (thread_of now)
   entered_view =
       let t = thread_of s in
       let kept = drop s.here.floor operands.items in
       let gone = drop n (drop first s.operands.items) in
       let parts = drop_parts s.here.floor first s.operands.items e.enough (omega (arith, e.split)) ∙ ap (λ o. drop s.here.floor o ++ drop first s.operands.items) (sym e.operands_are) ∙ ap (λ o. kept ++ o) (sym (take-append-drop n (drop first s.operands.items))) in
       let rest : length gone ≡ above = omega (arith, length-drop n (drop first s.operands.items), length-drop first s.operands.items, e.split) in
-      ap (λ a. called_with a n (without above t) here.func func here.gives) (arguments_below t above n kept args gone (ap reverse parts) many rest)
-      ∙ ap (λ (u : Thread). Some (entered u here.func func.body (args ++ zeros func.locals) here.gives)) (without_both t above n kept args gone (ap reverse parts) many rest ∙ sym (thread_of-operands s operands h keeps))
-      ∙ ap (λ body. Some (entered (thread_of cut) here.func body (args ++ zeros func.locals) here.gives)) (sym e.body)
+      ap (λ a. called_with a n (without_operands above t) here.func func here.gives) (arguments_below t above n kept args gone (ap reverse parts) many rest)
+      ∙ ap (λ (u : Thread). Some (entered_frame u here.func func.body (args ++ zeros func.locals) here.gives)) (without_both t above n kept args gone (ap reverse parts) many rest ∙ sym (thread_of-operands s operands h keeps))
+      ∙ ap (λ body. Some (entered_frame (thread_of cut) here.func body (args ++ zeros func.locals) here.gives)) (sym e.body)
       ∙ ap Some entered_here

@@ -14,8 +14,8 @@ use Rattle.wasm_stack.specs.declared.stack.StackLevel.{StackLevel}
 use Rattle.wasm_stack.specs.declared.stack.StackFrame.{StackFrame}
 use Rattle.wasm_stack.specs.declared.stack.Stack.TheInside.{Inside}
 use Rattle.wasm_types.specs.Code.{Trees, tree, trees}
-use Rattle.wasm_stack.specs.Thread.{Thread, with_operand, closed, closed_to, left, left_to, without, arguments, size_of_levels, size_of_frames, size_of_thread, has_frame_room, has_room, Opened}
-use Rattle.wasm_stack.specs.View.{and_close, closed_by, entered_by, opened_as, opened_by, given_by, repeated_by, innermost, levels_of, frame_labels, frames_of, thread_in, thread_of, AreCut, IsPart, AreFrameParts, IsStack}
+use Rattle.wasm_stack.specs.Thread.{Thread, with_operand, closed_level, closed_to, left_frame, left_to_caller, without_operands, arguments, size_of_levels, size_of_frames, size_of_thread, has_frame_room, has_room, OpenedLevel}
+use Rattle.wasm_stack.specs.View.{and_close, closed_by, entered_by, opened_as, opened_by, given_by, repeated_by, innermost_opened, levels_of, frame_labels, frames_of, thread_in, thread_of, AreCut, IsFramePart, AreFrameParts, IsStack}
 
 -- a frame's operands begin below those of each of its levels
 pub AreCut-low : (bottom : ℕ) (ls : List StackLevel) (top : ℕ) → AreCut bottom ls top → bottom ≤ top
@@ -106,7 +106,7 @@ drop_parts m n xs le in_xs =
     ap (λ o. drop m o) (sym (take-append-drop n xs)) ∙ drop-append-le m (take n xs) (drop n xs) low
 
 -- a level's end: the label that lies on top of the others is the innermost
-pub closed_in : (f : StackFrame) (labels w : List StackLevel) (locals ops : List Value) (callers : List StackFrame) (l : StackLevel) → IsPart f labels locals ops → f.labels_from < length labels → labels ≡ w ++ l ∷ [] → closed (thread_in f labels locals ops callers) ≡ Some (thread_in (record f { todo = l.todo; floor = l.floor }) w locals ops callers)
+pub closed_in : (f : StackFrame) (labels w : List StackLevel) (locals ops : List Value) (callers : List StackFrame) (l : StackLevel) → IsFramePart f labels locals ops → f.labels_from < length labels → labels ≡ w ++ l ∷ [] → closed_level (thread_in f labels locals ops callers) ≡ Some (thread_in (record f { todo = l.todo; floor = l.floor }) w locals ops callers)
 closed_in f labels w locals ops callers l h lt e =
     let from = f.labels_from in
     let within : from ≤ length w = omega (arith, ap length e, length-append w (l ∷ []), lt) in
@@ -117,7 +117,7 @@ closed_in f labels w locals ops callers l h lt e =
     let lower = ap (λ o. take from o) e ∙ take-append-le from w (l ∷ []) within in
     ap (λ ls. closed_to (levels_of f.gives ls (take f.floor ops)) (thread_in f labels locals ops callers)) ls ∙ (cc)
 
-pub closed_view : (s : Inside) (w : Vec StackLevel Global) (l : StackLevel) → IsStack s → s.here.labels_from < length s.labels.items → s.labels.items ≡ w.items ++ l ∷ [] → closed (thread_of s) ≡ Some (thread_of (record s { labels = w; here = record s.here { todo = l.todo; floor = l.floor } }))
+pub closed_view : (s : Inside) (w : Vec StackLevel Global) (l : StackLevel) → IsStack s → s.here.labels_from < length s.labels.items → s.labels.items ≡ w.items ++ l ∷ [] → closed_level (thread_of s) ≡ Some (thread_of (record s { labels = w; here = record s.here { todo = l.todo; floor = l.floor } }))
 closed_view s w l h lt e = closed_in s.here s.labels.items w.items s.locals.items s.operands.items s.callers.items l h.part lt e
 
 -- a local of the innermost frame
@@ -158,7 +158,7 @@ module _ (s : Inside) (n : ℕ) (h : IsStack s) (le : n ≤ length s.operands.it
         same = ap (λ o. take s.here.floor o) e ∙ take-take s.here.floor (length s.operands.items - n) s.operands.items le';
       }
 
-  pub without_view : (w : Vec Value Global) → w.items ≡ take (length s.operands.items - n) s.operands.items → thread_of (record s { operands = w }) ≡ without n (thread_of s)
+  pub without_view : (w : Vec Value Global) → w.items ≡ take (length s.operands.items - n) s.operands.items → thread_of (record s { operands = w }) ≡ without_operands n (thread_of s)
   without_view w e =
       let f = s.here.floor in
       let m = length s.operands.items - n - f in
@@ -174,7 +174,7 @@ size_of_cut gives bottom [] ops top e h = omega arith
 size_of_cut gives bottom (l ∷ ls) ops top e h =
     omega (arith, size_of_cut gives bottom ls (take l.floor ops) l.floor (sym (length-take-le l.floor ops (omega arith))) h.1, length-take-le l.floor ops (omega arith), length-reverse (drop l.floor ops), length-drop l.floor ops)
 
-size_of_part : (f : StackFrame) (labels : List StackLevel) (locals ops : List Value) → IsPart f labels locals ops → size_of_levels (levels_of f.gives (frame_labels f labels) (take f.floor ops)) + f.bottom + f.labels_from ≡ length labels + f.floor
+size_of_part : (f : StackFrame) (labels : List StackLevel) (locals ops : List Value) → IsFramePart f labels locals ops → size_of_levels (levels_of f.gives (frame_labels f labels) (take f.floor ops)) + f.bottom + f.labels_from ≡ length labels + f.floor
 size_of_part f labels locals ops h =
     omega (arith, size_of_cut f.gives f.bottom (reverse (drop f.labels_from labels)) (take f.floor ops) f.floor (sym (length-take-le f.floor ops h.top)) h.cut, length-reverse (drop f.labels_from labels), length-drop f.labels_from labels, length-take-le f.floor ops h.top, h.labels_in)
 
@@ -201,12 +201,12 @@ room_view more s h =
     ap (λ k. nat_lt k 512 && nat_le (length s.operands.items + length s.labels.items + length s.locals.items + more) 16384) (sym frames)
     ∙ ap (λ k. nat_lt (length (thread_of s).callers) 512 && nat_le (k + more) 16384) (sym size)
 
-pub room_without_view : (n more : ℕ) (s : Inside) → IsStack s → n ≤ length (thread_of s).stack → (nat_lt (length s.callers.items) 512 && nat_le (length s.operands.items - n + length s.labels.items + length s.locals.items + more) 16384) ≡ has_room more (without n (thread_of s))
+pub room_without_view : (n more : ℕ) (s : Inside) → IsStack s → n ≤ length (thread_of s).stack → (nat_lt (length s.callers.items) 512 && nat_le (length s.operands.items - n + length s.labels.items + length s.locals.items + more) 16384) ≡ has_room more (without_operands n (thread_of s))
 room_without_view n more s h le =
     let t = thread_of s in
     let frames = length_of_frames (reverse s.callers.items) (take s.here.labels_from s.labels.items) (take s.here.locals_from s.locals.items) (take s.here.bottom s.operands.items) ∙ length-reverse s.callers.items in
     let stack : length t.stack ≡ length s.operands.items - s.here.floor = length-reverse (drop s.here.floor s.operands.items) ∙ length-drop s.here.floor s.operands.items in
-    let rest : length s.operands.items - n + length s.labels.items + length s.locals.items ≡ size_of_thread (without n t) = omega (arith, size_view s h, length-drop n t.stack, stack, le) in
+    let rest : length s.operands.items - n + length s.labels.items + length s.locals.items ≡ size_of_thread (without_operands n t) = omega (arith, size_view s h, length-drop n t.stack, stack, le) in
     ap (λ k. nat_lt k 512 && nat_le (length s.operands.items - n + length s.labels.items + length s.locals.items + more) 16384) (sym frames)
     ∙ ap (λ k. nat_lt (length t.callers) 512 && nat_le (k + more) 16384) rest
 
@@ -227,11 +227,11 @@ pub top_label : {A : Type 0} (xs : List A) (k : ℕ) (x : A) → k + 1 ≡ lengt
 top_label xs k x e is = last_of xs k x e ∙ ap (λ y. take k xs ++ y ∷ []) (sym is)
 
 -- the innermost level is what the instruction of that label opened
-pub innermost_top : (gives : Option ValType) (from k : ℕ) (labels : List StackLevel) (l : StackLevel) → from ≤ k → k + 1 ≡ length labels → l ≡ get_or labels k l → innermost gives (reverse (drop from labels)) ≡ opened_by (tree l.opener.now) (trees l.todo.now)
+pub innermost_top : (gives : Option ValType) (from k : ℕ) (labels : List StackLevel) (l : StackLevel) → from ≤ k → k + 1 ≡ length labels → l ≡ get_or labels k l → innermost_opened gives (reverse (drop from labels)) ≡ opened_by (tree l.opener.now) (trees l.todo.now)
 innermost_top gives from k labels l le e is =
     let w = take k labels in
     let in_w : from ≤ length w = omega (arith, length-take-le k labels (omega arith)) in
-    ap (λ ls. innermost gives (reverse (drop from ls))) (top_label labels k l e is) ∙ ap (innermost gives) (reverse_drop_push from w l in_w)
+    ap (λ ls. innermost_opened gives (reverse (drop from ls))) (top_label labels k l e is) ∙ ap (innermost_opened gives) (reverse_drop_push from w l in_w)
 
 -- an instruction that is no block, loop or choice opens no level
 pub record OpensNone (i : Instr) : Type 0 where
@@ -251,10 +251,10 @@ opens_none i rest h =
     let same = roll-out-Instr i in
     let none = subst (λ i. (repeated_by (tree i) ≡ None) × (given_by (tree i) ≡ None)) same (opens_none_by (out-Instr i) (subst (λ (i : Instr). OpensNone i) (sym same) h)) in
     let o = ap (λ body. opened_as body (given_by (tree i)) rest) none.0 in
-    (ap (λ (o : Opened). o.loops) o, ap (λ (o : Opened). o.carries) o ∙ ap is_some none.1)
+    (ap (λ (o : OpenedLevel). o.loops) o, ap (λ (o : OpenedLevel). o.carries) o ∙ ap is_some none.1)
 
 -- the part of a frame in its levels when the innermost has ended
-closed_part : (f : StackFrame) (labels w : List StackLevel) (locals ops : List Value) (l : StackLevel) → IsPart f labels locals ops → f.labels_from < length labels → labels ≡ w ++ l ∷ [] → IsPart (record f { todo = l.todo; floor = l.floor }) w locals ops
+closed_part : (f : StackFrame) (labels w : List StackLevel) (locals ops : List Value) (l : StackLevel) → IsFramePart f labels locals ops → f.labels_from < length labels → labels ≡ w ++ l ∷ [] → IsFramePart (record f { todo = l.todo; floor = l.floor }) w locals ops
 closed_part f labels w locals ops l h lt e =
     let from = f.labels_from in
     let within : from ≤ length w = omega (arith, ap length e, length-append w (l ∷ []), lt) in
@@ -264,10 +264,10 @@ closed_part f labels w locals ops l h lt e =
 
 -- the levels that end, the last of which is below this label
 pub record IsPast (n : ℕ) (f : StackFrame) (labels : List StackLevel) (locals ops : List Value) (callers : List StackFrame) (l : StackLevel) : Type 0 where
-  pub part : IsPart (record f { todo = l.todo; floor = l.floor }) (take (length labels - n) labels) locals ops
+  pub part : IsFramePart (record f { todo = l.todo; floor = l.floor }) (take (length labels - n) labels) locals ops
   pub thread : closed_by n (thread_in f labels locals ops callers) ≡ Some (thread_in (record f { todo = l.todo; floor = l.floor }) (take (length labels - n) labels) locals ops callers)
 
-module _ (f : StackFrame) (labels : List StackLevel) (locals ops : List Value) (callers : List StackFrame) (d : StackLevel) (h : IsPart f labels locals ops) where
+module _ (f : StackFrame) (labels : List StackLevel) (locals ops : List Value) (callers : List StackFrame) (d : StackLevel) (h : IsFramePart f labels locals ops) where
   pub past_in : (n : ℕ) → suc n ≤ length labels - f.labels_from → IsPast (suc n) f labels locals ops callers (get_or labels (length labels - suc n) d)
   past_in zero le =
       let k = length labels - 1 in
@@ -300,7 +300,7 @@ stack_top s k v le e is =
     ap (λ o. reverse (drop s.here.floor o)) (top_label s.operands.items k v e is) ∙ reverse_drop_push s.here.floor (take k s.operands.items) v low
 
 -- there are no more levels than that
-none_around : (f : StackFrame) (labels : List StackLevel) (locals ops : List Value) (callers : List StackFrame) → length labels ≤ f.labels_from → closed (thread_in f labels locals ops callers) ≡ None
+none_around : (f : StackFrame) (labels : List StackLevel) (locals ops : List Value) (callers : List StackFrame) → length labels ≤ f.labels_from → closed_level (thread_in f labels locals ops callers) ≡ None
 none_around f labels locals ops callers le =
     ap (λ ls. closed_to (levels_of f.gives (reverse ls) (take f.floor ops)) (thread_in f labels locals ops callers)) (drop_all f.labels_from labels le)
 
@@ -310,7 +310,7 @@ none_further (suc more) n k t e h =
     let next : suc (more + n) ≡ k = omega (arith, e) in
     subst (λ k. closed_by k t ≡ None) next (ap and_close (none_further more n (more + n) t refl h))
 
-none_first : (m : ℕ) (f : StackFrame) (labels : List StackLevel) (locals ops : List Value) (callers : List StackFrame) → IsPart f labels locals ops → StackLevel → m ≡ length labels - f.labels_from → closed_by (suc m) (thread_in f labels locals ops callers) ≡ None
+none_first : (m : ℕ) (f : StackFrame) (labels : List StackLevel) (locals ops : List Value) (callers : List StackFrame) → IsFramePart f labels locals ops → StackLevel → m ≡ length labels - f.labels_from → closed_by (suc m) (thread_in f labels locals ops callers) ≡ None
 none_first zero f labels locals ops callers h d e = none_around f labels locals ops callers (omega arith)
 none_first (suc m) f labels locals ops callers h d e =
     let past = past_in f labels locals ops callers d h m (omega arith) in
@@ -318,13 +318,13 @@ none_first (suc m) f labels locals ops callers h d e =
     ap and_close past.thread
     ∙ none_around (record f { todo = l.todo; floor = l.floor }) (take (length labels - suc m) labels) locals ops callers (omega (arith, length-take-le (length labels - suc m) labels (omega arith)))
 
-none_by : (labels : List StackLevel) (f : StackFrame) (locals ops : List Value) (callers : List StackFrame) → IsPart f labels locals ops → closed_by (suc (length labels - f.labels_from)) (thread_in f labels locals ops callers) ≡ None
+none_by : (labels : List StackLevel) (f : StackFrame) (locals ops : List Value) (callers : List StackFrame) → IsFramePart f labels locals ops → closed_by (suc (length labels - f.labels_from)) (thread_in f labels locals ops callers) ≡ None
 none_by [] f locals ops callers h =
     let none : 0 ≡ 0 - f.labels_from = omega arith in
     subst (λ m. closed_by (suc m) (thread_in f [] locals ops callers) ≡ None) none (none_around f [] locals ops callers (omega arith))
 none_by (l ∷ ls) f locals ops callers h = none_first _ f (l ∷ ls) locals ops callers h l refl
 
-pub past_none : (n : ℕ) (f : StackFrame) (labels : List StackLevel) (locals ops : List Value) (callers : List StackFrame) → IsPart f labels locals ops → length labels - f.labels_from < n → closed_by n (thread_in f labels locals ops callers) ≡ None
+pub past_none : (n : ℕ) (f : StackFrame) (labels : List StackLevel) (locals ops : List Value) (callers : List StackFrame) → IsFramePart f labels locals ops → length labels - f.labels_from < n → closed_by n (thread_in f labels locals ops callers) ≡ None
 past_none n f labels locals ops callers h lt =
     let m = length labels - f.labels_from in
     none_further (n - suc m) (suc m) n (thread_in f labels locals ops callers) (omega arith) (none_by labels f locals ops callers h)
@@ -341,7 +341,7 @@ module _ (s : Inside) (n : ℕ) (w : Vec StackLevel Global) (l : StackLevel) (h 
       let low : take from s.labels.items ≡ take from w.items = sym (ap (λ o. take from o) e ∙ take-take from m s.labels.items (omega (arith, h.part.labels_in))) in
       let many : length w.items ≤ length s.labels.items = omega (arith, ap length e, length-take m s.labels.items) in
       record {
-        part = subst (λ o. IsPart (record s.here { todo = l.todo; floor = l.floor }) o s.locals.items s.operands.items) (sym e) past.part;
+        part = subst (λ o. IsFramePart (record s.here { todo = l.todo; floor = l.floor }) o s.locals.items s.operands.items) (sym e) past.part;
         below = subst (λ o. AreFrameParts (reverse s.callers.items) o (take s.here.locals_from s.locals.items) (take s.here.bottom s.operands.items)) low h.below;
         room = record { place = h.room.place; limit = omega (arith, h.room.limit, many) };
       }
@@ -357,12 +357,12 @@ module _ (s : Inside) (v : Vec Value Global) (w : Vec StackLevel Global) (x : Ve
   callers_left : reverse s.callers.items ≡ f ∷ reverse y.items
   callers_left = ap reverse e.caller ∙ reverse-append y.items (f ∷ [])
 
-  pub left_view : left (thread_of s) ≡ Some (thread_of (record s { here = f; operands = v; labels = w; locals = x; callers = y }))
+  pub left_view : left_frame (thread_of s) ≡ Some (thread_of (record s { here = f; operands = v; labels = w; locals = x; callers = y }))
   left_view =
       let labels = take s.here.labels_from s.labels.items in
       let locals = take s.here.locals_from s.locals.items in
       let ops = take s.here.bottom s.operands.items in
-      ap (λ fs. left_to (frames_of fs labels locals ops)) callers_left
+      ap (λ fs. left_to_caller (frames_of fs labels locals ops)) callers_left
       ∙ ap (λ o. Some (thread_in f labels locals o y.items)) (sym e.ops_is)
       ∙ ap (λ o. Some (thread_in f o locals v.items y.items)) (sym e.labels_is)
       ∙ ap (λ o. Some (thread_in f w.items o v.items y.items)) (sym e.locals_is)

@@ -15,31 +15,31 @@ pub data Halt : Type 0 where
   Sticks : Halt
 
 -- what comes after a step
-pub data After : Type 0 where
-  Goes : Thread → After
-  Stops : Halt → After
+pub data AfterStep : Type 0 where
+  Goes : Thread → AfterStep
+  Stops : Halt → AfterStep
 
-abbrev pub go_on : Option Thread → After
-go_on None = Stops Sticks
-go_on (Some t) = Goes t
+abbrev pub frame_goes_on : Option Thread → AfterStep
+frame_goes_on None = Stops Sticks
+frame_goes_on (Some t) = Goes t
 
-abbrev pub at_trap : Trap → After
+abbrev pub at_trap : Trap → AfterStep
 at_trap trap = Stops (Traps trap)
 
 -- the topmost operand
-abbrev pub on_top : List Value → Thread → (Value → Thread → After) → After
+abbrev pub on_top : List Value → Thread → (Value → Thread → AfterStep) → AfterStep
 on_top [] t go = Stops Sticks
 on_top (v ∷ rest) t go = go v (record t { stack = rest })
 
-abbrev pub with_top : Thread → (Value → Thread → After) → After
+abbrev pub with_top : Thread → (Value → Thread → AfterStep) → AfterStep
 with_top t go = on_top t.stack t go
 
 -- the number of an operand of 32 bits
-abbrev pub on_i32 : Value → (ℕ → After) → After
+abbrev pub on_i32 : Value → (ℕ → AfterStep) → AfterStep
 on_i32 (I32 x) go = go x
 on_i32 (I64 x) go = Stops Sticks
 
 -- a thread past its limits traps
-abbrev pub limited : After → After
-limited (Stops s) = Stops s
-limited (Goes t) = if fits_limits t then Goes t else at_trap Exhausted
+abbrev pub limited_thread : AfterStep → AfterStep
+limited_thread (Stops s) = Stops s
+limited_thread (Goes t) = if fits_limits t then Goes t else at_trap Exhausted

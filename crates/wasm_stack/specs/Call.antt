@@ -14,6 +14,6 @@ site_of f args = record {
 }
 
 -- the same, if there are arguments
-abbrev pub sited : ℕ → Option (List Value) → Option CallSite
-sited f None = None
-sited f (Some args) = Some (site_of f args)
+abbrev pub call_sited : ℕ → Option (List Value) → Option CallSite
+call_sited f None = None
+call_sited f (Some args) = Some (site_of f args)

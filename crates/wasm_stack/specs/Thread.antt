@@ -21,13 +21,13 @@ pub record Level : Type 0 where
 
 -- what a level is by how it was opened: the type of what it leaves, where a branch to it goes on, whether that carries
 -- an operand, and whether it begins the level again
-pub record Opened : Type 0 where
+pub record OpenedLevel : Type 0 where
   pub gives : Option ValType
   pub target : Trees
   pub carries : Bool
   pub loops : Bool
 
-abbrev pub as_opened : Level → Opened
+abbrev pub as_opened : Level → OpenedLevel
 as_opened l = record { gives = l.gives; target = l.target; carries = l.carries; loops = l.loops }
 
 -- a frame that waits for a call to return: its innermost level, the levels around that, its function, its
@@ -65,13 +65,13 @@ with_todo t todo = record t { todo = todo }
 abbrev pub with_operand : Thread → Value → Thread
 with_operand t v = record t { stack = v ∷ t.stack }
 
-abbrev pub here : Thread → Level
-here t = record { gives = t.gives; todo = t.todo; stack = t.stack; target = t.target; carries = t.carries; loops = t.loops }
+abbrev pub innermost_level_of : Thread → Level
+innermost_level_of t = record { gives = t.gives; todo = t.todo; stack = t.stack; target = t.target; carries = t.carries; loops = t.loops }
 
 -- a new innermost level
-abbrev pub opened : Thread → Option ValType → Trees → Trees → Bool → Bool → Thread
-opened t gives body target carries loops =
-    record t { gives = gives; todo = body; stack = []; target = target; carries = carries; loops = loops; outer = here t ∷ t.outer }
+abbrev pub opened_level : Thread → Option ValType → Trees → Trees → Bool → Bool → Thread
+opened_level t gives body target carries loops =
+    record t { gives = gives; todo = body; stack = []; target = target; carries = carries; loops = loops; outer = innermost_level_of t ∷ t.outer }
 
 -- the level around the innermost, with the operands of both
 abbrev pub closed_to : List Level → Thread → Option Thread
@@ -79,13 +79,13 @@ closed_to [] t = None
 closed_to (l ∷ ls) t =
     Some (record t { gives = l.gives; todo = l.todo; stack = t.stack ++ l.stack; target = l.target; carries = l.carries; loops = l.loops; outer = ls })
 
-abbrev pub closed : Thread → Option Thread
-closed t = closed_to t.outer t
+abbrev pub closed_level : Thread → Option Thread
+closed_level t = closed_to t.outer t
 
 -- the frame that waits for this one
-abbrev pub left_to : List Frame → Option Thread
-left_to [] = None
-left_to (f ∷ fs) =
+abbrev pub left_to_caller : List Frame → Option Thread
+left_to_caller [] = None
+left_to_caller (f ∷ fs) =
     Some (record {
       gives = f.here.gives;
       todo = f.here.todo;
@@ -100,16 +100,16 @@ left_to (f ∷ fs) =
       callers = fs;
     })
 
-abbrev pub left : Thread → Option Thread
-left t = left_to t.callers
+abbrev pub left_frame : Thread → Option Thread
+left_frame t = left_to_caller t.callers
 
 -- a frame that waits
 abbrev pub waiting_frame : Thread → Frame
-waiting_frame t = record { here = here t; outer = t.outer; func = t.func; locals = t.locals; returns = t.returns }
+waiting_frame t = record { here = innermost_level_of t; outer = t.outer; func = t.func; locals = t.locals; returns = t.returns }
 
 -- a function at its start, above these frames
-abbrev pub at_start : List Frame → ℕ → Trees → List Value → Option ValType → Thread
-at_start callers f body locals gives = record {
+abbrev pub function_at_start : List Frame → ℕ → Trees → List Value → Option ValType → Thread
+function_at_start callers f body locals gives = record {
   gives = gives;
   todo = body;
   stack = [];
@@ -124,16 +124,16 @@ at_start callers f body locals gives = record {
 }
 
 -- a new innermost frame
-abbrev pub entered : Thread → ℕ → Trees → List Value → Option ValType → Thread
-entered t f body locals gives = at_start (waiting_frame t ∷ t.callers) f body locals gives
+abbrev pub entered_frame : Thread → ℕ → Trees → List Value → Option ValType → Thread
+entered_frame t f body locals gives = function_at_start (waiting_frame t ∷ t.callers) f body locals gives
 
 -- how many levels and frames are still to end
-abbrev pub waiting : List Frame → ℕ
-waiting [] = 0
-waiting (f ∷ fs) = 1 + length f.outer + waiting fs
+abbrev pub waiting_levels : List Frame → ℕ
+waiting_levels [] = 0
+waiting_levels (f ∷ fs) = 1 + length f.outer + waiting_levels fs
 
-abbrev pub depth : Thread → ℕ
-depth t = length t.outer + waiting t.callers
+abbrev pub levels_left : Thread → ℕ
+levels_left t = length t.outer + waiting_levels t.callers
 
 -- the operands, the locals and the open labels, of all frames
 abbrev pub size_of_levels : List Level → ℕ
@@ -159,8 +159,8 @@ abbrev pub has_frame_room : ℕ → Thread → Bool
 has_frame_room more t = nat_lt (length t.callers + 1) 512 && nat_le (size_of_thread t + more) 16384
 
 -- without the n topmost operands
-abbrev pub without : ℕ → Thread → Thread
-without n t = record t { stack = drop n t.stack }
+abbrev pub without_operands : ℕ → Thread → Thread
+without_operands n t = record t { stack = drop n t.stack }
 
 -- the n topmost operands, in the order that they were pushed, if there are as many
 abbrev pub arguments : ℕ → Thread → Option (List Value)
@@ -169,8 +169,8 @@ arguments n t = if nat_lt (length t.stack) n then None else Some (reverse (take 
 -- a call of the function f, which takes the n topmost operands
 abbrev pub called_with : Option (List Value) → ℕ → Thread → ℕ → Func → Option ValType → Option Thread
 called_with None n t f func gives = None
-called_with (Some args) n t f func gives = Some (entered (without n t) f func.body (args ++ zeros func.locals) gives)
+called_with (Some args) n t f func gives = Some (entered_frame (without_operands n t) f func.body (args ++ zeros func.locals) gives)
 
 -- a call of the function f of this type
-abbrev pub called : Thread → ℕ → Func → FuncType → Option Thread
-called t f func type = called_with (arguments (length type.params) t) (length type.params) t f func (result_of type)
+abbrev pub called_function : Thread → ℕ → Func → FuncType → Option Thread
+called_function t f func type = called_with (arguments (length type.params) t) (length type.params) t f func (result_of type)

@@ -2,9 +2,9 @@
 ghost use Rattle.std.specs.Prelude.{◌≡◌, IfOk, false, slice_get};
 ghost use Rattle.wasm_types.specs.Code.{tree, trees};
 ghost use Rattle.wasm_stack.specs.Answer.{after_of, way_of};
-ghost use Rattle.wasm_stack.specs.View.{chosen_by};
-ghost use Rattle.wasm_stack.specs.Control.{branch, branch_if, branch_table, carried, ended, jump, jump_out, label_at, resumed, leave_frame, with_carried};
-ghost use Rattle.wasm_stack.specs.Thread.{left};
+ghost use Rattle.wasm_stack.specs.View.{chosen_body_entered};
+ghost use Rattle.wasm_stack.specs.Control.{branch, branch_if, branch_table, carried_operand, ended_level, jump, jump_out, label_at, resumed_caller, leave_frame, with_carried};
+ghost use Rattle.wasm_stack.specs.Thread.{left_frame};
 
 use crate::halt::{Next, Way};
 use crate::stack::{Stack, Target};
@@ -15,7 +15,7 @@ impl<'m> Stack<'m> {
     // The end of the innermost frame, from any of its levels, which leaves its topmost operand or none.
     #[inline(always)]
     fn end_frame(&mut self, carries: bool) -> Way
-        ensures { way_of result self.new ≡ with_carried (carried carries self.old) (λ o t. resumed (left t) o) }
+        ensures { way_of result self.new ≡ with_carried (carried_operand carries self.old) (λ o t. resumed_caller (left_frame t) o) }
     {
         if !carries {
             return if self.leave() { Way::Goes } else { Way::Ends };
@@ -118,7 +118,7 @@ impl<'m> Stack<'m> {
         on_true: &'m [Instr],
         on_false: &'m [Instr],
     ) -> Result<Next, AllocError>
-        ensures { IfOk result (λ a. after_of a self.new ≡ chosen_by (tree opener.now) (trees on_true.now) (trees on_false.now) self.old) }
+        ensures { IfOk result (λ a. after_of a self.new ≡ chosen_body_entered (tree opener.now) (trees on_true.now) (trees on_false.now) self.old) }
     {
         match self.pop() {
             Some(Value::I32(0)) => {
@@ -136,7 +136,7 @@ impl<'m> Stack<'m> {
     /// The end of a level, or of a frame with its outermost level.
     #[inline(always)]
     pub fn end(&mut self) -> Way
-        ensures { way_of result self.new ≡ ended self.old }
+        ensures { way_of result self.new ≡ ended_level self.old }
     {
         if self.close() {
             return Way::Goes;

@@ -2,8 +2,8 @@
 ghost use Rattle.std.specs.Prelude.{◌≡◌, IsTrue, false, true};
 ghost use Rattle.wasm_types.specs.Code.{tree, trees};
 ghost use Rattle.wasm_stack.specs.Answer.{way_of};
-ghost use Rattle.wasm_stack.specs.Limits.{Within};
-ghost use Rattle.wasm_stack.specs.View.{chosen_by};
+ghost use Rattle.wasm_stack.specs.Limits.{ThreadWithin};
+ghost use Rattle.wasm_stack.specs.View.{chosen_body_entered};
 ghost use Rattle.wasm_stack.specs.After.{Goes};
 ghost use Rattle.wasm_stack.specs.Control.{branch_if, jump};
 
@@ -21,9 +21,9 @@ impl<'m> Stack<'m> {
         on_false: &'m [Instr],
         todo: &'m [Instr],
     ) -> bool
-        requires { Within self.old }
-        ensures goes { IsTrue result → Goes self.new ≡ chosen_by (tree opener.now) (trees on_true.now) (trees on_false.now) (record self.old { todo = trees todo.now }) }
-        ensures within { Within self.new }
+        requires { ThreadWithin self.old }
+        ensures goes { IsTrue result → Goes self.new ≡ chosen_body_entered (tree opener.now) (trees on_true.now) (trees on_false.now) (record self.old { todo = trees todo.now }) }
+        ensures within { ThreadWithin self.new }
         ensures same { result ≡ false → self.new ≡ self.old }
     {
         let Some(Value::I32(x)) = self.top() else {
@@ -36,10 +36,10 @@ impl<'m> Stack<'m> {
     /// A branch to the innermost level, which is a loop.
     #[inline(always)]
     fn jump_in_place(&mut self) -> bool
-        requires { Within self.old }
+        requires { ThreadWithin self.old }
         ensures goes { IsTrue result → Goes self.new ≡ jump self.old }
         ensures loops { IsTrue result → self.old.loops ≡ true }
-        ensures within { Within self.new }
+        ensures within { ThreadWithin self.new }
         ensures same { result ≡ false → self.new ≡ self.old }
     {
         match self.target() {
@@ -55,7 +55,7 @@ impl<'m> Stack<'m> {
     /// A branch past n levels, if the condition is not 0.
     #[inline(always)]
     pub fn branch_if_or_pass(&mut self, n: u32) -> Way
-        requires { Within self.old }
+        requires { ThreadWithin self.old }
         ensures { way_of result self.new ≡ branch_if n self.old }
     {
         if self.branch_if_in_place(n) {
@@ -66,9 +66,9 @@ impl<'m> Stack<'m> {
 
     #[inline(always)]
     fn branch_if_in_place(&mut self, n: u32) -> bool
-        requires { Within self.old }
+        requires { ThreadWithin self.old }
         ensures goes { IsTrue result → Goes self.new ≡ branch_if n self.old }
-        ensures within { Within self.new }
+        ensures within { ThreadWithin self.new }
         ensures same { result ≡ false → self.new ≡ self.old }
     {
         let Some(Value::I32(x)) = self.top() else {

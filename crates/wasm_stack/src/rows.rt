@@ -3,7 +3,7 @@
 ghost use Rattle.std.specs.Prelude.{◌≡◌, IfOk, OnOk, false, true, if◌then◌else◌};
 ghost use Rattle.wasm_values.specs.Numeric.{is_unary};
 ghost use Rattle.wasm_stack.specs.Answer.{after_of};
-ghost use Rattle.wasm_stack.specs.Limits.{Within};
+ghost use Rattle.wasm_stack.specs.Limits.{ThreadWithin};
 ghost use Rattle.wasm_stack.specs.After.{Goes, Sticks, Stops};
 ghost use Rattle.wasm_stack.specs.Rows.{drop_top, got, local_get, local_set, local_tee, numeric, select};
 ghost use Rattle.wasm_stack.specs.Control.{with_result};
@@ -63,7 +63,7 @@ impl<'m> Stack<'m> {
     #[inline(always)]
     pub fn drop_top(&mut self) -> bool
         ensures after { (if result then Goes self.new else Stops Sticks) ≡ drop_top self.old }
-        ensures within { Within self.old → Within self.new }
+        ensures within { ThreadWithin self.old → ThreadWithin self.new }
         ensures same { result ≡ false → self.new ≡ self.old }
     {
         match self.pop() {
@@ -75,7 +75,7 @@ impl<'m> Stack<'m> {
     #[inline(always)]
     pub fn select(&mut self) -> bool
         ensures after { (if result then Goes self.new else Stops Sticks) ≡ select self.old }
-        ensures within { Within self.old → Within self.new }
+        ensures within { ThreadWithin self.old → ThreadWithin self.new }
         ensures same { result ≡ false → self.new ≡ self.old }
     {
         let Some((_first, second, condition)) = self.three() else {
@@ -129,7 +129,7 @@ impl<'m> Stack<'m> {
     #[inline(always)]
     pub fn local_set(&mut self, x: u32) -> bool
         ensures after { (if result then Goes self.new else Stops Sticks) ≡ local_set x self.old }
-        ensures within { Within self.old → Within self.new }
+        ensures within { ThreadWithin self.old → ThreadWithin self.new }
         ensures same { result ≡ false → self.new ≡ self.old }
     {
         if !self.local_tee(x) {
@@ -142,7 +142,7 @@ impl<'m> Stack<'m> {
     #[inline(always)]
     pub fn local_tee(&mut self, x: u32) -> bool
         ensures after { (if result then Goes self.new else Stops Sticks) ≡ local_tee x self.old }
-        ensures within { Within self.old → Within self.new }
+        ensures within { ThreadWithin self.old → ThreadWithin self.new }
         ensures same { result ≡ false → self.new ≡ self.old }
     {
         if !self.has_local(x as usize) || !self.has_operand() {

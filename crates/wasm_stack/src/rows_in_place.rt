@@ -2,7 +2,7 @@
 // limit or traps, nothing is done.
 ghost use Rattle.std.specs.Prelude.{◌≡◌, IsTrue, false};
 ghost use Rattle.wasm_stack.specs.After.{Goes};
-ghost use Rattle.wasm_stack.specs.Limits.{Within};
+ghost use Rattle.wasm_stack.specs.Limits.{ThreadWithin};
 ghost use Rattle.wasm_stack.specs.Rows.{got, local_get, numeric};
 
 use crate::stack::Stack;
@@ -12,9 +12,9 @@ use wasm_values::{changed, combined};
 impl<'m> Stack<'m> {
     #[inline(always)]
     pub fn got_in_place(&mut self, value: Option<Value>) -> bool
-        requires { Within self.old }
+        requires { ThreadWithin self.old }
         ensures goes { IsTrue result → Goes self.new ≡ got value self.old }
-        ensures within { Within self.new }
+        ensures within { ThreadWithin self.new }
         ensures same { result ≡ false → self.new ≡ self.old }
     {
         match value {
@@ -25,9 +25,9 @@ impl<'m> Stack<'m> {
 
     #[inline(always)]
     pub fn local_get_in_place(&mut self, x: usize) -> bool
-        requires { Within self.old }
+        requires { ThreadWithin self.old }
         ensures goes { IsTrue result → Goes self.new ≡ local_get x self.old }
-        ensures within { Within self.new }
+        ensures within { ThreadWithin self.new }
         ensures same { result ≡ false → self.new ≡ self.old }
     {
         if !self.has_local(x) {
@@ -40,9 +40,9 @@ impl<'m> Stack<'m> {
     #[tactic(auto, using(crate::proofs::InPlace::changed_by, crate::proofs::WithinLimits::within_one))]
     #[inline(always)]
     pub fn unary_in_place(&mut self, op: u8) -> bool
-        requires { Within self.old }
+        requires { ThreadWithin self.old }
         ensures goes { IsTrue result → Goes self.new ≡ numeric op self.old }
-        ensures within { Within self.new }
+        ensures within { ThreadWithin self.new }
         ensures same { result ≡ false → self.new ≡ self.old }
     {
         let Some(x) = self.top() else {
@@ -57,9 +57,9 @@ impl<'m> Stack<'m> {
     #[tactic(auto, using(crate::proofs::InPlace::combined_by, crate::proofs::WithinLimits::within_two))]
     #[inline(always)]
     pub fn numeric_in_place(&mut self, op: u8) -> bool
-        requires { Within self.old }
+        requires { ThreadWithin self.old }
         ensures goes { IsTrue result → Goes self.new ≡ numeric op self.old }
-        ensures within { Within self.new }
+        ensures within { ThreadWithin self.new }
         ensures same { result ≡ false → self.new ≡ self.old }
     {
         let Some((x, y)) = self.two() else {

@@ -1,10 +1,10 @@
 // A thread as an owned value: one stack each of operands, labels, locals and frames.
 ghost use Rattle.std.specs.Prelude.{◌∷◌, OnErr, ◌≡◌, ◌+◌, ◌-◌, ◌<◌, ◌≤◌, [], ◌++◌, drop, length, IfOk, OnOk, Some, None, if◌then◌else◌, IfSome, IfNone, IsTrue, nat_lt, nat_le, ◌&&◌, false, is_some, slice_get, slice_set, take, true};
 ghost use Rattle.wasm_types.specs.Code.{End, Then, tree, trees};
-ghost use Rattle.wasm_stack.specs.Thread.{arguments, closed, with_operand, without, has_frame_room, has_room, is_end, fits_limits};
+ghost use Rattle.wasm_stack.specs.Thread.{arguments, closed_level, with_operand, without_operands, has_frame_room, has_room, is_end, fits_limits};
 ghost use Rattle.std.specs.Vec.{vec_capacity};
-ghost use Rattle.wasm_stack.specs.Call.{sited};
-ghost use Rattle.wasm_stack.specs.Limits.{Within};
+ghost use Rattle.wasm_stack.specs.Call.{call_sited};
+ghost use Rattle.wasm_stack.specs.Limits.{ThreadWithin};
 ghost use Rattle.wasm_stack.specs.View.{closed_by, entered_by};
 ghost use Rattle.wasm_stack.specs.Target.{IsTarget};
 
@@ -164,9 +164,9 @@ impl<'m> Stack<'m> {
     /// The same where there is room for it.
     #[inline(always)]
     pub fn push_within(&mut self, v: Slot) -> bool
-        requires { Within self.old }
+        requires { ThreadWithin self.old }
         ensures pushed { IsTrue result → self.new ≡ with_operand self.old v }
-        ensures within { Within self.new }
+        ensures within { ThreadWithin self.new }
         ensures same { result ≡ false → self.new ≡ self.old }
     {
         if self.operands.len() >= self.room {
@@ -271,7 +271,7 @@ impl<'m> Stack<'m> {
     #[inline(always)]
     pub fn drop_last(&mut self, n: usize)
         requires { n ≤ length self.old.stack }
-        ensures { self.new ≡ without n self.old }
+        ensures { self.new ≡ without_operands n self.old }
     {
         let height = self.operands.len();
         self.operands.truncate(height - n);
@@ -281,7 +281,7 @@ impl<'m> Stack<'m> {
     #[inline(always)]
     pub fn drop_one(&mut self)
         requires { 1 ≤ length self.old.stack }
-        ensures { self.new ≡ without 1 self.old }
+        ensures { self.new ≡ without_operands 1 self.old }
     {
         let _top = self.operands.take_last();
     }
@@ -385,9 +385,9 @@ impl<'m> Stack<'m> {
     /// The same where there is room for it, in a level that is left these.
     #[inline(always)]
     pub fn open_within(&mut self, opener: &'m Instr, body: &'m [Instr], todo: &'m [Instr]) -> bool
-        requires { Within self.old }
+        requires { ThreadWithin self.old }
         ensures opened { IsTrue result → self.new ≡ entered_by (tree opener.now) (trees body.now) (record self.old { todo = trees todo.now }) }
-        ensures within { Within self.new }
+        ensures within { ThreadWithin self.new }
         ensures same { result ≡ false → self.new ≡ self.old }
     {
         if self.operands.len() >= self.room || self.labels.len() >= self.labels.capacity() {
@@ -412,10 +412,10 @@ impl<'m> Stack<'m> {
         body: &'m [Instr],
         todo: &'m [Instr],
     ) -> bool
-        requires within { Within self.old }
+        requires within { ThreadWithin self.old }
         requires some { 1 ≤ length self.old.stack }
-        ensures opened { IsTrue result → self.new ≡ entered_by (tree opener.now) (trees body.now) (without 1 (record self.old { todo = trees todo.now })) }
-        ensures within { Within self.new }
+        ensures opened { IsTrue result → self.new ≡ entered_by (tree opener.now) (trees body.now) (without_operands 1 (record self.old { todo = trees todo.now })) }
+        ensures within { ThreadWithin self.new }
         ensures same { result ≡ false → self.new ≡ self.old }
     {
         let height = self.operands.len();
@@ -437,7 +437,7 @@ impl<'m> Stack<'m> {
     /// Whether there is a level around the innermost.
     #[inline(always)]
     pub fn has_outer(&self) -> bool
-        ensures { result ≡ is_some (closed self.now) }
+        ensures { result ≡ is_some (closed_level self.now) }
     {
         self.labels.len() > self.here.labels_from
     }
@@ -445,7 +445,7 @@ impl<'m> Stack<'m> {
     /// The level around the innermost, with the operands of both, if there is one.
     #[inline(always)]
     pub fn close(&mut self) -> bool
-        ensures closed { closed self.old ≡ (if result then Some self.new else None) }
+        ensures closed { closed_level self.old ≡ (if result then Some self.new else None) }
         ensures same { result ≡ false → self.new ≡ self.old }
         ensures behind { IsTrue result → self.old.loops ≡ false → self.new.todo ≡ self.old.target }
     {
@@ -505,7 +505,7 @@ impl<'m> Stack<'m> {
     /// The n topmost operands as the arguments of a call of the library, if there are as many.
     pub fn take_site(&mut self, func: u32, n: usize) -> Option<CallSite>
         ensures none { IfNone result ((arguments n self.old ≡ None) × (self.new ≡ self.old)) }
-        ensures some { IfSome result (λ s. (sited func (arguments n self.old) ≡ Some s) × (self.new ≡ without n self.old)) }
+        ensures some { IfSome result (λ s. (call_sited func (arguments n self.old) ≡ Some s) × (self.new ≡ without_operands n self.old)) }
     {
         let height = self.operands.len();
         if height - self.here.floor < n {
@@ -536,7 +536,7 @@ impl<'m> Stack<'m> {
     pub fn is_within(&self) -> bool
         ensures { result ≡ fits_limits self.now }
     {
-        if self.operands.len() < self.room && self.callers.len() < FRAME_LIMIT {
+        if self.operands.len() < self.room && self.callers.len() < MOST_FRAMES {
             return true;
         }
         self.has_room(0)
@@ -545,7 +545,7 @@ impl<'m> Stack<'m> {
     /// Whether the thread keeps to the limits without the n topmost operands and with this many more.
     pub fn has_room_without(&self, n: usize, more: usize) -> bool
         requires { n ≤ length self.now.stack }
-        ensures { result ≡ has_room more (without n self.now) }
+        ensures { result ≡ has_room more (without_operands n self.now) }
     {
         keeps_limits(
             self.callers.len(),
@@ -563,7 +563,7 @@ impl<'m> Stack<'m> {
     {
         more < self.room
             && self.operands.len() < self.room - more
-            && self.callers.len() + 1 < FRAME_LIMIT
+            && self.callers.len() + 1 < MOST_FRAMES
     }
 
     /// Whether the thread keeps to the limits with one more frame and this many more locals.
@@ -583,25 +583,25 @@ impl<'m> Stack<'m> {
 fn keeps_limits(frames: usize, operands: usize, labels: usize, locals: usize, more: usize) -> bool
     ensures { result ≡ (nat_lt frames 512 && nat_le (operands + labels + locals + more) 16384) }
 {
-    if frames >= FRAME_LIMIT
-        || operands > SIZE_LIMIT
-        || labels > SIZE_LIMIT
-        || locals > SIZE_LIMIT
-        || more > SIZE_LIMIT
+    if frames >= MOST_FRAMES
+        || operands > MOST_THREAD_SIZE
+        || labels > MOST_THREAD_SIZE
+        || locals > MOST_THREAD_SIZE
+        || more > MOST_THREAD_SIZE
     {
         return false;
     }
-    operands + labels + locals + more <= SIZE_LIMIT
+    operands + labels + locals + more <= MOST_THREAD_SIZE
 }
 
 /// At most so many frames of a thread, all but one of which wait.
-pub(crate) const FRAME_LIMIT: usize = 512;
+pub(crate) const MOST_FRAMES: usize = 512;
 
 /// Room is made for so many operands at a time.
 const ROOM: usize = 512;
 
 /// At most so many operands, locals and open labels of a thread.
-pub(crate) const SIZE_LIMIT: usize = 16384;
+pub(crate) const MOST_THREAD_SIZE: usize = 16384;
 
 #[inline(always)]
 fn one_less(n: usize) -> usize
@@ -615,10 +615,10 @@ fn room_of(labels: usize, locals: usize, capacity: usize) -> usize
     ensures place { result ≤ capacity }
     ensures limit { result ≤ 16384 - (labels + locals) }
 {
-    if labels > SIZE_LIMIT || locals > SIZE_LIMIT - labels {
+    if labels > MOST_THREAD_SIZE || locals > MOST_THREAD_SIZE - labels {
         return 0;
     }
-    (SIZE_LIMIT - labels - locals).min(capacity)
+    (MOST_THREAD_SIZE - labels - locals).min(capacity)
 }
 
 // One more item. Room is tested here, so that an item for which there is room is put in place without a call.

@@ -7,16 +7,16 @@ use Rattle.wasm_types.specs.declared.code.ValType.{ValType}
 use Rattle.wasm_types.specs.declared.code.ValType.TheVariants as types
 use Rattle.wasm_types.specs.Code.{Trees, Block, Loop, If, Br, BrIf, BrTable, Return}
 use Rattle.wasm_types.specs.Context.{Context}
-use Rattle.wasm_types.specs.Labels.{Labels, table_label, has_label, is_same_label, around, block_of}
+use Rattle.wasm_types.specs.Labels.{Labels, table_label, has_label, is_same_label, stack_around_block, block_of}
 use Rattle.wasm_types.specs.Maybe.{◌>>=◌}
 use Rattle.wasm_types.specs.Modules.{Module}
-use Rattle.wasm_types.specs.Stack.{BlockStack, empty_stack, jumped, is_exactly, pop_type, pop_result, push_result, jump_with}
+use Rattle.wasm_types.specs.Stack.{BlockStack, no_operands, jumped_stack, is_exactly, pop_type, pop_result, push_result, jump_with}
 use Rattle.wasm_types.specs.Typing.{typed_instrs}
 use Rattle.wasm_values.specs.Values.{types_of_values}
-use Rattle.wasm_step.specs.Fits.{TargetFits, known, put_type, label_of, Leaves, Fits, AfterFits}
+use Rattle.wasm_step.specs.Fits.{TargetFits, known_operands, put_type, label_of_level, CodeLeaves, ThreadFits, AfterFits}
 use Rattle.wasm_stack.specs.Control as Control
 use Rattle.wasm_stack.specs.Control.{branch, label_at}
-use Rattle.wasm_stack.specs.Thread.{Thread, opened, here}
+use Rattle.wasm_stack.specs.Thread.{Thread, opened_level, innermost_level_of}
 use Rattle.wasm_step.proofs.ThreadsFit.{never_none, is_same_equal, pops_type, pops_result, RestOf, labels_at, LeavesAt, goes, branch_fits, return_fits}
 use Rattle.wasm_step.proofs.PlainRowsFit.{neither, step, After', End', Before, on_top_fits, on_test_fits, on_i32_fits}
 
@@ -34,7 +34,7 @@ inside_of result (Some end) s F G h = by_exact (is_exactly result end) refl h
     by_exact (Some x) e h' = record { within = subst (λ (o : Option BlockStack). IsSome o) (sym e) refl; rest = h' }
 
 -- the same of a choice's other branch, whose result nothing goes on with yet
-around_of : (result : Option ValType) (inside : Option BlockStack) (s : BlockStack) (f F G : BlockStack → Option BlockStack) → IsSome (((around result inside s >>= f) >>= F) >>= G) → IsSome (inside >>= is_exactly result) × IsSome ((f s >>= F) >>= G)
+around_of : (result : Option ValType) (inside : Option BlockStack) (s : BlockStack) (f F G : BlockStack → Option BlockStack) → IsSome (((stack_around_block result inside s >>= f) >>= F) >>= G) → IsSome (inside >>= is_exactly result) × IsSome ((f s >>= F) >>= G)
 around_of result None s f F G h = never_none h
 around_of result (Some end) s f F G h = by_exact (is_exactly result end) refl h
   where
@@ -88,40 +88,40 @@ table_at ls ns default i label e = by_default (slice_get ls default) refl e
     by_default None q e' = cc
     by_default (Some d) q e' = by_test d (list_all (has_label ls d) ns) q refl e'
 
-put_push : (o : Option ValType) (ks : List ValType) → push_result o (known ks) ≡ known (put_type o ks)
+put_push : (o : Option ValType) (ks : List ValType) → push_result o (known_operands ks) ≡ known_operands (put_type o ks)
 put_push None ks = refl
 put_push (Some k) ks = refl
 
-label_true : (o : Option ValType) → label_of o (is_some o) ≡ o
+label_true : (o : Option ValType) → label_of_level o (is_some o) ≡ o
 label_true None = refl
 label_true (Some k) = refl
 
 module _ (m : Module) (c : Context) where
   -- a block that is opened fits, where its inside, its end and a branch to it do
-  open_fits : (t : Thread) (gives : Option ValType) (body target : Trees) (carries loops : Bool) → RestOf m c t → carries ≡ is_some (label_of gives carries) → Leaves c (label_of gives carries ∷ labels_at m t) gives body [] → TargetFits loops c (record { gives = gives; target = target; carries = carries; loops = loops }) (here t) t.outer → LeavesAt m c t (put_type gives (types_of_values t.stack)) → Fits m (opened t gives body target carries loops)
+  open_fits : (t : Thread) (gives : Option ValType) (body target : Trees) (carries loops : Bool) → RestOf m c t → carries ≡ is_some (label_of_level gives carries) → CodeLeaves c (label_of_level gives carries ∷ labels_at m t) gives body [] → TargetFits loops c (record { gives = gives; target = target; carries = carries; loops = loops }) (innermost_level_of t) t.outer → LeavesAt m c t (put_type gives (types_of_values t.stack)) → ThreadFits m (opened_level t gives body target carries loops)
   open_fits t gives body target carries loops r e inside at_target after =
-      goes m c (opened t gives body target carries loops) (r.0, r.1, r.2, (e, at_target, after, r.3), r.4) inside
+      goes m c (opened_level t gives body target carries loops) (r.0, r.1, r.2, (e, at_target, after, r.3), r.4) inside
 
-  carries_it : (gives : Option ValType) → is_some gives ≡ is_some (label_of gives (is_some gives))
+  carries_it : (gives : Option ValType) → is_some gives ≡ is_some (label_of_level gives (is_some gives))
   carries_it None = refl
   carries_it (Some k) = refl
 
-  pub block_fits : (gives : Option ValType) (body : Trees) (t : Thread) → RestOf m c t → Before m c (Block gives body) t (types_of_values t.stack) → Fits m (opened t gives body t.todo (is_some gives) false)
+  pub block_fits : (gives : Option ValType) (body : Trees) (t : Thread) → RestOf m c t → Before m c (Block gives body) t (types_of_values t.stack) → ThreadFits m (opened_level t gives body t.todo (is_some gives) false)
   block_fits gives body t r h =
       let ks = types_of_values t.stack in
-      let i = inside_of gives (typed_instrs c body (gives ∷ labels_at m t) empty_stack) (known ks) (After' m c t) (End' m c t) h.typed in
+      let i = inside_of gives (typed_instrs c body (gives ∷ labels_at m t) no_operands) (known_operands ks) (After' m c t) (End' m c t) h.typed in
       let nf = neither _ _ h.no_float in
       let nf' = neither _ _ nf.0 in
       let after : LeavesAt m c t (put_type gives ks) = record { typed = subst (λ s. IsSome (After' m c t s >>= End' m c t)) (put_push gives ks) i.rest; no_float = nf.1 } in
-      let inside : Leaves c (gives ∷ labels_at m t) gives body [] = record { typed = i.within; no_float = nf'.1 } in
+      let inside : CodeLeaves c (gives ∷ labels_at m t) gives body [] = record { typed = i.within; no_float = nf'.1 } in
       open_fits t gives body t.todo (is_some gives) false r (carries_it gives)
-      (subst (λ l. Leaves c (l ∷ labels_at m t) gives body []) (sym (label_true gives)) inside)
+      (subst (λ l. CodeLeaves c (l ∷ labels_at m t) gives body []) (sym (label_true gives)) inside)
       (subst (λ l. LeavesAt m c t (put_type l ks)) (sym (label_true gives)) after) after
 
-  pub loop_fits : (gives : Option ValType) (body : Trees) (t : Thread) → RestOf m c t → Before m c (Loop gives body) t (types_of_values t.stack) → Fits m (opened t gives body body false true)
+  pub loop_fits : (gives : Option ValType) (body : Trees) (t : Thread) → RestOf m c t → Before m c (Loop gives body) t (types_of_values t.stack) → ThreadFits m (opened_level t gives body body false true)
   loop_fits gives body t r h =
       let ks = types_of_values t.stack in
-      let i = inside_of gives (typed_instrs c body (None ∷ labels_at m t) empty_stack) (known ks) (After' m c t) (End' m c t) h.typed in
+      let i = inside_of gives (typed_instrs c body (None ∷ labels_at m t) no_operands) (known_operands ks) (After' m c t) (End' m c t) h.typed in
       let nf = neither _ _ h.no_float in
       let nf' = neither _ _ nf.0 in
       let after : LeavesAt m c t (put_type gives ks) = record { typed = subst (λ s. IsSome (After' m c t s >>= End' m c t)) (put_push gives ks) i.rest; no_float = nf.1 } in
@@ -132,9 +132,9 @@ module _ (m : Module) (c : Context) where
       let ks = types_of_values t.stack in
       let F = After' m c t in
       let G = End' m c t in
-      let on_yes = typed_instrs c yes' (gives ∷ labels_at m t) empty_stack in
-      let on_no = typed_instrs c no' (gives ∷ labels_at m t) empty_stack in
-      let a = step (pop_type types.I32 (known ks)) (λ tested. around gives on_yes tested >>= (λ before. block_of gives on_no before)) F G h.typed in
+      let on_yes = typed_instrs c yes' (gives ∷ labels_at m t) no_operands in
+      let on_no = typed_instrs c no' (gives ∷ labels_at m t) no_operands in
+      let a = step (pop_type types.I32 (known_operands ks)) (λ tested. stack_around_block gives on_yes tested >>= (λ before. block_of gives on_no before)) F G h.typed in
       let p = pops_type types.I32 ks a.value a.is in
       let y = around_of gives on_yes a.value (λ before. block_of gives on_no before) F G a.rest in
       let n = inside_of gives on_no a.value F G y.1 in
@@ -147,14 +147,14 @@ module _ (m : Module) (c : Context) where
       let at_label = subst (λ l. LeavesAt m c t (put_type l (types_of_values rest))) (sym (label_true gives)) after' in
       let t' = record t { stack = rest } in
       on_test_fits m c v _ _ kv
-      (open_fits t' gives no' t.todo (is_some gives) false r (carries_it gives) (subst (λ l. Leaves c (l ∷ labels_at m t) gives no' []) (sym (label_true gives)) (record { typed = n.within; no_float = nf2.1 })) at_label after')
-      (open_fits t' gives yes' t.todo (is_some gives) false r (carries_it gives) (subst (λ l. Leaves c (l ∷ labels_at m t) gives yes' []) (sym (label_true gives)) (record { typed = y.0; no_float = nf2.0 })) at_label after'))
+      (open_fits t' gives no' t.todo (is_some gives) false r (carries_it gives) (subst (λ l. CodeLeaves c (l ∷ labels_at m t) gives no' []) (sym (label_true gives)) (record { typed = n.within; no_float = nf2.1 })) at_label after')
+      (open_fits t' gives yes' t.todo (is_some gives) false r (carries_it gives) (subst (λ l. CodeLeaves c (l ∷ labels_at m t) gives yes' []) (sym (label_true gives)) (record { typed = y.0; no_float = nf2.0 })) at_label after'))
 
   pub br_fits : (n : ℕ) (t : Thread) → RestOf m c t → Before m c (Br n) t (types_of_values t.stack) → AfterFits m (branch n t)
   br_fits n t r h =
       let ks = types_of_values t.stack in
-      let a = step (slice_get (labels_at m t) n) (λ label. jump_with label (known ks)) (After' m c t) (End' m c t) h.typed in
-      let b = step (pop_result a.value (known ks)) (λ rest. Some jumped) (After' m c t) (End' m c t) a.rest in
+      let a = step (slice_get (labels_at m t) n) (λ label. jump_with label (known_operands ks)) (After' m c t) (End' m c t) h.typed in
+      let b = step (pop_result a.value (known_operands ks)) (λ rest. Some jumped_stack) (After' m c t) (End' m c t) a.rest in
       let p = pops_result a.value ks b.value b.is in
       branch_fits m c n t.outer t a.value p.more r a.is p.there
 
@@ -163,13 +163,13 @@ module _ (m : Module) (c : Context) where
       let ks = types_of_values t.stack in
       let F = After' m c t in
       let G = End' m c t in
-      let a = step (slice_get (labels_at m t) n) (λ label. pop_type types.I32 (known ks) >>= (λ tested. pop_result label tested >>= (λ rest. Some (push_result label rest)))) F G h.typed in
-      let b = step (pop_type types.I32 (known ks)) (λ tested. pop_result a.value tested >>= (λ rest. Some (push_result a.value rest))) F G a.rest in
+      let a = step (slice_get (labels_at m t) n) (λ label. pop_type types.I32 (known_operands ks) >>= (λ tested. pop_result label tested >>= (λ rest. Some (push_result label rest)))) F G h.typed in
+      let b = step (pop_type types.I32 (known_operands ks)) (λ tested. pop_result a.value tested >>= (λ rest. Some (push_result a.value rest))) F G a.rest in
       let p = pops_type types.I32 ks b.value b.is in
       let second = subst (λ s. IsSome (((pop_result a.value s >>= (λ rest. Some (push_result a.value rest))) >>= F) >>= G)) p.left b.rest in
-      let d = step (pop_result a.value (known p.more)) (λ rest. Some (push_result a.value rest)) F G second in
+      let d = step (pop_result a.value (known_operands p.more)) (λ rest. Some (push_result a.value rest)) F G second in
       let q = pops_result a.value p.more d.value d.is in
-      let after : LeavesAt m c t p.more = record { typed = subst (λ s. IsSome (F s >>= G)) (ap (push_result a.value) q.left ∙ put_push a.value q.more ∙ ap known (sym q.there)) d.rest; no_float = h.no_float } in
+      let after : LeavesAt m c t p.more = record { typed = subst (λ s. IsSome (F s >>= G)) (ap (push_result a.value) q.left ∙ put_push a.value q.more ∙ ap known_operands (sym q.there)) d.rest; no_float = h.no_float } in
       on_top_fits m c t _ t.stack types.I32 p.more p.there (λ v rest kv kr.
       let t' = record t { stack = rest } in
       on_test_fits m c v _ _ kv
@@ -181,11 +181,11 @@ module _ (m : Module) (c : Context) where
       let ks = types_of_values t.stack in
       let F = After' m c t in
       let G = End' m c t in
-      let a = step (table_label (labels_at m t) ns default) (λ label. pop_type types.I32 (known ks) >>= (λ tested. jump_with label tested)) F G h.typed in
-      let b = step (pop_type types.I32 (known ks)) (λ tested. jump_with a.value tested) F G a.rest in
+      let a = step (table_label (labels_at m t) ns default) (λ label. pop_type types.I32 (known_operands ks) >>= (λ tested. jump_with label tested)) F G h.typed in
+      let b = step (pop_type types.I32 (known_operands ks)) (λ tested. jump_with a.value tested) F G a.rest in
       let p = pops_type types.I32 ks b.value b.is in
       let second = subst (λ s. IsSome ((jump_with a.value s >>= F) >>= G)) p.left b.rest in
-      let d = step (pop_result a.value (known p.more)) (λ rest. Some jumped) F G second in
+      let d = step (pop_result a.value (known_operands p.more)) (λ rest. Some jumped_stack) F G second in
       let q = pops_result a.value p.more d.value d.is in
       on_top_fits m c t _ t.stack types.I32 p.more p.there (λ v rest kv kr.
       on_i32_fits m c v _ kv (λ i.
@@ -194,6 +194,6 @@ module _ (m : Module) (c : Context) where
   pub return_row_fits : (t : Thread) → RestOf m c t → Before m c Return t (types_of_values t.stack) → AfterFits m (Control.leave_frame t)
   return_row_fits t r h =
       let ks = types_of_values t.stack in
-      let b = step (pop_result c.gives (known ks)) (λ rest. Some jumped) (After' m c t) (End' m c t) h.typed in
+      let b = step (pop_result c.gives (known_operands ks)) (λ rest. Some jumped_stack) (After' m c t) (End' m c t) h.typed in
       let p = pops_result c.gives ks b.value b.is in
       return_fits m t c.gives p.more r.2 r.4 p.there

@@ -9,7 +9,7 @@ use Rattle.wasm_types.specs.declared.code.ValType.{ValType}
 use Rattle.wasm_types.specs.declared.code.ValType.TheVariants as types
 use Rattle.wasm_types.specs.Calls.{call_type, result_of}
 use Rattle.wasm_types.specs.Code.{CallFunc, CallIndirect}
-use Rattle.wasm_types.specs.Context.{Context, context_of, expand, funcs_of}
+use Rattle.wasm_types.specs.Context.{Context, context_of, expand_locals, funcs_of}
 use Rattle.wasm_types.specs.Floats.{have_float, is_float, has_float_func}
 use Rattle.wasm_types.specs.Maybe.{◌>>=◌}
 use Rattle.wasm_types.specs.Modules.{Module, Func, FuncType}
@@ -21,15 +21,15 @@ use Rattle.wasm_types.specs.declared.traps.Trap.TheVariants as traps
 use Rattle.wasm_stack.specs.Call.{site_of}
 use Rattle.wasm_types.specs.Locals.{zero_of, zeros}
 use Rattle.wasm_values.specs.Values.{type_of_value, types_of_values}
-use Rattle.wasm_store.specs.Suits.{Suits}
-use Rattle.wasm_step.specs.Fits.{known, put_type, label_of, Leaves, FramesFit, Fits, AfterFits, CallFits}
+use Rattle.wasm_store.specs.Suits.{SuitsModule}
+use Rattle.wasm_step.specs.Fits.{known_operands, put_type, label_of_level, CodeLeaves, FramesFit, ThreadFits, AfterFits, CallFits}
 use Rattle.wasm_step.specs.Reduce as Reduce
 use Rattle.wasm_types.specs.Functions.{TypesAgree, imported_type, own_type, type_of, same_types, same_type, own_func}
-use Rattle.wasm_stack.specs.After.{Stops, Calls, at_trap, go_on}
+use Rattle.wasm_stack.specs.After.{Stops, Calls, at_trap, frame_goes_on}
 use Rattle.wasm_store.specs.Store.{Store}
 use Rattle.wasm_step.specs.Strand.{IsResult, library_result, first_result}
 use Rattle.wasm_stack.specs.Thread as Thread'
-use Rattle.wasm_stack.specs.Thread.{Thread, Frame, without, arguments, waiting_frame, has_room}
+use Rattle.wasm_stack.specs.Thread.{Thread, Frame, without_operands, arguments, waiting_frame, has_room}
 use Rattle.wasm_step.proofs.ThreadsFit.{never_none, is_same_equal, pops_type, RestOf, LeavesAt, with_result_fits}
 use Rattle.wasm_step.proofs.PlainRowsFit.{neither, step, After', End', Before, on_top_fits, on_i32_fits}
 
@@ -56,7 +56,7 @@ types_of_replicate : (n : ℕ) (v : Value) → types_of_values (replicate n v) �
 types_of_replicate zero v = refl
 types_of_replicate (suc n) v = ap (λ ks. type_of_value v ∷ ks) (types_of_replicate n v)
 
-types_of_zeros : (ds : List (ℕ × ValType)) → list_any (λ (run : ℕ × ValType). is_float run.1) ds ≡ false → types_of_values (zeros ds) ≡ expand ds
+types_of_zeros : (ds : List (ℕ × ValType)) → list_any (λ (run : ℕ × ValType). is_float run.1) ds ≡ false → types_of_values (zeros ds) ≡ expand_locals ds
 types_of_zeros [] e = refl
 types_of_zeros (d ∷ ds) e =
     let parts = neither (is_float d.1) _ e in
@@ -66,8 +66,8 @@ types_of_zeros (d ∷ ds) e =
 
 -- the body of a function of a valid module leaves its result, and its locals start as values of their types
 pub record BodyFits (m : Module) (func : Func) (type : FuncType) : Type 0 where
-  pub body : Leaves (context_of m (type.params ++ expand func.locals) (result_of type)) (result_of type ∷ []) (result_of type) func.body []
-  pub zeros : types_of_values (zeros func.locals) ≡ expand func.locals
+  pub body : CodeLeaves (context_of m (type.params ++ expand_locals func.locals) (result_of type)) (result_of type ∷ []) (result_of type) func.body []
+  pub zeros : types_of_values (zeros func.locals) ≡ expand_locals func.locals
 
 pub body_fits : (m : Module) (f : ℕ) (func : Func) (type : FuncType) → IsValid m → own_func m f ≡ Some func → slice_get m.types func.type_index ≡ Some type → BodyFits m func type
 body_fits m f func type v own at =
@@ -75,7 +75,7 @@ body_fits m f func type v own at =
     let plain = none_of has_float_func m.funcs (f - length m.imports) func (neither _ _ (neither _ _ (neither _ _ v.no_float).1).1).0 own in
     let parts = neither (list_any (λ (run : ℕ × ValType). is_float run.1) func.locals) (have_float func.body) plain in
     record {
-      body = record { typed = subst (λ o. IsSomeAnd o (λ (t : FuncType). IsWellTyped (context_of m (t.params ++ expand func.locals) (result_of t)) func.body)) at typed; no_float = parts.1 };
+      body = record { typed = subst (λ o. IsSomeAnd o (λ (t : FuncType). IsWellTyped (context_of m (t.params ++ expand_locals func.locals) (result_of t)) func.body)) at typed; no_float = parts.1 };
       zeros = types_of_zeros func.locals parts.0;
     }
 
@@ -84,13 +84,13 @@ body_fits m f func type v own at =
 record PopsEach (ts ks : List ValType) (below : BlockStack) : Type 0 where
   more : List ValType
   there : ks ≡ ts ++ more
-  left : below ≡ known more
+  left : below ≡ known_operands more
 
-pops_each : (ts ks : List ValType) (s : BlockStack) → pop_each ts (known ks) ≡ Some s → PopsEach ts ks s
-pops_each [] ks s e = record { more = ks; there = refl; left = let h : known ks ≡ s = cc in sym h }
-pops_each (t ∷ ts) ks s e = by_case (pop_type t (known ks)) refl e (λ ks' e'. pops_each ts ks' s e')
+pops_each : (ts ks : List ValType) (s : BlockStack) → pop_each ts (known_operands ks) ≡ Some s → PopsEach ts ks s
+pops_each [] ks s e = record { more = ks; there = refl; left = let h : known_operands ks ≡ s = cc in sym h }
+pops_each (t ∷ ts) ks s e = by_case (pop_type t (known_operands ks)) refl e (λ ks' e'. pops_each ts ks' s e')
   where
-    by_case : (o : Option BlockStack) → pop_type t (known ks) ≡ o → (o >>= pop_each ts) ≡ Some s → ((ks' : List ValType) → pop_each ts (known ks') ≡ Some s → PopsEach ts ks' s) → PopsEach (t ∷ ts) ks s
+    by_case : (o : Option BlockStack) → pop_type t (known_operands ks) ≡ o → (o >>= pop_each ts) ≡ Some s → ((ks' : List ValType) → pop_each ts (known_operands ks') ≡ Some s → PopsEach ts ks' s) → PopsEach (t ∷ ts) ks s
     by_case None q e' next = cc
     by_case (Some below) q e' next =
         let p = pops_type t ks below q in
@@ -126,16 +126,16 @@ module _ (t : Thread) (params more : List ValType) (h : types_of_values t.stack 
   rest_value_types =
       drop_map (length params) t.stack ∙ ap (λ l. drop (length params) l) h ∙ drop_at (reverse params) more (length params) (length-reverse params)
 
-label_true : (o : Option ValType) → label_of o (is_some o) ≡ o
+label_true : (o : Option ValType) → label_of_level o (is_some o) ≡ o
 label_true None = refl
 label_true (Some k) = refl
 
 module _ (m : Module) where
   -- a frame of the module's own function, above these
-  pub enter_fits : (callers : List Frame) (f : ℕ) (func : Func) (type : FuncType) (args : List Value) → IsValid m → own_func m f ≡ Some func → slice_get m.types func.type_index ≡ Some type → types_of_values args ≡ type.params → FramesFit m (result_of type) callers → Fits m (Thread'.at_start callers f func.body (args ++ zeros func.locals) (result_of type))
+  pub enter_fits : (callers : List Frame) (f : ℕ) (func : Func) (type : FuncType) (args : List Value) → IsValid m → own_func m f ≡ Some func → slice_get m.types func.type_index ≡ Some type → types_of_values args ≡ type.params → FramesFit m (result_of type) callers → ThreadFits m (Thread'.function_at_start callers f func.body (args ++ zeros func.locals) (result_of type))
   enter_fits callers f func type args v own at value_types frames =
       let b = body_fits m f func type v own at in
-      let c' = context_of m (type.params ++ expand func.locals) (result_of type) in
+      let c' = context_of m (type.params ++ expand_locals func.locals) (result_of type) in
       let locals = map-append type_of_value args (zeros func.locals) ∙ ap (λ l. l ++ types_of_values (zeros func.locals)) value_types ∙ ap (λ l. type.params ++ l) b.zeros in (
         record {
           context = c';
@@ -143,13 +143,13 @@ module _ (m : Module) where
           locals = locals;
           returns = refl;
           around = (refl, refl, refl);
-          todo = subst (λ l. Leaves c' (l ∷ []) (result_of type) func.body []) (sym (label_true (result_of type))) b.body;
+          todo = subst (λ l. CodeLeaves c' (l ∷ []) (result_of type) func.body []) (sym (label_true (result_of type))) b.body;
         },
         frames,
       )
 
 module _ (m : Module) (c : Context) where
-  caller_fits : (t : Thread) (type : FuncType) (more : List ValType) → RestOf m c t → types_of_values t.stack ≡ reverse type.params ++ more → LeavesAt m c t (put_type (result_of type) more) → FramesFit m (result_of type) (waiting_frame (without (length type.params) t) ∷ t.callers)
+  caller_fits : (t : Thread) (type : FuncType) (more : List ValType) → RestOf m c t → types_of_values t.stack ≡ reverse type.params ++ more → LeavesAt m c t (put_type (result_of type) more) → FramesFit m (result_of type) (waiting_frame (without_operands (length type.params) t) ∷ t.callers)
   caller_fits t type more r h l = (
     record {
       context = c;
@@ -167,10 +167,10 @@ module _ (m : Module) (c : Context) where
       let n = length type.params in
       let left = subst (λ ks. LeavesAt m c t (put_type (result_of type) ks)) (sym (rest_value_types t type.params more h)) l in
       let gives : library_result m f ≡ result_of type = ap first_result is in
-      let fits : CallFits m (without n t) f = λ o k. with_result_fits m c (result_of type) o (without n t) r left (subst (λ g. IsResult g o) gives k) in
-      subst (λ o. AfterFits m (Reduce.at_call o f type t)) (sym (args_are t type.params more h)) (by_room (has_room (length type.results) (without n t)) fits)
+      let fits : CallFits m (without_operands n t) f = λ o k. with_result_fits m c (result_of type) o (without_operands n t) r left (subst (λ g. IsResult g o) gives k) in
+      subst (λ o. AfterFits m (Reduce.at_call o f type t)) (sym (args_are t type.params more h)) (by_room (has_room (length type.results) (without_operands n t)) fits)
     where
-      by_room : (b : Bool) → CallFits m (without (length type.params) t) f → AfterFits m (if b then Stops (Calls (without (length type.params) t) (site_of f (reverse (take (length type.params) t.stack)))) else at_trap traps.Exhausted)
+      by_room : (b : Bool) → CallFits m (without_operands (length type.params) t) f → AfterFits m (if b then Stops (Calls (without_operands (length type.params) t) (site_of f (reverse (take (length type.params) t.stack)))) else at_trap traps.Exhausted)
       by_room true k = (subst (λ o. IsSome o) (sym is) refl, k)
       by_room false k = tt
 
@@ -178,9 +178,9 @@ module _ (m : Module) (c : Context) where
   own_fits t f func type more v r own at h l =
       let n = length type.params in
       let args = reverse (take n t.stack) in
-      let inner = enter_fits m (waiting_frame (without n t) ∷ t.callers) f func type args v own at (args_value_types t type.params more h) (caller_fits t type more r h l) in
+      let inner = enter_fits m (waiting_frame (without_operands n t) ∷ t.callers) f func type args v own at (args_value_types t type.params more h) (caller_fits t type more r h l) in
       subst (λ o. AfterFits m (Reduce.call_typed f func o t)) (sym at)
-      (subst (λ o. AfterFits m (go_on (Thread'.called_with o n t f func (result_of type)))) (sym (args_are t type.params more h)) inner)
+      (subst (λ o. AfterFits m (frame_goes_on (Thread'.called_with o n t f func (result_of type)))) (sym (args_are t type.params more h)) inner)
 
   call_fits : (t : Thread) (f : ℕ) (type : FuncType) (more : List ValType) → IsValid m → RestOf m c t → type_of m f ≡ Some type → types_of_values t.stack ≡ reverse type.params ++ more → LeavesAt m c t (put_type (result_of type) more) → AfterFits m (Reduce.call m f t)
   call_fits t f type more v r is h l =
@@ -200,16 +200,16 @@ module _ (m : Module) (c : Context) where
     at : slice_get types k ≡ Some callee
     more : List ValType
     there : ks ≡ reverse callee.params ++ more
-    rest : IsSome (F (known (put_type (result_of callee) more)) >>= G)
+    rest : IsSome (F (known_operands (put_type (result_of callee) more)) >>= G)
 
-  put_push : (o : Option ValType) (ks : List ValType) → push_result o (known ks) ≡ known (put_type o ks)
+  put_push : (o : Option ValType) (ks : List ValType) → push_result o (known_operands ks) ≡ known_operands (put_type o ks)
   put_push None ks = refl
   put_push (Some k) ks = refl
 
-  typed_call : (types : List FuncType) (k : ℕ) (ks : List ValType) (F G : BlockStack → Option BlockStack) → IsSome ((call_type types k (known ks) >>= F) >>= G) → Typed types k ks F G
+  typed_call : (types : List FuncType) (k : ℕ) (ks : List ValType) (F G : BlockStack → Option BlockStack) → IsSome ((call_type types k (known_operands ks) >>= F) >>= G) → Typed types k ks F G
   typed_call types k ks F G h =
-      let a = step (slice_get types k) (λ (callee : FuncType). operate callee.params (result_of callee) (known ks)) F G h in
-      let b = step (pop_types a.value.params (known ks)) (λ rest. Some (push_result (result_of a.value) rest)) F G a.rest in
+      let a = step (slice_get types k) (λ (callee : FuncType). operate callee.params (result_of callee) (known_operands ks)) F G h in
+      let b = step (pop_types a.value.params (known_operands ks)) (λ rest. Some (push_result (result_of a.value) rest)) F G a.rest in
       let p = pops_each (reverse a.value.params) ks b.value b.is in
       record {
         callee = a.value;
@@ -224,7 +224,7 @@ module _ (m : Module) (c : Context) where
       let ks = types_of_values t.stack in
       let F = After' m c t in
       let G = End' m c t in
-      let a = step (slice_get c.funcs f) (λ k. call_type c.types k (known ks)) F G h.typed in
+      let a = step (slice_get c.funcs f) (λ k. call_type c.types k (known_operands ks)) F G h.typed in
       let d = typed_call c.types a.value ks F G a.rest in
       let funcs : slice_get (funcs_of m) f ≡ Some a.value = ap (λ (c : Context). slice_get c.funcs f) (sym r.0.same) ∙ a.is in
       let type : slice_get m.types a.value ≡ Some d.callee = ap (λ (c : Context). slice_get c.types a.value) (sym r.0.same) ∙ d.at in
@@ -267,12 +267,12 @@ module _ (m : Module) (c : Context) where
   element_fits t k callee more (Some None) v r there at h l = tt
   element_fits t k callee more (Some (Some f)) v r there at h l = checked_fits t f k callee more v r (there f refl) at h l
 
-  pub call_indirect_fits : (k : ℕ) (g : Store) (t : Thread) → g.«module» ≡ m → Suits g → IsValid m → RestOf m c t → Before m c (CallIndirect k) t (types_of_values t.stack) → AfterFits m (Reduce.call_indirect k g t)
+  pub call_indirect_fits : (k : ℕ) (g : Store) (t : Thread) → g.«module» ≡ m → SuitsModule g → IsValid m → RestOf m c t → Before m c (CallIndirect k) t (types_of_values t.stack) → AfterFits m (Reduce.call_indirect k g t)
   call_indirect_fits k g t same suits v r h =
       let ks = types_of_values t.stack in
       let F = After' m c t in
       let G = End' m c t in
-      let a = step (pop_type types.I32 (known ks)) (λ below. if c.has_table then call_type c.types k below else None) F G h.typed in
+      let a = step (pop_type types.I32 (known_operands ks)) (λ below. if c.has_table then call_type c.types k below else None) F G h.typed in
       let p = pops_type types.I32 ks a.value a.is in
       let d = by_test c.has_table p.more (subst (λ s. IsSome (((if c.has_table then call_type c.types k s else None) >>= F) >>= G)) p.left a.rest) in
       let type : slice_get m.types k ≡ Some d.callee = ap (λ (c : Context). slice_get c.types k) (sym r.0.same) ∙ d.at in
@@ -284,6 +284,6 @@ module _ (m : Module) (c : Context) where
       subst (λ (m' : Module). AfterFits m (Reduce.call_element m' k (slice_get g.table i) t')) (sym same)
       (element_fits t' k d.callee d.more (slice_get g.table i) v r there type (kr ∙ d.there) left)))
     where
-      by_test : (b : Bool) (ks : List ValType) → IsSome (((if b then call_type c.types k (known ks) else None) >>= After' m c t) >>= End' m c t) → Typed c.types k ks (After' m c t) (End' m c t)
+      by_test : (b : Bool) (ks : List ValType) → IsSome (((if b then call_type c.types k (known_operands ks) else None) >>= After' m c t) >>= End' m c t) → Typed c.types k ks (After' m c t) (End' m c t)
       by_test false ks h' = never_none h'
       by_test true ks h' = typed_call c.types k ks (After' m c t) (End' m c t) h'

@@ -13,7 +13,7 @@ use Rattle.wasm_types.specs.Accesses.{Access, load_access, store_access}
 use Rattle.wasm_types.specs.Floats.{is_float, is_float_access, is_float_operator}
 use Rattle.wasm_types.specs.Numeric.{Operator, operator_of}
 use Rattle.wasm_types.specs.Stack.{is_same}
-use Rattle.wasm_values.specs.Access.{load_width, load_value, loaded_value, loaded_width, operand_of, store_width, stored_width, widened}
+use Rattle.wasm_values.specs.Access.{load_width, load_value, loaded_value, loaded_width, operand_of, store_width, stored_width, widened_load}
 use Rattle.wasm_values.specs.Values.{type_of_value}
 use Rattle.wasm_values.specs.Numeric.{Computed, Gives, Fails, IsNone, divided_32, divided_64, is_unary, unary, binary}
 
@@ -307,7 +307,7 @@ load_fits op = by_access (load_access op) refl
     by_access : (o : Option Access) → load_access op ≡ o → LoadFitsOf op o
     by_access None e = tt
     by_access (Some a) e =
-        λ no_float. let operand = operand_fits a.moved (widened op a.exponent) no_float in record {
+        λ no_float. let operand = operand_fits a.moved (widened_load op a.exponent) no_float in record {
           width = 2 ^ a.exponent;
           reads = ap (option_and_then loaded_width) e ∙ ap (λ b. if b then None else Some (2 ^ a.exponent)) no_float;
           value = operand.value;

@@ -14,13 +14,13 @@ use Rattle.wasm_types.specs.Floats.{have_float, is_float_operator}
 use Rattle.wasm_types.specs.Maybe.{◌>>=◌}
 use Rattle.wasm_types.specs.Modules.{Module}
 use Rattle.wasm_types.specs.Numeric.{Operator, operator_of}
-use Rattle.wasm_types.specs.Stack.{BlockStack, is_exactly, pop_type, push_result, operate, push}
+use Rattle.wasm_types.specs.Stack.{BlockStack, is_exactly, pop_type, push_result, operate, push_operand}
 use Rattle.wasm_types.specs.Typing.{typed_instrs}
 use Rattle.wasm_values.specs.Values.{type_of_value, types_of_values}
-use Rattle.wasm_step.specs.Fits.{known, Leaves, AfterFits}
+use Rattle.wasm_step.specs.Fits.{known_operands, CodeLeaves, AfterFits}
 use Rattle.wasm_values.specs.Numeric.{Computed, Gives, Fails, IsNone, is_unary, unary, binary}
 use Rattle.wasm_stack.specs.Rows as Rows
-use Rattle.wasm_stack.specs.After.{Sticks, After, Goes, Stops, on_i32, on_top, with_top}
+use Rattle.wasm_stack.specs.After.{Sticks, AfterStep, Goes, Stops, on_i32, on_top, with_top}
 use Rattle.wasm_stack.specs.Rows.{put_computed, numeric, got}
 use Rattle.wasm_stack.specs.Control.{on_test}
 use Rattle.wasm_stack.specs.Thread.{Thread, with_operand}
@@ -80,18 +80,18 @@ module _ (m : Module) (c : Context) where
   End' t = is_exactly t.gives
 
   abbrev pub Before : Tree → Thread → List ValType → Type 0
-  Before i t ks = Leaves c (labels_at m t) t.gives (Then i t.todo) ks
+  Before i t ks = CodeLeaves c (labels_at m t) t.gives (Then i t.todo) ks
 
-  pub on_top_fits : (t : Thread) (go : Value → Thread → After) (stack : List Value) (k : ValType) (ks : List ValType) → types_of_values stack ≡ k ∷ ks → ((v : Value) (rest : List Value) → type_of_value v ≡ k → types_of_values rest ≡ ks → AfterFits m (go v (record t { stack = rest }))) → AfterFits m (on_top stack t go)
+  pub on_top_fits : (t : Thread) (go : Value → Thread → AfterStep) (stack : List Value) (k : ValType) (ks : List ValType) → types_of_values stack ≡ k ∷ ks → ((v : Value) (rest : List Value) → type_of_value v ≡ k → types_of_values rest ≡ ks → AfterFits m (go v (record t { stack = rest }))) → AfterFits m (on_top stack t go)
   on_top_fits t go [] k ks e next = cc
   on_top_fits t go (v ∷ rest) k ks e next = next v rest (cc) (cc)
 
-  pub on_test_fits : (v : Value) (a b : After) → type_of_value v ≡ types.I32 → AfterFits m a → AfterFits m b → AfterFits m (on_test v a b)
+  pub on_test_fits : (v : Value) (a b : AfterStep) → type_of_value v ≡ types.I32 → AfterFits m a → AfterFits m b → AfterFits m (on_test v a b)
   on_test_fits (I64 x) a b e p q = cc
   on_test_fits (I32 zero) a b e p q = p
   on_test_fits (I32 (suc x)) a b e p q = q
 
-  pub on_i32_fits : (v : Value) (go : ℕ → After) → type_of_value v ≡ types.I32 → ((x : ℕ) → AfterFits m (go x)) → AfterFits m (on_i32 v go)
+  pub on_i32_fits : (v : Value) (go : ℕ → AfterStep) → type_of_value v ≡ types.I32 → ((x : ℕ) → AfterFits m (go x)) → AfterFits m (on_i32 v go)
   on_i32_fits (I32 x) go e h = h x
   on_i32_fits (I64 x) go e h = cc
 
@@ -106,7 +106,7 @@ module _ (m : Module) (c : Context) where
   pub local_get_fits : (x : ℕ) (t : Thread) → RestOf m c t → Before (LocalGet x) t (types_of_values t.stack) → AfterFits m (Rows.local_get x t)
   local_get_fits x t r h =
       let ks = types_of_values t.stack in
-      let a = step (slice_get c.locals x) (λ k. Some (push (Some k) (known ks))) (After' t) (End' t) h.typed in
+      let a = step (slice_get c.locals x) (λ k. Some (push_operand (Some k) (known_operands ks))) (After' t) (End' t) h.typed in
       got_fits t (slice_get t.locals x) a.value r (read_value_type t.locals c.locals x a.value r.1 a.is) (record { typed = a.rest; no_float = h.no_float })
 
   local_put_fits : (x : ℕ) (v : Value) (t : Thread) (k : ValType) → RestOf m c t → slice_get c.locals x ≡ Some k → type_of_value v ≡ k → LeavesAt m c t (types_of_values t.stack) → AfterFits m (Rows.local_put x v t)
@@ -118,8 +118,8 @@ module _ (m : Module) (c : Context) where
   pub local_set_fits : (x : ℕ) (t : Thread) → RestOf m c t → Before (LocalSet x) t (types_of_values t.stack) → AfterFits m (Rows.local_set x t)
   local_set_fits x t r h =
       let ks = types_of_values t.stack in
-      let a = step (slice_get c.locals x) (λ k. pop_type k (known ks)) (After' t) (End' t) h.typed in
-      let b = last (pop_type a.value (known ks)) (After' t) (End' t) a.rest in
+      let a = step (slice_get c.locals x) (λ k. pop_type k (known_operands ks)) (After' t) (End' t) h.typed in
+      let b = last (pop_type a.value (known_operands ks)) (After' t) (End' t) a.rest in
       let p = pops_type a.value ks b.value b.is in
       let left : LeavesAt m c t p.more = record { typed = subst (λ s. IsSome (After' t s >>= End' t)) p.left b.rest; no_float = h.no_float } in
       on_top_fits t _ t.stack a.value p.more p.there (λ v rest kv kr.
@@ -128,10 +128,10 @@ module _ (m : Module) (c : Context) where
   pub local_tee_fits : (x : ℕ) (t : Thread) → RestOf m c t → Before (LocalTee x) t (types_of_values t.stack) → AfterFits m (Rows.local_tee x t)
   local_tee_fits x t r h =
       let ks = types_of_values t.stack in
-      let a = step (slice_get c.locals x) (λ k. pop_type k (known ks) >>= (λ rest. Some (push (Some k) rest))) (After' t) (End' t) h.typed in
-      let b = step (pop_type a.value (known ks)) (λ rest. Some (push (Some a.value) rest)) (After' t) (End' t) a.rest in
+      let a = step (slice_get c.locals x) (λ k. pop_type k (known_operands ks) >>= (λ rest. Some (push_operand (Some k) rest))) (After' t) (End' t) h.typed in
+      let b = step (pop_type a.value (known_operands ks)) (λ rest. Some (push_operand (Some a.value) rest)) (After' t) (End' t) a.rest in
       let p = pops_type a.value ks b.value b.is in
-      let left : LeavesAt m c t (a.value ∷ p.more) = record { typed = subst (λ s. IsSome (After' t (push (Some a.value) s) >>= End' t)) p.left b.rest; no_float = h.no_float } in
+      let left : LeavesAt m c t (a.value ∷ p.more) = record { typed = subst (λ s. IsSome (After' t (push_operand (Some a.value) s) >>= End' t)) p.left b.rest; no_float = h.no_float } in
       on_top_fits t _ t.stack a.value p.more p.there (λ v rest kv kr.
       let left' = subst (λ ks. LeavesAt m c t (a.value ∷ ks)) (sym kr) left in
       local_put_fits x v (record t { stack = v ∷ rest }) a.value r a.is kv (subst (λ k. LeavesAt m c t (k ∷ types_of_values rest)) (sym kv) left'))
@@ -162,53 +162,53 @@ module _ (m : Module) (c : Context) where
   put_computed_fits (Fails trap) k t r h l = tt
   put_computed_fits IsNone k t r h l = absurd h
 
-  unary_fits : (op : ℕ) (t : Thread) (k j : ValType) → RestOf m c t → is_unary op ≡ true → ((v : Value) → type_of_value v ≡ k → ComputedFits (unary op v) j) → IsSome ((operate (k ∷ []) (Some j) (known (types_of_values t.stack)) >>= After' t) >>= End' t) → have_float t.todo ≡ false → AfterFits m (numeric op t)
+  unary_fits : (op : ℕ) (t : Thread) (k j : ValType) → RestOf m c t → is_unary op ≡ true → ((v : Value) → type_of_value v ≡ k → ComputedFits (unary op v) j) → IsSome ((operate (k ∷ []) (Some j) (known_operands (types_of_values t.stack)) >>= After' t) >>= End' t) → have_float t.todo ≡ false → AfterFits m (numeric op t)
   unary_fits op t k j r u f h nf =
       let ks = types_of_values t.stack in
-      let a = step (pop_type k (known ks)) (λ rest. Some (push (Some j) rest)) (After' t) (End' t) (regroup (pop_type k (known ks)) h) in
+      let a = step (pop_type k (known_operands ks)) (λ rest. Some (push_operand (Some j) rest)) (After' t) (End' t) (regroup (pop_type k (known_operands ks)) h) in
       let p = pops_type k ks a.value a.is in
-      let left : LeavesAt m c t (j ∷ p.more) = record { typed = subst (λ s. IsSome (After' t (push (Some j) s) >>= End' t)) p.left a.rest; no_float = nf } in
+      let left : LeavesAt m c t (j ∷ p.more) = record { typed = subst (λ s. IsSome (After' t (push_operand (Some j) s) >>= End' t)) p.left a.rest; no_float = nf } in
       subst (λ b. AfterFits m (if b then with_top t (λ x t'. put_computed (unary op x) t') else with_top t (λ y t'. with_top t' (λ x t''. put_computed (binary op x y) t'')))) (sym u)
       (on_top_fits t _ t.stack k p.more p.there (λ v rest kv kr.
       put_computed_fits (unary op v) j (record t { stack = rest }) r (f v kv) (subst (λ ks. LeavesAt m c t (j ∷ ks)) (sym kr) left)))
     where
-      regroup : (o : Option BlockStack) → IsSome ((((o >>= (λ s. Some s)) >>= (λ rest. Some (push_result (Some j) rest))) >>= After' t) >>= End' t) → IsSome (((o >>= (λ rest. Some (push (Some j) rest))) >>= After' t) >>= End' t)
+      regroup : (o : Option BlockStack) → IsSome ((((o >>= (λ s. Some s)) >>= (λ rest. Some (push_result (Some j) rest))) >>= After' t) >>= End' t) → IsSome (((o >>= (λ rest. Some (push_operand (Some j) rest))) >>= After' t) >>= End' t)
       regroup None h = h
       regroup (Some s) h = h
 
-  binary_fits : (op : ℕ) (t : Thread) (k j : ValType) → RestOf m c t → is_unary op ≡ false → ((x y : Value) → type_of_value x ≡ k → type_of_value y ≡ k → ComputedFits (binary op x y) j) → IsSome ((operate (k ∷ (k ∷ [])) (Some j) (known (types_of_values t.stack)) >>= After' t) >>= End' t) → have_float t.todo ≡ false → AfterFits m (numeric op t)
+  binary_fits : (op : ℕ) (t : Thread) (k j : ValType) → RestOf m c t → is_unary op ≡ false → ((x y : Value) → type_of_value x ≡ k → type_of_value y ≡ k → ComputedFits (binary op x y) j) → IsSome ((operate (k ∷ (k ∷ [])) (Some j) (known_operands (types_of_values t.stack)) >>= After' t) >>= End' t) → have_float t.todo ≡ false → AfterFits m (numeric op t)
   binary_fits op t k j r u f h nf =
       let ks = types_of_values t.stack in
-      let a = step (pop_type k (known ks)) (λ s. pop_type k s >>= (λ rest. Some (push (Some j) rest))) (After' t) (End' t) (regroup (pop_type k (known ks)) h) in
+      let a = step (pop_type k (known_operands ks)) (λ s. pop_type k s >>= (λ rest. Some (push_operand (Some j) rest))) (After' t) (End' t) (regroup (pop_type k (known_operands ks)) h) in
       let p = pops_type k ks a.value a.is in
-      let second = subst (λ s. IsSome (((pop_type k s >>= (λ rest. Some (push (Some j) rest))) >>= After' t) >>= End' t)) p.left a.rest in
-      let b = step (pop_type k (known p.more)) (λ rest. Some (push (Some j) rest)) (After' t) (End' t) second in
+      let second = subst (λ s. IsSome (((pop_type k s >>= (λ rest. Some (push_operand (Some j) rest))) >>= After' t) >>= End' t)) p.left a.rest in
+      let b = step (pop_type k (known_operands p.more)) (λ rest. Some (push_operand (Some j) rest)) (After' t) (End' t) second in
       let q = pops_type k p.more b.value b.is in
-      let left : LeavesAt m c t (j ∷ q.more) = record { typed = subst (λ s. IsSome (After' t (push (Some j) s) >>= End' t)) q.left b.rest; no_float = nf } in
+      let left : LeavesAt m c t (j ∷ q.more) = record { typed = subst (λ s. IsSome (After' t (push_operand (Some j) s) >>= End' t)) q.left b.rest; no_float = nf } in
       subst (λ b. AfterFits m (if b then with_top t (λ x t'. put_computed (unary op x) t') else with_top t (λ y t'. with_top t' (λ x t''. put_computed (binary op x y) t'')))) (sym u)
       (on_top_fits t _ t.stack k p.more p.there (λ y rest ky kr.
       on_top_fits (record t { stack = rest }) _ rest k q.more (kr ∙ q.there) (λ x rest' kx kr'.
       put_computed_fits (binary op x y) j (record t { stack = rest' }) r (f x y kx ky) (subst (λ ks. LeavesAt m c t (j ∷ ks)) (sym kr') left))))
     where
-      inner : (o : Option BlockStack) → IsSome ((((o >>= (λ s. Some s)) >>= (λ rest. Some (push_result (Some j) rest))) >>= After' t) >>= End' t) → IsSome (((o >>= (λ rest. Some (push (Some j) rest))) >>= After' t) >>= End' t)
+      inner : (o : Option BlockStack) → IsSome ((((o >>= (λ s. Some s)) >>= (λ rest. Some (push_result (Some j) rest))) >>= After' t) >>= End' t) → IsSome (((o >>= (λ rest. Some (push_operand (Some j) rest))) >>= After' t) >>= End' t)
       inner None h = h
       inner (Some s) h = h
 
-      regroup : (o : Option BlockStack) → IsSome ((((o >>= (λ s. pop_type k s >>= (λ s. Some s))) >>= (λ rest. Some (push_result (Some j) rest))) >>= After' t) >>= End' t) → IsSome (((o >>= (λ s. pop_type k s >>= (λ rest. Some (push (Some j) rest)))) >>= After' t) >>= End' t)
+      regroup : (o : Option BlockStack) → IsSome ((((o >>= (λ s. pop_type k s >>= (λ s. Some s))) >>= (λ rest. Some (push_result (Some j) rest))) >>= After' t) >>= End' t) → IsSome (((o >>= (λ s. pop_type k s >>= (λ rest. Some (push_operand (Some j) rest)))) >>= After' t) >>= End' t)
       regroup None h = h
       regroup (Some s) h = inner (pop_type k s) h
 
   pub numeric_fits : (op : ℕ) (t : Thread) → RestOf m c t → Before (Op op) t (types_of_values t.stack) → AfterFits m (numeric op t)
   numeric_fits op t r h =
       let nf = neither _ _ h.no_float in
-      let a = step (operator_of op) (λ o. operate o.takes (Some o.gives) (known (types_of_values t.stack))) (After' t) (End' t) h.typed in
+      let a = step (operator_of op) (λ o. operate o.takes (Some o.gives) (known_operands (types_of_values t.stack))) (After' t) (End' t) h.typed in
       let fits = subst (λ (o : Option Operator). FitsOf op o) a.is (operator_fits op) in
       let plain = ap is_float_operator (sym a.is) ∙ nf.0 in
       by_takes a.value.takes a.value.gives (fits plain) a.rest nf.1
     where
-      by_takes : (takes : List ValType) (gives : ValType) → TakesFit op takes gives → IsSome ((operate takes (Some gives) (known (types_of_values t.stack)) >>= After' t) >>= End' t) → have_float t.todo ≡ false → AfterFits m (numeric op t)
+      by_takes : (takes : List ValType) (gives : ValType) → TakesFit op takes gives → IsSome ((operate takes (Some gives) (known_operands (types_of_values t.stack)) >>= After' t) >>= End' t) → have_float t.todo ≡ false → AfterFits m (numeric op t)
       by_takes [] j f h nf = absurd f
       by_takes (k ∷ []) j f h nf = unary_fits op t k j r f.0 f.1 h nf
       by_takes (k ∷ (k' ∷ [])) j f h nf =
-          binary_fits op t k j r f.0 f.2 (subst (λ k'. IsSome ((operate (k ∷ (k' ∷ [])) (Some j) (known (types_of_values t.stack)) >>= After' t) >>= End' t)) (sym f.1) h) nf
+          binary_fits op t k j r f.0 f.2 (subst (λ k'. IsSome ((operate (k ∷ (k' ∷ [])) (Some j) (known_operands (types_of_values t.stack)) >>= After' t) >>= End' t)) (sym f.1) h) nf
       by_takes (k ∷ (k' ∷ (k'' ∷ ks))) j f h nf = absurd f

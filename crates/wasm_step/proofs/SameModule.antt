@@ -7,11 +7,11 @@ use Rattle.wasm_types.specs.Code.{Tree, Unreachable, Nop, Block, Loop, If, Br, B
 use Rattle.wasm_types.specs.Modules.{Module}
 use Rattle.wasm_values.specs.Access.{store_width}
 use Rattle.wasm_values.specs.Values.{bits_of}
-use Rattle.wasm_step.specs.Reduce.{Both, reduce, set_global, write_at, write_value, write_top, grow_top}
+use Rattle.wasm_step.specs.Reduce.{ThreadAndStore, reduce_instruction, set_global, write_at, write_value, write_top, grow_top}
 use Rattle.wasm_store.specs.Store.{Store}
 use Rattle.wasm_stack.specs.Thread.{Thread}
 
-choice_module : (b : Bool) (p q : Both) (m : Module) → p.store.«module» ≡ m → q.store.«module» ≡ m → (if b then p else q).store.«module» ≡ m
+choice_module : (b : Bool) (p q : ThreadAndStore) (m : Module) → p.store.«module» ≡ m → q.store.«module» ≡ m → (if b then p else q).store.«module» ≡ m
 choice_module true p q m hp hq = hp
 choice_module false p q m hp hq = hq
 
@@ -39,7 +39,7 @@ grow_module (I64 x ∷ rest) g t = refl
 grow_module (I32 x ∷ rest) g t = refl
 
 -- an instruction leaves the module as it is
-pub keeps_module : (i : Tree) (t : Thread) (g : Store) → (reduce i t g).store.«module» ≡ g.«module»
+pub keeps_module : (i : Tree) (t : Thread) (g : Store) → (reduce_instruction i t g).store.«module» ≡ g.«module»
 keeps_module Unreachable t g = refl
 keeps_module Nop t g = refl
 keeps_module (Block gives body) t g = refl

@@ -3,7 +3,7 @@ use Rattle.std.proofs.Common.{◌≡◌, ℕ, ◌+◌, ◌-◌, ◌^◌, Bool, t
 use Rattle.std.specs.Prelude.{map, slice_get, IsSome, if◌then◌else◌}
 use Rattle.std.specs.Option.{option_map}
 use Rattle.std.proofs.lemmas.Option.{slice_get-map}
-use Rattle.guest_memory.specs.Memory.{Memory, is_inside, loaded, after_store, can_grow, growth, after_grow, size_of}
+use Rattle.guest_memory.specs.Memory.{Memory, is_inside, loaded_number, after_store, can_grow, growth_size, after_grow, size_of}
 use Rattle.wasm_types.specs.declared.code.Value.{Value}
 use Rattle.wasm_types.specs.declared.code.Value.TheVariants.{I32, I64}
 use Rattle.wasm_types.specs.declared.code.ValType.{ValType}
@@ -15,13 +15,13 @@ use Rattle.wasm_types.specs.Context.{Context}
 use Rattle.wasm_types.specs.Floats.{have_float, is_float_access}
 use Rattle.wasm_types.specs.Maybe.{◌>>=◌}
 use Rattle.wasm_types.specs.Modules.{Module, GlobalDef, GlobalType, global_type}
-use Rattle.wasm_types.specs.Stack.{BlockStack, push, push_result, pop_type, operate}
+use Rattle.wasm_types.specs.Stack.{BlockStack, push_operand, push_result, pop_type, operate}
 use Rattle.wasm_values.specs.Access.{load_value}
 use Rattle.wasm_values.specs.Values.{bits_of, type_of_value, types_of_values}
-use Rattle.wasm_store.specs.Suits.{Suits}
-use Rattle.wasm_step.specs.Fits.{known, IsContext, Fits, AfterFits}
+use Rattle.wasm_store.specs.Suits.{SuitsModule}
+use Rattle.wasm_step.specs.Fits.{known_operands, IsContext, ThreadFits, AfterFits}
 use Rattle.wasm_step.specs.Reduce as Reduce
-use Rattle.wasm_step.specs.Reduce.{Both, keep}
+use Rattle.wasm_step.specs.Reduce.{ThreadAndStore, store_stays}
 use Rattle.wasm_stack.specs.After.{Goes, Stops, Sticks, at_trap}
 use Rattle.wasm_store.specs.Store.{Store, with_global, with_growth}
 use Rattle.wasm_stack.specs.Thread.{Thread, with_operand}
@@ -50,15 +50,15 @@ grown_most : (memory : Memory) (pages : ℕ) → (after_grow memory pages).max �
 grown_most memory pages = choice_most (can_grow memory pages) memory _ refl
 
 -- the store with another memory of the same maximum
-other_memory : (g : Store) (memory : Memory) → Suits g → memory.max ≡ g.memory.max → Suits (record g { memory = memory })
+other_memory : (g : Store) (memory : Memory) → SuitsModule g → memory.max ≡ g.memory.max → SuitsModule (record g { memory = memory })
 other_memory g memory s e = record { most = e ∙ s.most; places = s.places; globals = s.globals; elements = s.elements }
 
-grown_suits : (g : Store) (pages : ℕ) → Suits g → Suits (with_growth g pages)
+grown_suits : (g : Store) (pages : ℕ) → SuitsModule g → SuitsModule (with_growth g pages)
 grown_suits g pages s = record { most = grown_most g.memory pages ∙ s.most; places = s.places; globals = s.globals; elements = s.elements }
 
-module _ (m : Module) (c : Context) (g : Store) (same : g.«module» ≡ m) (suits : Suits g) where
-  abbrev pub BothFit : Both → Type 0
-  BothFit b = AfterFits m b.after × Suits b.store
+module _ (m : Module) (c : Context) (g : Store) (same : g.«module» ≡ m) (suits : SuitsModule g) where
+  abbrev pub BothFit : ThreadAndStore → Type 0
+  BothFit b = AfterFits m b.after × SuitsModule b.store
 
   global_value_type : (func : ℕ) → IsContext m func c → (x : ℕ) (k : GlobalType) → slice_get c.globals x ≡ Some k → slice_get (map (λ (d : GlobalDef). d.value_type) g.«module».globals) x ≡ Some k.value_type
   global_value_type func i x k e =
@@ -68,7 +68,7 @@ module _ (m : Module) (c : Context) (g : Store) (same : g.«module» ≡ m) (sui
   pub global_get_fits : (x : ℕ) (t : Thread) → RestOf m c t → Before m c (GlobalGet x) t (types_of_values t.stack) → AfterFits m (Reduce.global_get x g t)
   global_get_fits x t r h =
       let ks = types_of_values t.stack in
-      let a = step (slice_get c.globals x) (λ (k : GlobalType). Some (push (Some k.value_type) (known ks))) (After' m c t) (End' m c t) h.typed in
+      let a = step (slice_get c.globals x) (λ (k : GlobalType). Some (push_operand (Some k.value_type) (known_operands ks))) (After' m c t) (End' m c t) h.typed in
       got_fits m c t (slice_get g.globals x) a.value.value_type r (read_value_type g.globals (map (λ (d : GlobalDef). d.value_type) g.«module».globals) x a.value.value_type suits.globals (global_value_type t.func r.0 x a.value a.is)) (record { typed = a.rest; no_float = h.no_float })
 
   set_fits : (x : ℕ) (k : ValType) (ks : List ValType) (stack : List Value) (t : Thread) → RestOf m c t → slice_get (map (λ (d : GlobalDef). d.value_type) g.«module».globals) x ≡ Some k → types_of_values stack ≡ k ∷ ks → LeavesAt m c t ks → BothFit (Reduce.set_global x g stack t)
@@ -78,7 +78,7 @@ module _ (m : Module) (c : Context) (g : Store) (same : g.«module» ≡ m) (sui
       let kv : type_of_value v ≡ k = cc in
       let kr : types_of_values rest ≡ ks = cc in
       let at' : slice_get value_types x ≡ Some (type_of_value v) = at ∙ ap Some (sym kv) in
-      subst (λ b. BothFit (if b then record { after = Goes (record t { stack = rest }); store = with_global g x v } else keep g (Stops Sticks))) (sym (written_within g.globals value_types x k suits.globals at)) (
+      subst (λ b. BothFit (if b then record { after = Goes (record t { stack = rest }); store = with_global g x v } else store_stays g (Stops Sticks))) (sym (written_within g.globals value_types x k suits.globals at)) (
         goes m c (record t { stack = rest }) r (subst (λ ks. LeavesAt m c t ks) (sym kr) l),
         record { most = suits.most; places = suits.places; globals = written_value_types g.globals value_types x v suits.globals at'; elements = suits.elements },
       )
@@ -86,13 +86,13 @@ module _ (m : Module) (c : Context) (g : Store) (same : g.«module» ≡ m) (sui
   pub global_set_fits : (x : ℕ) (t : Thread) → RestOf m c t → Before m c (GlobalSet x) t (types_of_values t.stack) → BothFit (Reduce.global_set x g t)
   global_set_fits x t r h =
       let ks = types_of_values t.stack in
-      let a = step (slice_get c.globals x) (λ (k : GlobalType). if k.mutable then pop_type k.value_type (known ks) else None) (After' m c t) (End' m c t) h.typed in
+      let a = step (slice_get c.globals x) (λ (k : GlobalType). if k.mutable then pop_type k.value_type (known_operands ks) else None) (After' m c t) (End' m c t) h.typed in
       by_test a.value a.value.mutable (global_value_type t.func r.0 x a.value a.is) a.rest
     where
-      by_test : (k : GlobalType) (b : Bool) → slice_get (map (λ (d : GlobalDef). d.value_type) g.«module».globals) x ≡ Some k.value_type → IsSome (((if b then pop_type k.value_type (known (types_of_values t.stack)) else None) >>= After' m c t) >>= End' m c t) → BothFit (Reduce.global_set x g t)
+      by_test : (k : GlobalType) (b : Bool) → slice_get (map (λ (d : GlobalDef). d.value_type) g.«module».globals) x ≡ Some k.value_type → IsSome (((if b then pop_type k.value_type (known_operands (types_of_values t.stack)) else None) >>= After' m c t) >>= End' m c t) → BothFit (Reduce.global_set x g t)
       by_test k false at h' = never_none h'
       by_test k true at h' =
-          let b = last (pop_type k.value_type (known (types_of_values t.stack))) (After' m c t) (End' m c t) h' in
+          let b = last (pop_type k.value_type (known_operands (types_of_values t.stack))) (After' m c t) (End' m c t) h' in
           let p = pops_type k.value_type (types_of_values t.stack) b.value b.is in
           set_fits x k.value_type p.more t.stack t r at p.there (record { typed = subst (λ s. IsSome (After' m c t s >>= End' m c t)) p.left b.rest; no_float = h.no_float })
 
@@ -106,25 +106,25 @@ module _ (m : Module) (c : Context) (g : Store) (same : g.«module» ≡ m) (sui
   read_fits op k (Some n) t f r l =
       got_fits m c t (load_value op n) k r (ap (option_map type_of_value) (f.makes n) ∙ ap Some (f.value_type n)) l
 
-  load_of_fits : (op offset : ℕ) (a : Access) (t : Thread) → RestOf m c t → LoadFits op a.moved → IsSome ((operate (types.I32 ∷ []) (Some a.moved) (known (types_of_values t.stack)) >>= After' m c t) >>= End' m c t) → have_float t.todo ≡ false → AfterFits m (Reduce.load op offset g.memory t)
+  load_of_fits : (op offset : ℕ) (a : Access) (t : Thread) → RestOf m c t → LoadFits op a.moved → IsSome ((operate (types.I32 ∷ []) (Some a.moved) (known_operands (types_of_values t.stack)) >>= After' m c t) >>= End' m c t) → have_float t.todo ≡ false → AfterFits m (Reduce.load op offset g.memory t)
   load_of_fits op offset a t r f h nf =
       let ks = types_of_values t.stack in
-      let b = step (pop_type types.I32 (known ks)) (λ rest. Some (push_result (Some a.moved) rest)) (After' m c t) (End' m c t) (regroup_1 (pop_type types.I32 (known ks)) (Some a.moved) t h) in
+      let b = step (pop_type types.I32 (known_operands ks)) (λ rest. Some (push_result (Some a.moved) rest)) (After' m c t) (End' m c t) (regroup_1 (pop_type types.I32 (known_operands ks)) (Some a.moved) t h) in
       let p = pops_type types.I32 ks b.value b.is in
-      let left : LeavesAt m c t (a.moved ∷ p.more) = record { typed = subst (λ s. IsSome (After' m c t (push (Some a.moved) s) >>= End' m c t)) p.left b.rest; no_float = nf } in
+      let left : LeavesAt m c t (a.moved ∷ p.more) = record { typed = subst (λ s. IsSome (After' m c t (push_operand (Some a.moved) s) >>= End' m c t)) p.left b.rest; no_float = nf } in
       on_top_fits m c t _ t.stack types.I32 p.more p.there (λ v rest kv kr.
       on_i32_fits m c v _ kv (λ base.
       subst (λ w. AfterFits m (Reduce.load_at w op (base + offset) g.memory (record t { stack = rest }))) (sym f.reads)
-      (read_fits op a.moved (loaded g.memory (base + offset) f.width) (record t { stack = rest }) f r (subst (λ ks. LeavesAt m c t (a.moved ∷ ks)) (sym kr) left))))
+      (read_fits op a.moved (loaded_number g.memory (base + offset) f.width) (record t { stack = rest }) f r (subst (λ ks. LeavesAt m c t (a.moved ∷ ks)) (sym kr) left))))
 
   pub load_row_fits : (op align offset : ℕ) (t : Thread) → RestOf m c t → Before m c (Load op align offset) t (types_of_values t.stack) → AfterFits m (Reduce.load op offset g.memory t)
   load_row_fits op align offset t r h =
       let nf = neither _ _ h.no_float in
-      let a = step (load_access op) (λ a. if may_access c.has_memory a align then operate (types.I32 ∷ []) (Some a.moved) (known (types_of_values t.stack)) else None) (After' m c t) (End' m c t) h.typed in
+      let a = step (load_access op) (λ a. if may_access c.has_memory a align then operate (types.I32 ∷ []) (Some a.moved) (known_operands (types_of_values t.stack)) else None) (After' m c t) (End' m c t) h.typed in
       let fits = subst (λ (o : Option Access). LoadFitsOf op o) a.is (load_fits op) in
       by_test a.value (may_access c.has_memory a.value align) (fits (ap is_float_access (sym a.is) ∙ nf.0)) a.rest nf.1
     where
-      by_test : (a : Access) (b : Bool) → LoadFits op a.moved → IsSome (((if b then operate (types.I32 ∷ []) (Some a.moved) (known (types_of_values t.stack)) else None) >>= After' m c t) >>= End' m c t) → have_float t.todo ≡ false → AfterFits m (Reduce.load op offset g.memory t)
+      by_test : (a : Access) (b : Bool) → LoadFits op a.moved → IsSome (((if b then operate (types.I32 ∷ []) (Some a.moved) (known_operands (types_of_values t.stack)) else None) >>= After' m c t) >>= End' m c t) → have_float t.todo ≡ false → AfterFits m (Reduce.load op offset g.memory t)
       by_test a false f h' nf = never_none h'
       by_test a true f h' nf = load_of_fits op offset a t r f h' nf
 
@@ -148,15 +148,15 @@ module _ (m : Module) (c : Context) (g : Store) (same : g.«module» ≡ m) (sui
       subst (λ w. BothFit (Reduce.write_at w (base + offset) (bits_of (Some v)) g (record t { stack = rest }))) (sym (f.writes v kv))
       (write_at_fits (f.width v kv) (base + offset) (bits_of (Some v)) (record t { stack = rest }) r (subst (λ ks. LeavesAt m c t ks) (sym kr) l))
 
-  store_of_fits : (op offset : ℕ) (a : Access) (t : Thread) → RestOf m c t → StoreFits op a.moved → IsSome ((operate (types.I32 ∷ (a.moved ∷ [])) None (known (types_of_values t.stack)) >>= After' m c t) >>= End' m c t) → have_float t.todo ≡ false → BothFit (Reduce.write op offset g t)
+  store_of_fits : (op offset : ℕ) (a : Access) (t : Thread) → RestOf m c t → StoreFits op a.moved → IsSome ((operate (types.I32 ∷ (a.moved ∷ [])) None (known_operands (types_of_values t.stack)) >>= After' m c t) >>= End' m c t) → have_float t.todo ≡ false → BothFit (Reduce.write op offset g t)
   store_of_fits op offset a t r f h nf =
       let ks = types_of_values t.stack in
       let F = After' m c t in
       let G = End' m c t in
-      let b = step (pop_type a.moved (known ks)) (λ s. pop_type types.I32 s >>= (λ rest. Some rest)) F G (outer (pop_type a.moved (known ks)) h) in
+      let b = step (pop_type a.moved (known_operands ks)) (λ s. pop_type types.I32 s >>= (λ rest. Some rest)) F G (outer (pop_type a.moved (known_operands ks)) h) in
       let p = pops_type a.moved ks b.value b.is in
       let second = subst (λ s. IsSome (((pop_type types.I32 s >>= (λ rest. Some rest)) >>= F) >>= G)) p.left b.rest in
-      let d = step (pop_type types.I32 (known p.more)) (λ rest. Some rest) F G second in
+      let d = step (pop_type types.I32 (known_operands p.more)) (λ rest. Some rest) F G second in
       let q = pops_type types.I32 p.more d.value d.is in
       let left : LeavesAt m c t q.more = record { typed = subst (λ s. IsSome (F s >>= G)) q.left d.rest; no_float = nf } in
       write_fits op offset a.moved q.more t.stack t r f (p.there ∙ ap (λ ks. a.moved ∷ ks) q.there) left
@@ -172,18 +172,18 @@ module _ (m : Module) (c : Context) (g : Store) (same : g.«module» ≡ m) (sui
   pub store_row_fits : (op align offset : ℕ) (t : Thread) → RestOf m c t → Before m c (StoreIn op align offset) t (types_of_values t.stack) → BothFit (Reduce.write op offset g t)
   store_row_fits op align offset t r h =
       let nf = neither _ _ h.no_float in
-      let a = step (store_access op) (λ a. if may_access c.has_memory a align then operate (types.I32 ∷ (a.moved ∷ [])) None (known (types_of_values t.stack)) else None) (After' m c t) (End' m c t) h.typed in
+      let a = step (store_access op) (λ a. if may_access c.has_memory a align then operate (types.I32 ∷ (a.moved ∷ [])) None (known_operands (types_of_values t.stack)) else None) (After' m c t) (End' m c t) h.typed in
       let fits = subst (λ (o : Option Access). StoreFitsOf op o) a.is (store_fits op) in
       by_test a.value (may_access c.has_memory a.value align) (fits (ap is_float_access (sym a.is) ∙ nf.0)) a.rest nf.1
     where
-      by_test : (a : Access) (b : Bool) → StoreFits op a.moved → IsSome (((if b then operate (types.I32 ∷ (a.moved ∷ [])) None (known (types_of_values t.stack)) else None) >>= After' m c t) >>= End' m c t) → have_float t.todo ≡ false → BothFit (Reduce.write op offset g t)
+      by_test : (a : Access) (b : Bool) → StoreFits op a.moved → IsSome (((if b then operate (types.I32 ∷ (a.moved ∷ [])) None (known_operands (types_of_values t.stack)) else None) >>= After' m c t) >>= End' m c t) → have_float t.todo ≡ false → BothFit (Reduce.write op offset g t)
       by_test a false f h' nf = never_none h'
       by_test a true f h' nf = store_of_fits op offset a t r f h' nf
 
   pub size_fits : (t : Thread) → RestOf m c t → Before m c MemorySize t (types_of_values t.stack) → AfterFits m (Reduce.memory_size g.memory t)
   size_fits t r h = by_test c.has_memory h.typed
     where
-      by_test : (b : Bool) → IsSome (((if b then operate [] (Some types.I32) (known (types_of_values t.stack)) else None) >>= After' m c t) >>= End' m c t) → AfterFits m (Reduce.memory_size g.memory t)
+      by_test : (b : Bool) → IsSome (((if b then operate [] (Some types.I32) (known_operands (types_of_values t.stack)) else None) >>= After' m c t) >>= End' m c t) → AfterFits m (Reduce.memory_size g.memory t)
       by_test false h' = never_none h'
       by_test true h' = goes m c (with_operand t (I32 (size_of g.memory))) r (record { typed = h'; no_float = h.no_float })
 
@@ -192,21 +192,21 @@ module _ (m : Module) (c : Context) (g : Store) (same : g.«module» ≡ m) (sui
   grow_top_fits ks (I64 x ∷ rest) t r e l = cc
   grow_top_fits ks (I32 pages ∷ rest) t r e l =
       let kr : types_of_values rest ≡ ks = cc in (
-        by_answer (growth g.memory pages) (subst (λ ks. LeavesAt m c t (types.I32 ∷ ks)) (sym kr) l),
+        by_answer (growth_size g.memory pages) (subst (λ ks. LeavesAt m c t (types.I32 ∷ ks)) (sym kr) l),
         grown_suits g pages suits,
       )
     where
-      by_answer : (o : Option ℕ) → LeavesAt m c t (types.I32 ∷ types_of_values rest) → Fits m (with_operand (record t { stack = rest }) (Reduce.grow_answer o))
+      by_answer : (o : Option ℕ) → LeavesAt m c t (types.I32 ∷ types_of_values rest) → ThreadFits m (with_operand (record t { stack = rest }) (Reduce.grow_answer o))
       by_answer None l' = goes m c (with_operand (record t { stack = rest }) (I32 (2 ^ 32 - 1))) r l'
       by_answer (Some p) l' = goes m c (with_operand (record t { stack = rest }) (I32 p)) r l'
 
   pub grow_fits : (t : Thread) → RestOf m c t → Before m c MemoryGrow t (types_of_values t.stack) → BothFit (Reduce.memory_grow g t)
   grow_fits t r h = by_test c.has_memory h.typed
     where
-      by_test : (b : Bool) → IsSome (((if b then operate (types.I32 ∷ []) (Some types.I32) (known (types_of_values t.stack)) else None) >>= After' m c t) >>= End' m c t) → BothFit (Reduce.memory_grow g t)
+      by_test : (b : Bool) → IsSome (((if b then operate (types.I32 ∷ []) (Some types.I32) (known_operands (types_of_values t.stack)) else None) >>= After' m c t) >>= End' m c t) → BothFit (Reduce.memory_grow g t)
       by_test false h' = never_none h'
       by_test true h' =
           let ks = types_of_values t.stack in
-          let b = step (pop_type types.I32 (known ks)) (λ rest. Some (push_result (Some types.I32) rest)) (After' m c t) (End' m c t) (regroup_1 (pop_type types.I32 (known ks)) (Some types.I32) t h') in
+          let b = step (pop_type types.I32 (known_operands ks)) (λ rest. Some (push_result (Some types.I32) rest)) (After' m c t) (End' m c t) (regroup_1 (pop_type types.I32 (known_operands ks)) (Some types.I32) t h') in
           let p = pops_type types.I32 ks b.value b.is in
-          grow_top_fits p.more t.stack t r p.there (record { typed = subst (λ s. IsSome (After' m c t (push (Some types.I32) s) >>= End' m c t)) p.left b.rest; no_float = h.no_float })
+          grow_top_fits p.more t.stack t r p.there (record { typed = subst (λ s. IsSome (After' m c t (push_operand (Some types.I32) s) >>= End' m c t)) p.left b.rest; no_float = h.no_float })

@@ -4,16 +4,16 @@ use Rattle.wasm_types.specs.Modules.{Module}
 use Rattle.wasm_types.specs.Valid.{IsValid}
 use Rattle.wasm_store.specs.Marks.{MarksNoLater, StoreMarksTell}
 use Rattle.wasm_store.specs.Store.{Store}
-use Rattle.wasm_store.specs.Suits.{Suits}
+use Rattle.wasm_store.specs.Suits.{SuitsModule}
 use Rattle.wasm_step.specs.Burst.{burst}
-use Rattle.wasm_step.specs.Fits.{BurstFits, Fits}
+use Rattle.wasm_step.specs.Fits.{BurstFits, ThreadFits}
 use Rattle.wasm_stack.specs.Thread.{Thread}
 
 -- A burst of a valid module, from a thread that fits it and a store that suits it, never sticks: it stops at
 -- a call of an imported function, at the thread's end or by a trap. The store then still suits.
 abbrev pub NeverSticks : Type 0
 NeverSticks =
-    (m : Module) (n : ℕ) (t : Thread) (g : Store) → IsValid m → g.«module» ≡ m → Suits g → Fits m t → BurstFits m (burst n t g)
+    (m : Module) (n : ℕ) (t : Thread) (g : Store) → IsValid m → g.«module» ≡ m → SuitsModule g → ThreadFits m t → BurstFits m (burst n t g)
 
 -- a burst leaves the module as it is
 abbrev pub KeepsModule : Type 0

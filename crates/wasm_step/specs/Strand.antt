@@ -9,7 +9,7 @@ use Rattle.wasm_types.specs.Modules.{Module, Func, FuncType}
 use Rattle.wasm_types.specs.Start.{entry_from}
 use Rattle.wasm_types.specs.Functions.{own_func, type_of, imported_type}
 use Rattle.wasm_stack.specs.Control.{with_result}
-use Rattle.wasm_stack.specs.Thread.{Thread, Frame, at_start, waiting_frame, fits_limits}
+use Rattle.wasm_stack.specs.Thread.{Thread, Frame, function_at_start, waiting_frame, fits_limits}
 
 -- a thread with its module, and the function of the library at whose call it is, if it is at one
 pub record Strand : Type 0 where
@@ -25,15 +25,15 @@ pub record IsHandler (m : Module) (f : ℕ) : Type 0 where
 -- a function without a result at its start, above these frames
 abbrev pub started_above : Option Func → List Frame → ℕ → List Value → Option Thread
 started_above None callers f args = None
-started_above (Some func) callers f args = Some (at_start callers f func.body (args ++ zeros func.locals) None)
+started_above (Some func) callers f args = Some (function_at_start callers f func.body (args ++ zeros func.locals) None)
 
 -- a thread of the module that is at the start of this function, which has one argument
 abbrev pub new_thread : Module → ℕ → ℕ → Option Thread
 new_thread m f arg = started_above (own_func m f) [] f (I32 arg ∷ [])
 
 -- a thread with the frame of a handler of a signal on top
-abbrev pub handling : Module → Thread → ℕ → ℕ → Option Thread
-handling m t f signal = started_above (own_func m f) (waiting_frame t ∷ t.callers) f (I32 signal ∷ [])
+abbrev pub thread_in_handler : Module → Thread → ℕ → ℕ → Option Thread
+thread_in_handler m t f signal = started_above (own_func m f) (waiting_frame t ∷ t.callers) f (I32 signal ∷ [])
 
 abbrev pub is_in : Option Thread → Bool
 is_in None = false
@@ -61,8 +61,8 @@ pub record IsAnswer (s : Strand) (value : Option Value) : Type 0 where
   pub typed : IsResult (library_result s.«module» func) value
 
 -- the strand after its call
-abbrev pub answered : Strand → Option Value → Strand
-answered s value = record s { thread = with_result value s.thread; call = None }
+abbrev pub answered_strand : Strand → Option Value → Strand
+answered_strand s value = record s { thread = with_result value s.thread; call = None }
 
 -- ---- the thread that runs first
 

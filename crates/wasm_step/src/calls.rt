@@ -4,11 +4,11 @@ ghost use Rattle.wasm_types.specs.Functions.{type_of};
 ghost use Rattle.wasm_types.specs.Locals.{zeros};
 ghost use Rattle.wasm_types.specs.Modules.{func_type, module_of};
 ghost use Rattle.wasm_stack.specs.Answer.{after_of};
-ghost use Rattle.wasm_stack.specs.Limits.{Within};
-ghost use Rattle.wasm_stack.specs.After.{Goes, go_on, limited};
+ghost use Rattle.wasm_stack.specs.Limits.{ThreadWithin};
+ghost use Rattle.wasm_stack.specs.After.{Goes, frame_goes_on, limited_thread};
 ghost use Rattle.wasm_step.specs.Reduce.{CallsAsWanted, call, call_element, call_indirect, call_library, call_own};
 ghost use Rattle.wasm_step.specs.Strand.{started_above};
-ghost use Rattle.wasm_stack.specs.Thread.{Thread, called, has_frame_room, waiting_frame, without};
+ghost use Rattle.wasm_stack.specs.Thread.{Thread, called_function, has_frame_room, waiting_frame, without_operands};
 
 use std::alloc::AllocError;
 use wasm_stack::{Next, Stack};
@@ -41,7 +41,7 @@ fn call_typed<'m>(
     callee: Callee<'m>,
     typing: &FuncType,
 ) -> Result<Next, AllocError>
-    ensures { IfOk result (λ a. after_of a thread.new ≡ limited (go_on (called thread.old index callee.entry (func_type typing.now)))) }
+    ensures { IfOk result (λ a. after_of a thread.new ≡ limited_thread (frame_goes_on (called_function thread.old index callee.entry (func_type typing.now)))) }
 {
     let n = typing.params.len();
     if !thread.has_arguments(n) {
@@ -61,9 +61,9 @@ fn call_typed<'m>(
 /// burst, whose other instructions would find fewer registers.
 #[inline(never)]
 pub(crate) fn call_in_place<'m>(thread: &mut Stack<'m>, module: &'m ValidModule, index: u32) -> bool
-    requires { Within thread.old }
+    requires { ThreadWithin thread.old }
     ensures goes { IsTrue result → call (module_of «module».now) index thread.old ≡ Goes thread.new }
-    ensures within { Within thread.new }
+    ensures within { ThreadWithin thread.new }
     ensures same { result ≡ false → thread.new ≡ thread.old }
 {
     let Some((callee, typing)) = own_typed(module, index) else {
@@ -84,10 +84,10 @@ fn call_many_in_place<'m>(
     index: u32,
     above: usize,
 ) -> bool
-    requires within { Within thread.old }
+    requires within { ThreadWithin thread.old }
     requires above { above ≤ length thread.old.stack }
-    ensures goes { IsTrue result → call (module_of «module».now) index (without above thread.old) ≡ Goes thread.new }
-    ensures within { Within thread.new }
+    ensures goes { IsTrue result → call (module_of «module».now) index (without_operands above thread.old) ≡ Goes thread.new }
+    ensures within { ThreadWithin thread.new }
     ensures same { result ≡ false → thread.new ≡ thread.old }
 {
     let Some((callee, typing)) = own_typed(module, index) else {
@@ -105,9 +105,9 @@ pub(crate) fn call_indirect_in_place<'m>(
     type_index: u32,
 ) -> bool
     requires same_module { module_of «module».now ≡ store.now.«module» }
-    requires within { Within thread.old }
+    requires within { ThreadWithin thread.old }
     ensures goes { IsTrue result → call_indirect type_index store.now thread.old ≡ Goes thread.new }
-    ensures within { Within thread.new }
+    ensures within { ThreadWithin thread.new }
     ensures same { result ≡ false → thread.new ≡ thread.old }
 {
     let Some(Value::I32(i)) = thread.top() else {
@@ -186,7 +186,7 @@ fn call_own<'m>(
     place: usize,
 ) -> Result<Next, AllocError>
     ensures { IfOk result (λ a. after_of a thread.new
-        ≡ limited (call_own (module_of «module».now) index (slice_get (module_of «module».now).funcs place) thread.old)) }
+        ≡ limited_thread (call_own (module_of «module».now) index (slice_get (module_of «module».now).funcs place) thread.old)) }
 {
     let Some(callee) = callee_at(module, place) else {
         return Ok(Next::Stuck);
@@ -203,7 +203,7 @@ pub(crate) fn call<'m>(
     module: &'m ValidModule,
     index: u32,
 ) -> Result<Next, AllocError>
-    ensures { IfOk result (λ a. after_of a thread.new ≡ limited (call (module_of «module».now) index thread.old)) }
+    ensures { IfOk result (λ a. after_of a thread.new ≡ limited_thread (call (module_of «module».now) index thread.old)) }
 {
     let inner = module.module();
     let place = index as usize;
@@ -222,7 +222,7 @@ fn call_element<'m>(
     type_index: u32,
     element: Option<Option<u32>>,
 ) -> Result<Next, AllocError>
-    ensures { IfOk result (λ a. after_of a thread.new ≡ limited (call_element (module_of «module».now) type_index element thread.old)) }
+    ensures { IfOk result (λ a. after_of a thread.new ≡ limited_thread (call_element (module_of «module».now) type_index element thread.old)) }
 {
     let Some(place) = element else {
         return Ok(Next::Trapped(Trap::TableRange));
@@ -251,7 +251,7 @@ pub(crate) fn call_indirect<'m>(
     type_index: u32,
 ) -> Result<Next, AllocError>
     requires { module_of «module».now ≡ store.now.«module» }
-    ensures { IfOk result (λ a. after_of a thread.new ≡ limited (call_indirect type_index store.now thread.old)) }
+    ensures { IfOk result (λ a. after_of a thread.new ≡ limited_thread (call_indirect type_index store.now thread.old)) }
 {
     match thread.pop() {
         Some(Value::I32(i)) => call_element(thread, module, type_index, store.element(i)),
@@ -264,7 +264,7 @@ pub(crate) fn call_indirect<'m>(
 fn own_typed<'m>(module: &'m ValidModule, index: u32) -> Option<(Callee<'m>, &'m FuncType)>
     ensures types { IfSome result (λ own. type_of (module_of «module».now) index ≡ Some (func_type own.1.now)) }
     ensures at { IfSome result (λ own. slice_get (module_of «module».now).types own.0.type_index ≡ Some (func_type own.1.now)) }
-    ensures calls { IfSome result (λ own. (t : Thread) → call (module_of «module».now) index t ≡ go_on (called t index own.0 (func_type own.1.now))) }
+    ensures calls { IfSome result (λ own. (t : Thread) → call (module_of «module».now) index t ≡ frame_goes_on (called_function t index own.0 (func_type own.1.now))) }
 {
     let imports = module.module().imports.len();
     let place = index as usize;

@@ -4,10 +4,10 @@ ghost use Rattle.std.specs.Prelude.{◌≡◌, IfNone, IfOk, IfSome, None, Some,
 ghost use Rattle.wasm_types.specs.Code.{tree, trees};
 ghost use Rattle.wasm_types.specs.Modules.{module_of};
 ghost use Rattle.wasm_stack.specs.Answer.{way_of};
-ghost use Rattle.wasm_stack.specs.Limits.{Within};
+ghost use Rattle.wasm_stack.specs.Limits.{ThreadWithin};
 ghost use Rattle.wasm_stack.specs.After.{Goes};
 ghost use Rattle.wasm_stack.specs.Thread.{with_todo};
-ghost use Rattle.wasm_step.specs.Reduce.{instr_row, keep};
+ghost use Rattle.wasm_step.specs.Reduce.{instr_row, store_stays};
 
 use crate::calls::{call_in_place, call_indirect_in_place};
 use crate::memory::{global_set, load_in_place, write_in_place};
@@ -27,10 +27,10 @@ pub(crate) fn row<'m>(
     todo: &mut &'m [Instr],
 ) -> Result<Option<Way>, AllocError>
     requires same_module { module_of «module».now ≡ store.old.«module» }
-    requires within { Within thread.old }
+    requires within { ThreadWithin thread.old }
     ensures done { IfOk result (λ row. IfSome row (λ way. instr_row (tree instr.now) (with_todo thread.old (trees todo.old.now)) store.old
-        ≡ keep store.new (way_of way (with_todo thread.new (trees todo.new.now))))) }
-    ensures within { IfOk result (λ row. row ≡ Some Way.Goes → Within thread.new) }
+        ≡ store_stays store.new (way_of way (with_todo thread.new (trees todo.new.now))))) }
+    ensures within { IfOk result (λ row. row ≡ Some Way.Goes → ThreadWithin thread.new) }
     ensures same { IfOk result (λ row. IfNone row (with_todo thread.new (trees todo.new.now) ≡ with_todo thread.old (trees todo.old.now))) }
     ensures store { IfOk result (λ row. IfNone row (store.new ≡ store.old)) }
 {

@@ -2,9 +2,9 @@
 ghost use Rattle.std.specs.Prelude.{◌≡◌, ◌+◌, IfOk, IfSome, IsTrue, OnOk, Some, false, if◌then◌else◌};
 ghost use Rattle.guest_memory.specs.LittleEndian.{IsWidth};
 ghost use Rattle.wasm_stack.specs.Answer.{after_of};
-ghost use Rattle.wasm_stack.specs.Limits.{Within};
+ghost use Rattle.wasm_stack.specs.Limits.{ThreadWithin};
 ghost use Rattle.wasm_stack.specs.After.{Goes, Sticks, Stops};
-ghost use Rattle.wasm_step.specs.Reduce.{global_get, global_set, grow_answer, keep, load, memory_grow, memory_size, write, write_at};
+ghost use Rattle.wasm_step.specs.Reduce.{global_get, global_set, grow_answer, store_stays, load, memory_grow, memory_size, write, write_at};
 
 use std::alloc::AllocError;
 use wasm_stack::{Next, Stack};
@@ -25,8 +25,8 @@ pub(crate) fn global_get(
 
 #[inline(always)]
 pub(crate) fn global_set(thread: &mut Stack<'_>, store: &mut Store<'_>, x: u32) -> bool
-    ensures after { keep store.new (if result then Goes thread.new else Stops Sticks) ≡ global_set x store.old thread.old }
-    ensures within { Within thread.old → Within thread.new }
+    ensures after { store_stays store.new (if result then Goes thread.new else Stops Sticks) ≡ global_set x store.old thread.old }
+    ensures within { ThreadWithin thread.old → ThreadWithin thread.new }
     ensures same { result ≡ false → thread.new ≡ thread.old }
     ensures store { result ≡ false → store.new ≡ store.old }
 {
@@ -64,9 +64,9 @@ pub(crate) fn load(thread: &mut Stack<'_>, store: &Store<'_>, op: u8, offset: u3
 #[tactic(auto, using(crate::proofs::Accesses::load_by, crate::proofs::InPlace::within_one))]
 #[inline(always)]
 pub(crate) fn load_in_place(thread: &mut Stack<'_>, store: &Store<'_>, op: u8, offset: u32) -> bool
-    requires { Within thread.old }
+    requires { ThreadWithin thread.old }
     ensures goes { IsTrue result → Goes thread.new ≡ load op offset store.now.memory thread.old }
-    ensures within { Within thread.new }
+    ensures within { ThreadWithin thread.new }
     ensures same { result ≡ false → thread.new ≡ thread.old }
 {
     let Some(Value::I32(base)) = thread.top() else {
@@ -91,9 +91,9 @@ pub(crate) fn write_in_place(
     op: u8,
     offset: u32,
 ) -> Result<bool, AllocError>
-    requires { Within thread.old }
-    ensures goes { IfOk result (λ went. IsTrue went → write op offset store.old thread.old ≡ keep store.new (Goes thread.new)) }
-    ensures within { OnOk result (Within thread.new) }
+    requires { ThreadWithin thread.old }
+    ensures goes { IfOk result (λ went. IsTrue went → write op offset store.old thread.old ≡ store_stays store.new (Goes thread.new)) }
+    ensures within { OnOk result (ThreadWithin thread.new) }
     ensures same { IfOk result (λ went. went ≡ false → thread.new ≡ thread.old) }
     ensures store { IfOk result (λ went. went ≡ false → store.new ≡ store.old) }
 {

@@ -3,8 +3,8 @@ ghost use Rattle.std.specs.Prelude.{◌≡◌, ℕ, suc, IfOk, OnOk};
 ghost use Rattle.wasm_types.specs.Modules.{module_of};
 ghost use Rattle.wasm_stack.specs.Answer.{after_of};
 ghost use Rattle.wasm_step.specs.Paused.{halt_of, stopped_of, settled_of, stopped_result};
-ghost use Rattle.wasm_step.specs.Burst.{after_step, burst, settle, spent, most_instructions};
-ghost use Rattle.wasm_stack.specs.Limits.{Within};
+ghost use Rattle.wasm_step.specs.Burst.{after_step, burst, settle, spent_burst, most_instructions};
+ghost use Rattle.wasm_stack.specs.Limits.{ThreadWithin};
 
 use crate::in_place::row;
 use crate::step::step;
@@ -23,7 +23,7 @@ pub enum Stopped {
 }
 
 // A burst has at most so many instructions.
-const BUDGET: u32 = 10_000_000;
+const MOST_INSTRUCTIONS: u32 = 10_000_000;
 
 /// Past the ends of levels and frames, to the next instruction.
 #[inline(never)]
@@ -43,7 +43,7 @@ fn settle(thread: &mut Stack<'_>) -> Next
 
 /// The end of a burst whose instructions are spent.
 fn spend(thread: &mut Stack<'_>) -> Next
-    ensures { halt_of (after_of result thread.new) ≡ spent (settle thread.old) }
+    ensures { halt_of (after_of result thread.new) ≡ spent_burst (settle thread.old) }
 {
     match settle(thread) {
         Next::Going => match thread.fetch() {
@@ -62,7 +62,7 @@ fn first_step<'m>(
 ) -> Result<Next, AllocError>
     requires same_module { module_of «module».now ≡ store.old.«module» }
     ensures ran { IfOk result (λ n. (k : ℕ) → after_step (after_of n thread.new) store.new (burst k) ≡ burst (suc k) thread.old store.old) }
-    ensures within { IfOk result (λ n. n ≡ Next.Going → Within thread.new) }
+    ensures within { IfOk result (λ n. n ≡ Next.Going → ThreadWithin thread.new) }
     ensures same_module { OnOk result (store.new.«module» ≡ store.old.«module») }
 {
     match settle(thread) {
@@ -86,7 +86,7 @@ fn burst<'m>(
     requires { module_of «module».now ≡ store.old.«module» }
     ensures { IfOk result (λ n. record { stop = halt_of (after_of n thread.new); store = store.new } ≡ burst most_instructions thread.old store.old) }
 {
-    let mut left = BUDGET;
+    let mut left = MOST_INSTRUCTIONS;
     if !thread.is_within() {
         match first_step(thread, module, store)? {
             Next::Going => {}

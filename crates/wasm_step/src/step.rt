@@ -3,8 +3,8 @@ ghost use Rattle.std.specs.Prelude.{◌≡◌, IfOk, OnOk};
 ghost use Rattle.wasm_types.specs.Code.{tree};
 ghost use Rattle.wasm_types.specs.Modules.{module_of};
 ghost use Rattle.wasm_stack.specs.Answer.{after_of};
-ghost use Rattle.wasm_step.specs.Reduce.{instr_row, reduce};
-ghost use Rattle.wasm_stack.specs.After.{limited};
+ghost use Rattle.wasm_step.specs.Reduce.{instr_row, reduce_instruction};
+ghost use Rattle.wasm_stack.specs.After.{limited_thread};
 
 use crate::calls::{call, call_indirect};
 use crate::memory::{global_get, global_set, load, memory_grow, memory_size, write};
@@ -21,7 +21,7 @@ fn instr_row<'m>(
     instr: &'m Instr,
 ) -> Result<Next, AllocError>
     requires { module_of «module».now ≡ store.old.«module» }
-    ensures after { IfOk result (λ a. limited (after_of a thread.new) ≡ limited (instr_row (tree instr.now) thread.old store.old).after) }
+    ensures after { IfOk result (λ a. limited_thread (after_of a thread.new) ≡ limited_thread (instr_row (tree instr.now) thread.old store.old).after) }
     ensures store { OnOk result (store.new ≡ (instr_row (tree instr.now) thread.old store.old).store) }
 {
     match instr {
@@ -71,8 +71,8 @@ pub(crate) fn step<'m>(
     instr: &'m Instr,
 ) -> Result<Next, AllocError>
     requires { module_of «module».now ≡ store.old.«module» }
-    ensures after { IfOk result (λ a. after_of a thread.new ≡ (reduce (tree instr.now) thread.old store.old).after) }
-    ensures store { OnOk result (store.new ≡ (reduce (tree instr.now) thread.old store.old).store) }
+    ensures after { IfOk result (λ a. after_of a thread.new ≡ (reduce_instruction (tree instr.now) thread.old store.old).after) }
+    ensures store { OnOk result (store.new ≡ (reduce_instruction (tree instr.now) thread.old store.old).store) }
 {
     match instr_row(thread, module, store, instr)? {
         Next::Going => {

@@ -2,9 +2,9 @@
 ghost use Rattle.std.specs.Prelude.{◌≡◌, ◌↔◌, IfOk, None, OnOk, Some, Err, false};
 ghost use Rattle.wasm_types.specs.Modules.{module_of};
 ghost use Rattle.wasm_step.specs.Burst.{burst, most_instructions};
-ghost use Rattle.wasm_store.specs.Suits.{Suits};
+ghost use Rattle.wasm_store.specs.Suits.{SuitsModule};
 ghost use Rattle.wasm_step.specs.Pause.{StandsAt, pause_result};
-ghost use Rattle.wasm_step.specs.Strand.{IsAnswer, IsHandler, answered, handling, first_thread, is_in, new_thread};
+ghost use Rattle.wasm_step.specs.Strand.{IsAnswer, IsHandler, answered_strand, thread_in_handler, first_thread, is_in, new_thread};
 
 use crate::calls::{can_handle, handle};
 use crate::first::{first, own};
@@ -102,7 +102,7 @@ impl<'m> Strand<'m> {
     /// The thread after its call of the library, which gave this value.
     pub fn answer(self, value: Option<Value>) -> Result<Strand<'m>, AllocError>
         requires { IsAnswer self value }
-        ensures { IfOk result (λ s. s ≡ answered self.entry value) }
+        ensures { IfOk result (λ s. s ≡ answered_strand self.entry value) }
     {
         let Strand {
             module,
@@ -121,9 +121,9 @@ impl<'m> Strand<'m> {
     pub fn push_handler(self, func: u32, signal: u32) -> Result<Strand<'m>, HandlerError>
         requires handler { IsHandler self.«module» func }
         requires runs { self.call ≡ None }
-        ensures exhausted { (result ≡ Err HandlerError.Exhausted) ↔ (is_in (handling self.entry.«module» self.entry.thread func signal) ≡ false) }
+        ensures exhausted { (result ≡ Err HandlerError.Exhausted) ↔ (is_in (thread_in_handler self.entry.«module» self.entry.thread func signal) ≡ false) }
         ensures same_module { IfOk result (λ s. s.«module» ≡ self.entry.«module») }
-        ensures thread { IfOk result (λ s. handling self.entry.«module» self.entry.thread func signal ≡ Some s.thread) }
+        ensures thread { IfOk result (λ s. thread_in_handler self.entry.«module» self.entry.thread func signal ≡ Some s.thread) }
         ensures call { IfOk result (λ s. s.call ≡ None) }
     {
         let callee = own(self.module, func);
@@ -149,10 +149,10 @@ impl<'m> Strand<'m> {
     pub fn run(self, store: &mut Store<'m>) -> Result<Pause<'m>, AllocError>
         requires runs { self.call ≡ None }
         requires same_module { self.«module» ≡ store.old.«module» }
-        requires suits { Suits store.old }
+        requires suits { SuitsModule store.old }
         ensures ran { IfOk result (λ p. pause_result p store.new ≡ burst most_instructions self.entry.thread store.old) }
         ensures call { IfOk result (λ p. StandsAt self.entry.«module» p) }
-        ensures suits { OnOk result (Suits store.new) }
+        ensures suits { OnOk result (SuitsModule store.new) }
         ensures same_module { OnOk result (store.new.«module» ≡ self.entry.«module») }
     {
         let Strand {

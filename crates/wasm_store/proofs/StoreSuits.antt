@@ -19,13 +19,13 @@ use Rattle.wasm_types.specs.Library.{IsOfLibrary}
 use Rattle.wasm_types.specs.Library as library
 use Rattle.wasm_types.specs.Locals.{zero_of}
 use Rattle.wasm_types.specs.Modules.{Module, Import, Func, FuncType, GlobalDef, Elem, Segment}
-use Rattle.wasm_types.specs.Rules.{IsTypedFunc, constant_type, is_initial, is_elem, is_offset}
+use Rattle.wasm_types.specs.Rules.{IsTypedFunc, constant_type, is_initial_value, is_elem, is_offset}
 use Rattle.wasm_types.specs.Stack.{is_same}
 use Rattle.wasm_types.specs.Valid.{IsValid}
-use Rattle.wasm_store.specs.Suits.{Suits}
+use Rattle.wasm_store.specs.Suits.{SuitsModule}
 use Rattle.wasm_values.specs.Values.{type_of_value, types_of_values}
-use Rattle.wasm_types.specs.Functions.{described, imported_type, own_func, own_type, type_of}
-use Rattle.wasm_store.specs.Start.{initial_store, constant, initial, initial_in, initial_globals, offset_in, first_min, empty_table, memory_before_segments, is_elem_inside, put_funcs, put_elems, put_segments, segments_fit}
+use Rattle.wasm_types.specs.Functions.{described_type, imported_type, own_func, own_type, type_of}
+use Rattle.wasm_store.specs.Start.{initial_store, constant, initial_value, initial_in, initial_globals, offset_in, first_min, empty_table, memory_before_segments, is_elem_inside, put_funcs, put_elems, put_segments, segments_fit}
 use Rattle.wasm_store.specs.Store.{Store}
 
 both : (a b : Bool) → a && b ≡ true → (a ≡ true) × (b ≡ true)
@@ -129,10 +129,10 @@ there [] k lt = absurd (omega arith)
 there (x ∷ xs) zero lt = refl
 there (x ∷ xs) (suc k) lt = there xs k (omega (arith, lt))
 
-import_there : (m : Module) (i : Import) → IsOfLibrary m.types i → IsSome (described m i.desc)
+import_there : (m : Module) (i : Import) → IsOfLibrary m.types i → IsSome (described_type m i.desc)
 import_there m i h = by_desc i.desc h.is_func
   where
-    by_desc : (d : ImportDesc) → library.imported_type_index d ≡ Some h.type_index → IsSome (described m d)
+    by_desc : (d : ImportDesc) → library.imported_type_index d ≡ Some h.type_index → IsSome (described_type m d)
     by_desc (desc.Func t) e =
         let same : t ≡ h.type_index = cc in
         subst (λ o. IsSome o) (sym (ap (slice_get m.types) same ∙ h.typed)) refl
@@ -205,12 +205,12 @@ initial_value_type value_type End e nf = type_of_zero value_type nf
 initial_value_type value_type (Then i End) e nf = constant_value_type value_type i e nf
 initial_value_type value_type (Then i (Then j rest)) e nf = type_of_zero value_type nf
 
-initial_value_types : (gs : List GlobalDef) → list_all is_initial gs ≡ true → list_any has_float_global gs ≡ false → types_of_values (map initial gs) ≡ map (λ (d : GlobalDef). d.value_type) gs
+initial_value_types : (gs : List GlobalDef) → list_all is_initial_value gs ≡ true → list_any has_float_global gs ≡ false → types_of_values (map initial_value gs) ≡ map (λ (d : GlobalDef). d.value_type) gs
 initial_value_types [] h nf = refl
 initial_value_types (g ∷ gs) h nf =
-    let parts = both (is_initial g) (list_all is_initial gs) h in
+    let parts = both (is_initial_value g) (list_all is_initial_value gs) h in
     let plain = neither (has_float_global g) (list_any has_float_global gs) nf in
-    ap (λ k. k ∷ types_of_values (map initial gs)) (initial_value_type g.value_type g.init parts.0 (neither (is_float g.value_type) (have_float g.init) plain.0).0)
+    ap (λ k. k ∷ types_of_values (map initial_value gs)) (initial_value_type g.value_type g.init parts.0 (neither (is_float g.value_type) (have_float g.init) plain.0).0)
     ∙ ap (λ ks. g.value_type ∷ ks) (initial_value_types gs parts.1 plain.1)
 
 fourth : (a b c d e : Bool) → a || (b || (c || (d || e))) ≡ false → d ≡ false
@@ -220,7 +220,7 @@ fourth a b c d e h =
 -- ---- the whole
 
 module _ (m : Module) (v : IsValid m) where
-  suits : list_all (is_elem_inside (initial_globals m) (length (empty_table m))) m.elems ≡ true → Suits (initial_store m)
+  suits : list_all (is_elem_inside (initial_globals m) (length (empty_table m))) m.elems ≡ true → SuitsModule (initial_store m)
   suits inside =
       let n = length (funcs_of m) in
       let plain = fourth (list_any has_float_type m.types) (list_any (λ (i : Import). is_float_import i.desc) m.imports) (list_any has_float_func m.funcs) (list_any has_float_global m.globals) (list_any (λ (e : Elem). have_float e.offset) m.elems || list_any (λ (s : Segment). have_float s.offset) m.segments) v.no_float in
@@ -234,5 +234,5 @@ module _ (m : Module) (v : IsValid m) where
       }
 
   -- what a valid module begins with suits it
-  pub initial_suits : (g : Store) → g ≡ initial_store m → segments_fit m ≡ true → Suits g
-  initial_suits g same fit = subst (λ (g : Store). Suits g) (sym same) (suits (both _ _ fit).0)
+  pub initial_suits : (g : Store) → g ≡ initial_store m → segments_fit m ≡ true → SuitsModule g
+  initial_suits g same fit = subst (λ (g : Store). SuitsModule g) (sym same) (suits (both _ _ fit).0)

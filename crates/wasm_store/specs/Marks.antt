@@ -32,24 +32,24 @@ pub record MarksNoLater (old new : Store) : Type 0 where
   pub within : MarksWithin old.memory.number old → MarksWithin old.memory.number new
 
 -- what an event left of the marks: none is later than it, and what it has not marked is as it was
-pub record Marked (old new : Store) : Type 0 where
+pub record MarkedStore (old new : Store) : Type 0 where
   pub later : MarksNoLater old new
   pub told : StoreMarksTell old.memory.number old new
 
 -- ---- laws
 
 abbrev pub SetMarks : Type 0
-SetMarks = (g : Store) (n : ℕ) (v : Value) → Marked g (with_global g n v)
+SetMarks = (g : Store) (n : ℕ) (v : Value) → MarkedStore g (with_global g n v)
 
 abbrev pub GrowthMarks : Type 0
-GrowthMarks = (g : Store) (pages : ℕ) → Marked g (with_growth g pages)
+GrowthMarks = (g : Store) (pages : ℕ) → MarkedStore g (with_growth g pages)
 
 abbrev pub WritesMark : Type 0
-WritesMark = (g : Store) (addr : ℕ) (piece : List ℕ) → Marked g (record g { memory = with_bytes g.memory addr piece })
+WritesMark = (g : Store) (addr : ℕ) (piece : List ℕ) → MarkedStore g (record g { memory = with_bytes g.memory addr piece })
 
 abbrev pub NothingMarks : Type 0
-NothingMarks = (g : Store) → Marked g g
+NothingMarks = (g : Store) → MarkedStore g g
 
 -- one thing after the other
 abbrev pub MarksFollow : Type 0
-MarksFollow = (a b c : Store) → Marked a b → Marked b c → Marked a c
+MarksFollow = (a b c : Store) → MarkedStore a b → MarkedStore b c → MarkedStore a c

@@ -5,15 +5,15 @@ use Rattle.wasm_types.specs.declared.modules.GlobalDef.{GlobalDef}
 use Rattle.wasm_types.specs.Modules.{Module, global_def}
 use Rattle.wasm_store.specs.declared.global.Global.{Global}
 use Rattle.wasm_store.specs.declared.start.Parts.{Parts}
-use Rattle.wasm_store.specs.Globals.{stamps_of_globals, values_of}
-use Rattle.wasm_store.specs.Start.{initial}
+use Rattle.wasm_store.specs.Globals.{stamps_of_globals, values_of_globals}
+use Rattle.wasm_store.specs.Start.{initial_value}
 use Rattle.wasm_store.specs.Store.{Store}
 
 abbrev pub store_of_parts : Module → Parts → Store
 store_of_parts m p = record {
   «module» = m;
   memory = p.memory;
-  globals = values_of p.globals.items;
+  globals = values_of_globals p.globals.items;
   global_stamps = stamps_of_globals p.globals.items;
   table = p.table.items;
   size_stamp = 0;
@@ -21,11 +21,11 @@ store_of_parts m p = record {
 
 -- the first values of these globals
 abbrev pub first_values : List GlobalDef → List Value
-first_values globals = map initial (map global_def globals)
+first_values globals = map initial_value (map global_def globals)
 
 -- a global with its first value, which no event has set
 abbrev pub first_global : GlobalDef → Global
-first_global global = record { value = initial (global_def global); stamp = 0 }
+first_global global = record { value = initial_value (global_def global); stamp = 0 }
 
 abbrev pub first_globals : List GlobalDef → List Global
 first_globals globals = map first_global globals

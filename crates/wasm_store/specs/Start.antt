@@ -2,7 +2,7 @@
 -- thread that runs first.
 use Rattle.std.specs.Prelude.{ℕ, ◌+◌, Bool, ◌&&◌, nat_le, min, List, [], ◌∷◌, ◌++◌, Option, Some, None, length, map, slice_get, replicate, take, drop, if◌then◌else◌}
 use Rattle.std.specs.List.{list_all}
-use Rattle.guest_memory.specs.Memory.{Memory, fresh, after_write_at}
+use Rattle.guest_memory.specs.Memory.{Memory, fresh_memory, after_write_at}
 use Rattle.wasm_types.specs.declared.code.Value.{Value}
 use Rattle.wasm_types.specs.declared.code.Value.TheVariants.{I32, I64}
 use Rattle.wasm_types.specs.declared.modules.Limits.{Limits}
@@ -25,15 +25,15 @@ abbrev pub initial_in : Trees → Value → Value
 initial_in (Then i End) otherwise = constant i otherwise
 initial_in _ otherwise = otherwise
 
-abbrev pub initial : GlobalDef → Value
-initial g = initial_in g.init (zero_of g.value_type)
+abbrev pub initial_value : GlobalDef → Value
+initial_value g = initial_in g.init (zero_of g.value_type)
 
 abbrev pub initial_globals : Module → List Value
-initial_globals m = map initial m.globals
+initial_globals m = map initial_value m.globals
 
 -- no event has set any of them
-abbrev pub unset : List GlobalDef → List ℕ
-unset globals = map (λ (d : GlobalDef). 0) globals
+abbrev pub unset_globals : List GlobalDef → List ℕ
+unset_globals globals = map (λ (d : GlobalDef). 0) globals
 
 -- ---- where segments begin
 
@@ -73,17 +73,17 @@ put_elems globals (e ∷ es) table = put_elems globals es (put_funcs table (offs
 -- ---- the memory
 
 -- the most pages: the declared maximum, and 256 at most
-abbrev pub most_pages : Option ℕ → ℕ
-most_pages None = 256
-most_pages (Some max) = min 256 max
+abbrev pub most_pages_within : Option ℕ → ℕ
+most_pages_within None = 256
+most_pages_within (Some max) = min 256 max
 
 abbrev pub first_most : List Limits → ℕ
 first_most [] = 0
-first_most (l ∷ ls) = most_pages l.max
+first_most (l ∷ ls) = most_pages_within l.max
 
 -- the memory without its segments
 abbrev pub memory_before_segments : Module → Memory
-memory_before_segments m = fresh (first_min m.mems) (first_most m.mems)
+memory_before_segments m = fresh_memory (first_min m.mems) (first_most m.mems)
 
 -- the segment lies in a memory of so many bytes
 abbrev pub is_segment_within : List Value → ℕ → Segment → Bool
@@ -112,7 +112,7 @@ initial_store m = record {
   «module» = m;
   memory = put_segments (initial_globals m) m.segments (memory_before_segments m);
   globals = initial_globals m;
-  global_stamps = unset m.globals;
+  global_stamps = unset_globals m.globals;
   table = put_elems (initial_globals m) m.elems (empty_table m);
   size_stamp = 0;
 }

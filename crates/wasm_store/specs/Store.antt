@@ -40,13 +40,13 @@ abbrev pub func_in_table : Option (Option ℕ) → Option ℕ
 func_in_table None = None
 func_in_table (Some func) = func
 
-abbrev pub is_number : List ValType → Bool
-is_number (types.I32 ∷ []) = true
-is_number _ = false
+abbrev pub is_number_param : List ValType → Bool
+is_number_param (types.I32 ∷ []) = true
+is_number_param _ = false
 
 -- one parameter of 32 bits and no result
 abbrev pub takes_number : FuncType → Bool
-takes_number type = is_number type.params && nat_le (length type.results) 0
+takes_number type = is_number_param type.params && nat_le (length type.results) 0
 
 -- the module itself defines the function, with such a type
 abbrev pub is_handler : Module → ℕ → Bool

@@ -8,7 +8,7 @@ use Rattle.wasm_store.specs.Store.{Store}
 
 -- The store has the memory, the table and the globals that the module declares, and each function that
 -- the table holds is one of the module.
-pub record Suits (g : Store) : Type 0 where
+pub record SuitsModule (g : Store) : Type 0 where
   pub most : g.memory.max ≡ first_most g.«module».mems
   pub places : length g.table ≡ first_min g.«module».tables
   pub globals : types_of_values g.globals ≡ map (λ (d : GlobalDef). d.value_type) g.«module».globals

@@ -1,7 +1,7 @@
 // Functions that can handle signals.
 ghost use Rattle.std.specs.Prelude.{◌≡◌, false};
 ghost use Rattle.std.specs.Option.{option_map_or};
-ghost use Rattle.wasm_store.specs.Store.{is_handler, is_number, takes_number};
+ghost use Rattle.wasm_store.specs.Store.{is_handler, is_number_param, takes_number};
 ghost use Rattle.wasm_types.specs.Functions.{type_of};
 ghost use Rattle.wasm_types.specs.Modules.{func_type, module_of};
 
@@ -26,11 +26,11 @@ fn has_handler_type(module: &Module, index: u32) -> bool
 fn takes_number(typing: &FuncType) -> bool
     ensures { result ≡ takes_number (func_type typing.now) }
 {
-    is_number(&typing.params) && typing.results.is_empty()
+    is_number_param(&typing.params) && typing.results.is_empty()
 }
 
-fn is_number(params: &[ValType]) -> bool
-    ensures { result ≡ is_number params.now }
+fn is_number_param(params: &[ValType]) -> bool
+    ensures { result ≡ is_number_param params.now }
 {
     match params {
         [ValType::I32] => true,

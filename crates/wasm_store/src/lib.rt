@@ -3,7 +3,7 @@
 //! Contracts see a `Store` as its module, memory, globals with their marks, the mark of the memory's size, and its table
 //! (`specs/Store`). `start` makes the one with which a module begins, or says that a segment lies outside (`specs/Start`). Each
 //! call reads or changes exactly what its clause says; writes, growth and new values of globals mark what they change with the
-//! number of the event that `begin_event` set (`specs/Marks`). `Suits` of `specs/Suits` says that a store fits its module, as the
+//! number of the event that `begin_event` set (`specs/Marks`). `SuitsModule` of `specs/Suits` says that a store fits its module, as the
 //! one that `start` gives does. The law `marked` says that what is not marked is as it was.
 //! Inside is how the code holds globals, and the store that its parts make (`specs/Globals`, `specs/Parts`).
 #![tactic(auto)]

@@ -1,10 +1,10 @@
 // How a module begins: its globals, its table and its memory.
 ghost use Rattle.std.specs.Prelude.{◌≡◌, ◌+◌, ◌≤◌, IfOk, IsTrue, OnOk, None, length, map, nat_le, replicate, slice_get};
 ghost use Rattle.std.specs.List.{list_all};
-ghost use Rattle.guest_memory.specs.Memory.{fresh};
+ghost use Rattle.guest_memory.specs.Memory.{fresh_memory};
 ghost use Rattle.wasm_types.specs.Code.{tree, trees};
 ghost use Rattle.wasm_types.specs.Modules.{elem, global_def, module_of, segment as segment_of};
-ghost use Rattle.wasm_store.specs.Start.{constant, first_min, first_most, initial, initial_store, is_elem_inside, is_segment_within, offset_at, offset_in, put_elems, put_funcs, put_segments, segments_fit};
+ghost use Rattle.wasm_store.specs.Start.{constant, first_min, first_most, initial_value, initial_store, is_elem_inside, is_segment_within, offset_at, offset_in, put_elems, put_funcs, put_segments, segments_fit};
 ghost use Rattle.wasm_store.specs.Parts.{first_globals, first_values, store_of_parts};
 
 use crate::global::Global;
@@ -14,7 +14,7 @@ use wasm_types::{Elem, GlobalDef, Instr, Limits, Module, Segment, ValidModule, V
 use wasm_values::bits;
 
 /// How many bytes a page of memory has.
-const PAGE: u64 = 65_536;
+const MEMORY_PAGE: u64 = 65_536;
 
 // Whether so many places from this one on are among the first `len`.
 fn is_within(at: u64, count: u64, len: u64) -> bool
@@ -30,15 +30,15 @@ fn first_globals(alloc: Heap, globals: &[GlobalDef]) -> Result<Vec<Global>, Allo
     let mut first = Vec::new(alloc);
     for global in globals {
         first.push(Global {
-            value: initial(global),
+            value: initial_value(global),
             stamp: 0,
         })?;
     }
     Ok(first)
 }
 
-fn initial(global: &GlobalDef) -> Value
-    ensures { result ≡ initial (global_def global.now) }
+fn initial_value(global: &GlobalDef) -> Value
+    ensures { result ≡ initial_value (global_def global.now) }
 {
     let otherwise = zero_of(global.kind);
     match global.init.as_slice() {
@@ -63,7 +63,7 @@ fn first_value(globals: &[GlobalDef], index: usize) -> Option<Value>
     let Some(global) = globals.get(index) else {
         return None;
     };
-    Some(initial(global))
+    Some(initial_value(global))
 }
 
 fn offset_at(globals: &[GlobalDef], instr: &Instr) -> u64
@@ -143,7 +143,7 @@ pub(crate) fn segments_fit(module: &Module) -> bool
     ensures { result ≡ segments_fit (module_of «module».now) }
 {
     let places = u64::from(first_min(&module.tables));
-    let bytes = u64::from(first_min(&module.mems)) * PAGE;
+    let bytes = u64::from(first_min(&module.mems)) * MEMORY_PAGE;
     are_elems_inside(&module.globals, places, &module.elems)
         && are_segments_within(&module.globals, bytes, &module.segments)
 }
@@ -187,7 +187,7 @@ fn put_segments(
 /// The memory without its segments.
 fn empty_memory(alloc: Heap, mems: &[Limits]) -> Result<Memory, AllocError>
     requires { first_min mems.now ≤ first_most mems.now }
-    ensures { IfOk result (λ memory. memory ≡ fresh (first_min mems.now) (first_most mems.now)) }
+    ensures { IfOk result (λ memory. memory ≡ fresh_memory (first_min mems.now) (first_most mems.now)) }
 {
     let memory = Memory::new(alloc, first_min(mems), first_most(mems))?;
     Ok(memory)

@@ -1,10 +1,10 @@
 // What the threads of a module share: its memory, its globals and its table.
 ghost use Rattle.std.specs.Prelude.{◌≡◌, ◌↔◌, Err, IfOk, None, OnErr, OnOk, Some, length, nat_lt, if◌then◌else◌, slice_get};
 ghost use Rattle.std.specs.Borrow.{sem};
-ghost use Rattle.guest_memory.specs.Memory.{WritesPrefix, after_store, growth, is_inside};
+ghost use Rattle.guest_memory.specs.Memory.{WritesPrefix, after_store, growth_size, is_inside};
 ghost use Rattle.guest_memory.specs.LittleEndian.{IsWidth, low_bytes};
 ghost use Rattle.wasm_types.specs.Modules.{module_of};
-ghost use Rattle.wasm_store.specs.Suits.{Suits};
+ghost use Rattle.wasm_store.specs.Suits.{SuitsModule};
 ghost use Rattle.wasm_store.specs.Start.{first_store};
 ghost use Rattle.wasm_store.specs.Store.{func_in_table, global_stamp_of, handler_at, with_global, with_growth};
 ghost use Rattle.wasm_store.specs.Lending.{LendsMemory};
@@ -31,7 +31,7 @@ pub struct Store<'m> {
 impl<'m> Model for Store<'m> {
     ghost use Rattle.std.specs.Coded.{codes};
     ghost use Rattle.wasm_types.specs.Coding.{trees_code};
-    ghost use Rattle.wasm_store.specs.Globals.{stamps_of_globals, values_of};
+    ghost use Rattle.wasm_store.specs.Globals.{stamps_of_globals, values_of_globals};
     ghost use Rattle.wasm_store.specs.Store.{Store};
 
     ghost Value = { Store };
@@ -40,7 +40,7 @@ impl<'m> Model for Store<'m> {
 
     ghost use Rattle.wasm_types.specs.Modules.{module_of};
 
-    ghost view = { λ s. record { «module» = module_of s.«module».now; memory = s.memory; globals = values_of s.globals.items; global_stamps = stamps_of_globals s.globals.items; table = s.table.items; size_stamp = s.size_stamp } };
+    ghost view = { λ s. record { «module» = module_of s.«module».now; memory = s.memory; globals = values_of_globals s.globals.items; global_stamps = stamps_of_globals s.globals.items; table = s.table.items; size_stamp = s.size_stamp } };
 }
 
 /// Why a module does not begin.
@@ -56,7 +56,7 @@ impl<'m> Store<'m> {
     /// ends past the table or a data segment past the memory, and is found without memory.
     pub fn start(alloc: Heap, module: &'m ValidModule) -> Result<Store<'m>, StartError>
         ensures ok { IfOk result (λ g. first_store (module_of «module».now) ≡ Some g) }
-        ensures suits { IfOk result (λ g. Suits g) }
+        ensures suits { IfOk result (λ g. SuitsModule g) }
         ensures same_module { IfOk result (λ g. g.«module» ≡ module_of «module».now) }
         ensures bad { (result ≡ Err StartError.BadSegment) ↔ (first_store (module_of «module».now) ≡ None) }
     {
@@ -213,7 +213,7 @@ impl<'m> Store<'m> {
     /// new stamp.
     #[inline]
     pub fn grow(&mut self, pages: u32) -> Result<Option<u32>, AllocError>
-        ensures before { IfOk result (λ before. before ≡ growth self.old.memory pages) }
+        ensures before { IfOk result (λ before. before ≡ growth_size self.old.memory pages) }
         ensures new { OnOk result (self.new ≡ with_growth self.old pages) }
         ensures err { OnErr result (self.new ≡ self.old) }
     {

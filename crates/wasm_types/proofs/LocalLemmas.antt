@@ -3,7 +3,7 @@ use Rattle.std.proofs.Common.{◌≡◌, ℕ, Bool, true, false, List, [], ◌�
 use Rattle.std.proofs.lemmas.Bool.Decides.{nat_tests}
 use Rattle.wasm_types.specs.declared.code.ValType.{ValType}
 use Rattle.wasm_types.specs.declared.code.Value.{Value}
-use Rattle.wasm_types.specs.Context.{filled}
+use Rattle.wasm_types.specs.Context.{filled_runs}
 use Rattle.wasm_types.specs.Modules.{Func}
 use Rattle.wasm_types.specs.Locals.{zero_of, zeros}
 
@@ -14,16 +14,16 @@ zeros-kept run runs true _ = refl
 zeros-kept run runs false e = let none : run.0 ≡ 0 = grind (arith, nat_tests, e) in rw none refl
 
 -- the empty runs add no local
-pub zeros-filled : (runs : List (ℕ × ValType)) → zeros (filled runs) ≡ zeros runs
+pub zeros-filled : (runs : List (ℕ × ValType)) → zeros (filled_runs runs) ≡ zeros runs
 zeros-filled [] = refl
 zeros-filled (run ∷ runs) =
-    zeros-kept run (filled runs) (nat_lt 0 run.0) refl ∙ ap (λ (rest : List Value). replicate run.0 (zero_of run.1) ++ rest) (zeros-filled runs)
+    zeros-kept run (filled_runs runs) (nat_lt 0 run.0) refl ∙ ap (λ (rest : List Value). replicate run.0 (zero_of run.1) ++ rest) (zeros-filled runs)
 
 -- the runs that are kept of a function start as its locals do
 pub zeros_at : (o : Option Func) (f : Func) (runs : List (ℕ × ValType)) → o ≡ Some f →
-    option_map (λ (f : Func). filled f.locals) o ≡ Some runs → zeros runs ≡ zeros f.locals
+    option_map (λ (f : Func). filled_runs f.locals) o ≡ Some runs → zeros runs ≡ zeros f.locals
 zeros_at o f runs e kept =
-    let same : filled f.locals ≡ runs = some_same (sym (ap (option_map (λ (f : Func). filled f.locals)) e) ∙ kept) in
+    let same : filled_runs f.locals ≡ runs = some_same (sym (ap (option_map (λ (f : Func). filled_runs f.locals)) e) ∙ kept) in
     ap zeros (sym same) ∙ zeros-filled f.locals
   where
     some_same : {a b : List (ℕ × ValType)} → Some a ≡ Some b → a ≡ b

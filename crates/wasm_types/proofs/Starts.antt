@@ -14,8 +14,8 @@ use Rattle.wasm_types.specs.declared.modules.ExportDesc.{ExportDesc}
 use Rattle.wasm_types.specs.declared.modules.ExportDesc.TheVariants.{Func as ToFunc, Table as ToTable, Memory as ToMemory, Global as ToGlobal}
 use Rattle.wasm_types.specs.Modules.{Module, Import, Export, Func, FuncType}
 use Rattle.wasm_types.specs.Valid.{IsValid, import_count, is_entry, is_plain, is_start_export}
-use Rattle.wasm_types.specs.Functions.{described, imported_type, own_type, type_of, own_func}
-use Rattle.wasm_types.specs.Start.{IsOwnPlain, entry_from, exported}
+use Rattle.wasm_types.specs.Functions.{described_type, imported_type, own_type, type_of, own_func}
+use Rattle.wasm_types.specs.Start.{IsOwnPlain, entry_from, exported_function}
 
 all_rest : {X : Type 0} (P : X → Type 0) (x : X) (xs : List X) → All P (x ∷ xs) → All P xs
 all_rest P x xs h = λ k d lt. h (suc k) d (omega (arith, lt))
@@ -65,7 +65,7 @@ module _ (m : Module) where
       let d = described_func m.types i (h 0 i (omega arith)) in
       let tested : nat_lt 0 (suc (length is)) ≡ true = lt-ltb 0 (suc (length is)) (omega arith) in
       ap (λ x. option_and_then (slice_get m.types) (slice_get (imported_func x ++ imported_funcs is ++ map (λ (g : Func). g.type_index) fs) 0)) d.1
-      ∙ ap (described m) (sym d.1)
+      ∙ ap (described_type m) (sym d.1)
       ∙ ap (λ b. in_range b (i ∷ is) fs 0 (0 - suc (length is))) (sym tested)
   lookup (i ∷ is) fs (suc f) h =
       let d = described_func m.types i (h 0 i (omega arith)) in
@@ -129,7 +129,7 @@ module _ (m : Module) where
   named [] f e = cc
   named (x ∷ es) f e = by_case (is_start_export m x) refl (named es f)
     where
-      of_desc : (d : ExportDesc) → is_entry m d ≡ true → exported d ≡ Some f → is_entry m (ToFunc f) ≡ true
+      of_desc : (d : ExportDesc) → is_entry m d ≡ true → exported_function d ≡ Some f → is_entry m (ToFunc f) ≡ true
       of_desc (ToFunc g) h k = let same : g ≡ f = cc in subst (λ g. is_entry m (ToFunc g) ≡ true) same h
       of_desc (ToTable t) h k = cc
       of_desc (ToMemory t) h k = cc
@@ -137,10 +137,10 @@ module _ (m : Module) where
 
       by_case : (b : Bool) → is_start_export m x ≡ b → (entry_from m es ≡ Some f → is_entry m (ToFunc f) ≡ true) → is_entry m (ToFunc f) ≡ true
       by_case true k rest =
-          of_desc x.desc (both _ _ k).1 (ap (λ b. if b then exported x.desc else entry_from m es) (sym k) ∙ e)
-      by_case false k rest = rest (ap (λ b. if b then exported x.desc else entry_from m es) (sym k) ∙ e)
+          of_desc x.desc (both _ _ k).1 (ap (λ b. if b then exported_function x.desc else entry_from m es) (sym k) ∙ e)
+      by_case false k rest = rest (ap (λ b. if b then exported_function x.desc else entry_from m es) (sym k) ∙ e)
 
-  exported_there : (d : ExportDesc) → is_entry m d ≡ true → IsSome (exported d)
+  exported_there : (d : ExportDesc) → is_entry m d ≡ true → IsSome (exported_function d)
   exported_there (ToFunc g) h = search rules
   exported_there (ToTable t) h = cc
   exported_there (ToMemory t) h = cc
@@ -152,9 +152,9 @@ module _ (m : Module) where
     where
       by_case : (b : Bool) → is_start_export m x ≡ b → (list_any (is_start_export m) es ≡ true → IsSome (entry_from m es)) → IsSome (entry_from m (x ∷ es))
       by_case true k rest =
-          subst (λ b. IsSome (if b then exported x.desc else entry_from m es)) (sym k) (exported_there x.desc (both _ _ k).1)
+          subst (λ b. IsSome (if b then exported_function x.desc else entry_from m es)) (sym k) (exported_there x.desc (both _ _ k).1)
       by_case false k rest =
-          subst (λ b. IsSome (if b then exported x.desc else entry_from m es)) (sym k) (rest (ap (λ b. b || list_any (is_start_export m) es) (sym k) ∙ e))
+          subst (λ b. IsSome (if b then exported_function x.desc else entry_from m es)) (sym k) (rest (ap (λ b. b || list_any (is_start_export m) es) (sym k) ∙ e))
 
   any_named : (es : List Export) (f : ℕ) → entry_from m es ≡ Some f → list_any (is_start_export m) es ≡ true
   any_named [] f e = cc
@@ -163,7 +163,7 @@ module _ (m : Module) where
       by_case : (b : Bool) → is_start_export m x ≡ b → (entry_from m es ≡ Some f → list_any (is_start_export m) es ≡ true) → list_any (is_start_export m) (x ∷ es) ≡ true
       by_case true k rest = ap (λ b. b || list_any (is_start_export m) es) k
       by_case false k rest =
-          ap (λ b. b || list_any (is_start_export m) es) k ∙ rest (ap (λ b. if b then exported x.desc else entry_from m es) (sym k) ∙ e)
+          ap (λ b. b || list_any (is_start_export m) es) k ∙ rest (ap (λ b. if b then exported_function x.desc else entry_from m es) (sym k) ∙ e)
 
   not_false : (b : Bool) → not b ≡ false → b ≡ true
   not_false true e = refl

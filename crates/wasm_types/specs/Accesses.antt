@@ -4,12 +4,12 @@ use Rattle.wasm_types.specs.declared.code.ValType.{ValType}
 use Rattle.wasm_types.specs.declared.code.ValType.TheVariants.{I32, I64, F32, F64}
 use Rattle.wasm_types.specs.Modules.{GlobalType}
 use Rattle.wasm_types.specs.Maybe.{◌>>=◌}
-use Rattle.wasm_types.specs.Stack.{BlockStack, push, pop_type, operate}
+use Rattle.wasm_types.specs.Stack.{BlockStack, push_operand, pop_type, operate}
 
 abbrev pub typed_local_get : List ValType → ℕ → BlockStack → Option BlockStack
 typed_local_get locals x s = do
   type ← slice_get locals x
-  Some (push (Some type) s)
+  Some (push_operand (Some type) s)
 
 abbrev pub typed_local_set : List ValType → ℕ → BlockStack → Option BlockStack
 typed_local_set locals x s = do
@@ -20,12 +20,12 @@ abbrev pub typed_local_tee : List ValType → ℕ → BlockStack → Option Bloc
 typed_local_tee locals x s = do
   type ← slice_get locals x
   rest ← pop_type type s
-  Some (push (Some type) rest)
+  Some (push_operand (Some type) rest)
 
 abbrev pub typed_global_get : List GlobalType → ℕ → BlockStack → Option BlockStack
 typed_global_get globals x s = do
   global ← slice_get globals x
-  Some (push (Some global.value_type) s)
+  Some (push_operand (Some global.value_type) s)
 
 -- only a global that may change is set
 abbrev pub typed_global_set : List GlobalType → ℕ → BlockStack → Option BlockStack

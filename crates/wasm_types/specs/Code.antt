@@ -77,10 +77,10 @@ abbrev mutual
   trees_of_row (more_of-Instr first rest) = Then (tree first) (trees_of_row rest)
 
 -- the instructions of a list in front of others
-abbrev pub before : List Instr → Trees → Trees
-before [] rest = rest
-before (first ∷ others) rest = Then (tree first) (before others rest)
+abbrev pub instructions_before : List Instr → Trees → Trees
+instructions_before [] rest = rest
+instructions_before (first ∷ others) rest = Then (tree first) (instructions_before others rest)
 
 -- the instructions of a list
 abbrev pub trees : List Instr → Trees
-trees instrs = before instrs End
+trees instrs = instructions_before instrs End

@@ -5,7 +5,7 @@ use Rattle.wasm_types.specs.declared.code.ValType.{ValType}
 use Rattle.wasm_types.specs.declared.code.Instr.{Instr, Row_of-Instr, end_of-Instr, more_of-Instr, items-the_row-Instr, items_hidden-the_row-Instr-0}
 use Rattle.wasm_types.specs.declared.code.Instr.TheBlock.{hidden-the_row-Instr-0}
 use Rattle.wasm_types.specs.declared.code.Instr.TheVariants as instr
-use Rattle.wasm_types.specs.Code.{Trees, Block, Loop, If, Then, tree, trees_of_row, before, trees}
+use Rattle.wasm_types.specs.Code.{Trees, Block, Loop, If, Then, tree, trees_of_row, instructions_before, trees}
 
 -- a row's trees are those of its list
 trees_of_row_is : (m : _) (row : Row_of-Instr m) → trees_of_row row ≡ trees (items-the_row-Instr m row)
@@ -32,6 +32,6 @@ tree-if result on_true on_false =
     ∙ ap (If result (trees on_true.items)) (trees_of_vec on_false)
 
 -- what is in front of others, in two parts
-pub before-append : (a b : List Instr) (rest : Trees) → before (a ++ b) rest ≡ before a (before b rest)
+pub before-append : (a b : List Instr) (rest : Trees) → instructions_before (a ++ b) rest ≡ instructions_before a (instructions_before b rest)
 before-append [] b rest = refl
 before-append (x ∷ a) b rest = ap (Then (tree x)) (before-append a b rest)

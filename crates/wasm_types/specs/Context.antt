@@ -31,18 +31,18 @@ abbrev pub funcs_of : Module → List ℕ
 funcs_of m = imported_funcs m.imports ++ map (λ (f : Func). f.type_index) m.funcs
 
 -- the types of locals that are given by counts
-abbrev pub expand : List (ℕ × ValType) → List ValType
-expand [] = []
-expand (run ∷ runs) = replicate run.0 run.1 ++ expand runs
+abbrev pub expand_locals : List (ℕ × ValType) → List ValType
+expand_locals [] = []
+expand_locals (run ∷ runs) = replicate run.0 run.1 ++ expand_locals runs
 
 -- the runs of locals that are not empty
-abbrev pub filled : List (ℕ × ValType) → List (ℕ × ValType)
-filled [] = []
-filled (run ∷ runs) = if nat_lt 0 run.0 then run ∷ filled runs else filled runs
+abbrev pub filled_runs : List (ℕ × ValType) → List (ℕ × ValType)
+filled_runs [] = []
+filled_runs (run ∷ runs) = if nat_lt 0 run.0 then run ∷ filled_runs runs else filled_runs runs
 
 -- those of each of the module's own functions
 abbrev pub filled_locals : Module → List (List (ℕ × ValType))
-filled_locals m = map (λ (f : Func). filled f.locals) m.funcs
+filled_locals m = map (λ (f : Func). filled_runs f.locals) m.funcs
 
 -- the code of a function with these parameters and locals, and this result
 abbrev pub context_of : Module → List ValType → Option ValType → Context

@@ -13,15 +13,15 @@ abbrev pub own_func : Module → ℕ → Option Func
 own_func m f = slice_get m.funcs (f - length m.imports)
 
 -- the type of an imported function
-abbrev pub described : Module → ImportDesc → Option FuncType
-described m (desc.Func type) = slice_get m.types type
-described m (desc.Table limits) = None
-described m (desc.Memory limits) = None
-described m (desc.Global value_type mutable) = None
+abbrev pub described_type : Module → ImportDesc → Option FuncType
+described_type m (desc.Func type) = slice_get m.types type
+described_type m (desc.Table limits) = None
+described_type m (desc.Memory limits) = None
+described_type m (desc.Global value_type mutable) = None
 
 abbrev pub imported_type : Module → Option Import → Option FuncType
 imported_type m None = None
-imported_type m (Some import) = described m import.desc
+imported_type m (Some import) = described_type m import.desc
 
 abbrev pub own_type : Module → Option Func → Option FuncType
 own_type m None = None

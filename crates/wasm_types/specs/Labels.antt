@@ -44,8 +44,8 @@ typed_branch_table labels ns default s = do
   jump_with label tested
 
 -- the stack around a block, if what the code inside leaves is exactly the block's result
-abbrev pub around : Option ValType → Option BlockStack → BlockStack → Option BlockStack
-around result inside s = do
+abbrev pub stack_around_block : Option ValType → Option BlockStack → BlockStack → Option BlockStack
+stack_around_block result inside s = do
   end ← inside
   exact ← is_exactly result end
   Some s
@@ -53,12 +53,12 @@ around result inside s = do
 -- the same, and the result on it
 abbrev pub block_of : Option ValType → Option BlockStack → BlockStack → Option BlockStack
 block_of result inside s = do
-  before ← around result inside s
+  before ← stack_around_block result inside s
   Some (push_result result before)
 
 -- a test, and either of two blocks
-abbrev pub choice_of : Option ValType → Option BlockStack → Option BlockStack → BlockStack → Option BlockStack
-choice_of result on_true on_false s = do
+abbrev pub stack_after_choice : Option ValType → Option BlockStack → Option BlockStack → BlockStack → Option BlockStack
+stack_after_choice result on_true on_false s = do
   tested ← pop_type I32 s
-  before ← around result on_true tested
+  before ← stack_around_block result on_true tested
   block_of result on_false before

@@ -12,7 +12,7 @@ use Rattle.wasm_types.specs.declared.modules.ExportDesc.TheVariants.{Func as ToF
 use Rattle.wasm_types.specs.Code.{Trees, Then, End, ConstI32, ConstI64, ConstF32, ConstF64, GlobalGet}
 use Rattle.wasm_types.specs.Modules.{Import, Func, GlobalDef, Export, Elem, Segment, Module}
 use Rattle.wasm_types.specs.Calls.{result_of}
-use Rattle.wasm_types.specs.Context.{expand, context_of, funcs_of, func_type_of}
+use Rattle.wasm_types.specs.Context.{expand_locals, context_of, funcs_of, func_type_of}
 use Rattle.wasm_types.specs.Stack.{is_same}
 use Rattle.wasm_types.specs.Typing.{IsWellTyped}
 
@@ -45,17 +45,17 @@ constant_type (Then (ConstF64 bits) End) = Some F64
 constant_type _ = None
 
 -- an initial value is one constant of the global's type
-abbrev pub is_initial : GlobalDef → Bool
-is_initial g = option_map_or (is_same g.value_type) (constant_type g.init) false
+abbrev pub is_initial_value : GlobalDef → Bool
+is_initial_value g = option_map_or (is_same g.value_type) (constant_type g.init) false
 
 -- a global that an offset may name
-abbrev pub is_fixed : GlobalDef → Bool
-is_fixed g = is_same g.value_type I32 && not g.mutable
+abbrev pub is_fixed_global : GlobalDef → Bool
+is_fixed_global g = is_same g.value_type I32 && not g.mutable
 
 -- an offset is one constant i32, or an immutable global of this type
 abbrev pub is_offset : List GlobalDef → Trees → Bool
 is_offset globals (Then (ConstI32 bits) End) = true
-is_offset globals (Then (GlobalGet x) End) = option_map_or is_fixed (slice_get globals x) false
+is_offset globals (Then (GlobalGet x) End) = option_map_or is_fixed_global (slice_get globals x) false
 is_offset globals _ = false
 
 abbrev pub is_elem : Module → Elem → Bool
@@ -70,7 +70,7 @@ is_segment m s = nat_lt s.memory (length m.mems) && is_offset m.globals s.offset
 abbrev pub IsTypedFunc : Module → Func → Type 0
 IsTypedFunc m f =
     IsSomeAnd (slice_get m.types f.type_index)
-    (λ t. IsWellTyped (context_of m (t.params ++ expand f.locals) (result_of t)) f.body)
+    (λ t. IsWellTyped (context_of m (t.params ++ expand_locals f.locals) (result_of t)) f.body)
 
 -- All but the functions' code: few results, tables and memories, limits in order, indices that name
 -- something, distinct names of exports, the type of the start function, constant expressions.
@@ -81,7 +81,7 @@ pub record HasShape (m : Module) : Type 0 where
   pub tables : IsTrue (list_all is_ordered m.tables)
   pub mems : IsTrue (list_all is_memory m.mems)
   pub imports : IsTrue (list_all (λ (i : Import). has_type m i.desc) m.imports)
-  pub globals : IsTrue (list_all is_initial m.globals)
+  pub globals : IsTrue (list_all is_initial_value m.globals)
   pub exports : IsTrue (list_all (λ (e : Export). names_something m e.desc) m.exports)
   pub names : AllPairs ◌≢◌ (map (λ (e : Export). e.name) m.exports)
   pub start : IfSome m.start (λ f. func_type_of m f ≡ Some (record { params = []; results = [] }))

@@ -14,26 +14,26 @@ pub record BlockStack : Type 0 where
   pub types : List Operand
   pub after_jump : Bool
 
-abbrev pub empty_stack : BlockStack
-empty_stack = record { types = []; after_jump = false }
+abbrev pub no_operands : BlockStack
+no_operands = record { types = []; after_jump = false }
 
-abbrev pub jumped : BlockStack
-jumped = record { types = []; after_jump = true }
+abbrev pub jumped_stack : BlockStack
+jumped_stack = record { types = []; after_jump = true }
 
-abbrev pub push : Operand → BlockStack → BlockStack
-push x s = record s { types = x ∷ s.types }
+abbrev pub push_operand : Operand → BlockStack → BlockStack
+push_operand x s = record s { types = x ∷ s.types }
 
 -- an operand, and the stack below it
-pub record Popped : Type 0 where
+pub record PoppedOperand : Type 0 where
   pub operand : Operand
   pub below : BlockStack
 
-abbrev pub pop_from : List Operand → Bool → Option Popped
+abbrev pub pop_from : List Operand → Bool → Option PoppedOperand
 pop_from [] false = None
-pop_from [] true = Some (record { operand = None; below = jumped })
+pop_from [] true = Some (record { operand = None; below = jumped_stack })
 pop_from (x ∷ xs) after_jump = Some (record { operand = x; below = record { types = xs; after_jump = after_jump } })
 
-abbrev pub pop : BlockStack → Option Popped
+abbrev pub pop : BlockStack → Option PoppedOperand
 pop s = pop_from s.types s.after_jump
 
 abbrev pub is_same : ValType → ValType → Bool
@@ -43,15 +43,15 @@ is_same F32 F32 = true
 is_same F64 F64 = true
 is_same _ _ = false
 
-abbrev pub fits : Operand → ValType → Bool
-fits None t = true
-fits (Some u) t = is_same u t
+abbrev pub fits_type : Operand → ValType → Bool
+fits_type None t = true
+fits_type (Some u) t = is_same u t
 
 -- what is left below an operand of this type
 abbrev pub pop_type : ValType → BlockStack → Option BlockStack
 pop_type t s = do
   top ← pop s
-  if fits top.operand t then Some top.below else None
+  if fits_type top.operand t then Some top.below else None
 
 -- the same of several types, one after another
 abbrev pub pop_each : List ValType → BlockStack → Option BlockStack
@@ -69,7 +69,7 @@ pop_result (Some t) s = pop_type t s
 
 abbrev pub push_result : Option ValType → BlockStack → BlockStack
 push_result None s = s
-push_result (Some t) s = push (Some t) s
+push_result (Some t) s = push_operand (Some t) s
 
 -- the type of two operands of one type
 abbrev pub common_type : Operand → Operand → Option Operand
@@ -84,23 +84,23 @@ typed_select s = do
   second ← pop tested
   first ← pop second.below
   chosen ← common_type first.operand second.operand
-  Some (push chosen first.below)
+  Some (push_operand chosen first.below)
 
-abbrev pub has_none : List Operand → Bool
-has_none [] = true
-has_none (x ∷ xs) = false
+abbrev pub has_no_operand : List Operand → Bool
+has_no_operand [] = true
+has_no_operand (x ∷ xs) = false
 
 -- the result is there, and nothing else
 abbrev pub is_exactly : Option ValType → BlockStack → Option BlockStack
 is_exactly result s = do
   rest ← pop_result result s
-  if has_none rest.types then Some rest else None
+  if has_no_operand rest.types then Some rest else None
 
 -- a jump that takes the label's operand
 abbrev pub jump_with : Option ValType → BlockStack → Option BlockStack
 jump_with label s = do
   rest ← pop_result label s
-  Some jumped
+  Some jumped_stack
 
 -- an operator's operands in, and its result out
 abbrev pub operate : List ValType → Option ValType → BlockStack → Option BlockStack

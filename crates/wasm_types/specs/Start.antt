@@ -6,16 +6,16 @@ use Rattle.wasm_types.specs.Functions.{own_func, type_of}
 use Rattle.wasm_types.specs.Modules.{Module, Export}
 use Rattle.wasm_types.specs.Valid.{is_start_export}
 
-abbrev pub exported : ExportDesc → Option ℕ
-exported (ToFunc f) = Some f
-exported (ToTable t) = None
-exported (ToMemory x) = None
-exported (ToGlobal g) = None
+abbrev pub exported_function : ExportDesc → Option ℕ
+exported_function (ToFunc f) = Some f
+exported_function (ToTable t) = None
+exported_function (ToMemory x) = None
+exported_function (ToGlobal g) = None
 
 -- the function that the module exports as its start
 abbrev pub entry_from : Module → List Export → Option ℕ
 entry_from m [] = None
-entry_from m (e ∷ es) = if is_start_export m e then exported e.desc else entry_from m es
+entry_from m (e ∷ es) = if is_start_export m e then exported_function e.desc else entry_from m es
 
 -- the module itself defines the function, with no parameters and no result
 pub record IsOwnPlain (m : Module) (f : ℕ) : Type 0 where

@@ -5,8 +5,8 @@ use Rattle.wasm_types.specs.declared.code.ValType.TheVariants.{I32, I64, F32, F6
 use Rattle.wasm_types.specs.Code.{Tree, Trees, Unreachable, Nop, Block, Loop, If, Br, BrIf, BrTable, Return, CallFunc, CallIndirect, DropTop, Select, LocalGet, LocalSet, LocalTee, GlobalGet, GlobalSet, Load, Store, MemorySize, MemoryGrow, ConstI32, ConstI64, ConstF32, ConstF64, Op, End, Then}
 use Rattle.wasm_types.specs.Context.{Context}
 use Rattle.wasm_types.specs.Maybe.{◌>>=◌}
-use Rattle.wasm_types.specs.Stack.{BlockStack, empty_stack, jumped, push, typed_select, typed_drop_top, jump_with, is_exactly}
-use Rattle.wasm_types.specs.Labels.{Labels, typed_branch, typed_branch_if, typed_branch_table, block_of, choice_of}
+use Rattle.wasm_types.specs.Stack.{BlockStack, no_operands, jumped_stack, push_operand, typed_select, typed_drop_top, jump_with, is_exactly}
+use Rattle.wasm_types.specs.Labels.{Labels, typed_branch, typed_branch_if, typed_branch_table, block_of, stack_after_choice}
 use Rattle.wasm_types.specs.Accesses.{typed_local_get, typed_local_set, typed_local_tee, typed_global_get, typed_global_set, typed_load, typed_store, typed_memory_size, typed_memory_grow}
 use Rattle.wasm_types.specs.Calls.{typed_call, typed_call_indirect, typed_operator}
 
@@ -14,12 +14,12 @@ module _ (context : Context) where
   abbrev mutual
     -- the stack after an instruction, if it is well typed from this stack
     pub typed_instr : Tree → Labels → BlockStack → Option BlockStack
-    typed_instr Unreachable labels s = Some jumped
+    typed_instr Unreachable labels s = Some jumped_stack
     typed_instr Nop labels s = Some s
-    typed_instr (Block result body) labels s = block_of result (typed_instrs body (result ∷ labels) empty_stack) s
-    typed_instr (Loop result body) labels s = block_of result (typed_instrs body (None ∷ labels) empty_stack) s
+    typed_instr (Block result body) labels s = block_of result (typed_instrs body (result ∷ labels) no_operands) s
+    typed_instr (Loop result body) labels s = block_of result (typed_instrs body (None ∷ labels) no_operands) s
     typed_instr (If result on_true on_false) labels s =
-        choice_of result (typed_instrs on_true (result ∷ labels) empty_stack) (typed_instrs on_false (result ∷ labels) empty_stack) s
+        stack_after_choice result (typed_instrs on_true (result ∷ labels) no_operands) (typed_instrs on_false (result ∷ labels) no_operands) s
     typed_instr (Br n) labels s = typed_branch labels n s
     typed_instr (BrIf n) labels s = typed_branch_if labels n s
     typed_instr (BrTable ns default) labels s = typed_branch_table labels ns default s
@@ -37,10 +37,10 @@ module _ (context : Context) where
     typed_instr (Store opcode align offset) labels s = typed_store context.has_memory opcode align s
     typed_instr MemorySize labels s = typed_memory_size context.has_memory s
     typed_instr MemoryGrow labels s = typed_memory_grow context.has_memory s
-    typed_instr (ConstI32 bits) labels s = Some (push (Some I32) s)
-    typed_instr (ConstI64 bits) labels s = Some (push (Some I64) s)
-    typed_instr (ConstF32 bits) labels s = Some (push (Some F32) s)
-    typed_instr (ConstF64 bits) labels s = Some (push (Some F64) s)
+    typed_instr (ConstI32 bits) labels s = Some (push_operand (Some I32) s)
+    typed_instr (ConstI64 bits) labels s = Some (push_operand (Some I64) s)
+    typed_instr (ConstF32 bits) labels s = Some (push_operand (Some F32) s)
+    typed_instr (ConstF64 bits) labels s = Some (push_operand (Some F64) s)
     typed_instr (Op opcode) labels s = typed_operator opcode s
 
     -- the stack after these instructions, if they are well typed from this stack
@@ -50,4 +50,4 @@ module _ (context : Context) where
 
   -- the body of a function leaves exactly the function's result
   abbrev pub IsWellTyped : Trees → Type 0
-  IsWellTyped body = IsSome (typed_instrs body (context.gives ∷ []) empty_stack >>= is_exactly context.gives)
+  IsWellTyped body = IsSome (typed_instrs body (context.gives ∷ []) no_operands >>= is_exactly context.gives)

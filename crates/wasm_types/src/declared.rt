@@ -1,6 +1,6 @@
 // The locals that a function declares, and what they start as.
 ghost use Rattle.std.specs.Prelude.{◌≡◌, ◌++◌, IfOk, IfSome, OnOk, length, take};
-ghost use Rattle.wasm_types.specs.Context.{filled};
+ghost use Rattle.wasm_types.specs.Context.{filled_runs};
 ghost use Rattle.wasm_types.specs.Locals.{CountsTo, zero_of, zeros};
 
 use crate::code::{ValType, Value};
@@ -9,7 +9,7 @@ use std::alloc::{AllocError, Global};
 use std::marker::Model;
 
 /// A thread has at most so many locals.
-const MOST: usize = 16384;
+const MOST_THREAD_SIZE: usize = 16384;
 
 /// The locals that a function declares, as counts and types without those of count 0, of which a module can declare
 /// millions. Contracts see these runs.
@@ -42,9 +42,9 @@ impl Declared {
         locals: &[(u32, ValType)],
         most: usize,
     ) -> Result<Declared, AllocError>
-        ensures { IfOk result (λ declared. declared ≡ filled locals.now) }
+        ensures { IfOk result (λ declared. declared ≡ filled_runs locals.now) }
     {
-        let runs = filled(alloc, locals)?;
+        let runs = filled_runs(alloc, locals)?;
         let count = count_of(&runs);
         let starts = match count {
             Some(n) if n <= most => Some(starts_of(alloc, &runs)?),
@@ -99,8 +99,8 @@ pub fn zero_of(value_type: ValType) -> Value
 }
 
 // The runs that are not empty.
-fn filled(alloc: Global, locals: &[(u32, ValType)]) -> Result<Vec<(u32, ValType)>, AllocError>
-    ensures { IfOk result (λ runs. runs.items ≡ filled locals.now) }
+fn filled_runs(alloc: Global, locals: &[(u32, ValType)]) -> Result<Vec<(u32, ValType)>, AllocError>
+    ensures { IfOk result (λ runs. runs.items ≡ filled_runs locals.now) }
 {
     let mut runs = Vec::new(alloc);
     for run in locals {
@@ -117,7 +117,7 @@ fn count_of(runs: &[(u32, ValType)]) -> Option<usize>
 {
     let mut count = 0;
     for run in runs {
-        if run.0 as usize > MOST - count {
+        if run.0 as usize > MOST_THREAD_SIZE - count {
             return None;
         }
         count += run.0 as usize;

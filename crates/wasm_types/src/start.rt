@@ -5,7 +5,7 @@ ghost use Rattle.std.specs.Option.{option_map_or};
 ghost use Rattle.wasm_types.specs.Context.{func_type_of};
 ghost use Rattle.wasm_types.specs.Library.{IsOfLibrary};
 ghost use Rattle.wasm_types.specs.Modules.{export as export_of, func_type, module_of};
-ghost use Rattle.wasm_types.specs.Start.{entry_from, exported};
+ghost use Rattle.wasm_types.specs.Start.{entry_from, exported_function};
 ghost use Rattle.wasm_types.specs.Valid.{import_count, is_entry, is_plain, is_start_export};
 
 use crate::functions::type_of;
@@ -27,14 +27,14 @@ fn entry_from(module: &Module) -> Option<u32>
 {
     for export in &module.exports {
         if is_start_export(module, export) {
-            return exported(export.desc);
+            return exported_function(export.desc);
         }
     }
     None
 }
 
-fn exported(desc: ExportDesc) -> Option<u32>
-    ensures { result ≡ exported desc }
+fn exported_function(desc: ExportDesc) -> Option<u32>
+    ensures { result ≡ exported_function desc }
 {
     match desc {
         ExportDesc::Func(func) => Some(func),

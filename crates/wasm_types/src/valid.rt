@@ -1,6 +1,6 @@
 // Modules that are known to be valid.
 ghost use Rattle.std.specs.Prelude.{◌≡◌, IfNone, IfOk, IfSome, None, Some, map, option_map, slice_get};
-ghost use Rattle.wasm_types.specs.Context.{filled, filled_locals};
+ghost use Rattle.wasm_types.specs.Context.{filled_runs, filled_locals};
 ghost use Rattle.wasm_types.specs.Library.{importable, kind_at};
 ghost use Rattle.wasm_types.specs.Modules.{module_of};
 ghost use Rattle.wasm_types.specs.Start.{IsOwnPlain, entry_from};
@@ -15,7 +15,7 @@ use std::alloc::{AllocError, Global};
 use std::marker::Model;
 
 /// Of so many locals what they start as is kept, in all of a module.
-const KEPT: usize = 1_048_576;
+const MOST_KEPT_LOCALS: usize = 1_048_576;
 
 /// A module that is valid. Contracts see it as its module.
 #[derive(Debug, Drop)]
@@ -85,7 +85,7 @@ fn filled_locals(alloc: Global, module: &Module) -> Result<Vec<Declared>, AllocE
     ensures { IfOk result (λ all. all.items ≡ filled_locals (module_of «module».now)) }
 {
     let mut all = Vec::new(alloc);
-    let mut most = KEPT;
+    let mut most = MOST_KEPT_LOCALS;
     for function in &module.funcs {
         let declared = Declared::new(alloc, &function.locals, most)?;
         if let Some(starts) = declared.starts() {
@@ -127,7 +127,7 @@ impl ValidModule {
     /// The locals that the module's own function at this place declares. `None` comes exactly where the module has no
     /// such function.
     pub fn declared(&self, place: usize) -> Option<&Declared>
-        ensures some { IfSome result (λ declared. option_map (λ f. filled f.locals) (slice_get (module_of self.now).funcs place) ≡ Some declared.now) }
+        ensures some { IfSome result (λ declared. option_map (λ f. filled_runs f.locals) (slice_get (module_of self.now).funcs place) ≡ Some declared.now) }
         ensures none { IfNone result (slice_get (module_of self.now).funcs place ≡ None) }
     {
         self.locals.get(place)

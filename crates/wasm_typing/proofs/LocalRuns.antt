@@ -5,7 +5,7 @@ use Rattle.std.proofs.lemmas.List.{get_or-replicate, length-replicate}
 use Rattle.std.proofs.lemmas.Option.{slice_get-get_or}
 use Rattle.std.specs.List.Sorted.{IsNonDecreasing, IsPartitionPoint}
 use Rattle.wasm_types.specs.declared.code.ValType.{ValType}
-use Rattle.wasm_types.specs.Context.{expand}
+use Rattle.wasm_types.specs.Context.{expand_locals}
 use Rattle.wasm_typing.specs.Locals.{ends_from}
 
 -- no more than the greatest u64
@@ -57,18 +57,18 @@ type_of = option_map (λ run. run.1)
 at_run : (runs : List (ℕ × ValType)) (n x i : ℕ) → n + x < 2 ^ 64 - 1 →
     ((k : ℕ) → k < i → k < length (ends_from n runs) → get_or (ends_from n runs) k 0 ≤ n + x) →
     (i < length (ends_from n runs) → n + x < get_or (ends_from n runs) i 0) →
-    slice_get (expand runs) x ≡ type_of (slice_get runs i)
+    slice_get (expand_locals runs) x ≡ type_of (slice_get runs i)
 at_run [] n x i small before here = refl
 at_run (run ∷ runs) n x zero small before here =
     let inside : x < run.0 = omega (arith, here (omega arith), clip_is (n + run.0)) in
-    slice_get-left (replicate run.0 run.1) (expand runs) x (omega (arith, inside, length-replicate run.0 run.1))
+    slice_get-left (replicate run.0 run.1) (expand_locals runs) x (omega (arith, inside, length-replicate run.0 run.1))
     ∙ slice_get-replicate run.0 x run.1 inside
 at_run (run ∷ runs) n x (suc i) small before here =
     let past = before zero (omega arith) (omega arith) in
     let end : clip (n + run.0) ≡ n + run.0 = omega (arith, past, clip_is (n + run.0)) in
     let behind : run.0 ≤ x = omega (arith, past, end) in
     let same : clip (n + run.0) + (x - run.0) ≡ n + x = omega (arith, end, behind) in
-    slice_get-right (replicate run.0 run.1) (expand runs) x (x - run.0) (omega (arith, behind, length-replicate run.0 run.1))
+    slice_get-right (replicate run.0 run.1) (expand_locals runs) x (x - run.0) (omega (arith, behind, length-replicate run.0 run.1))
     ∙ at_run runs (clip (n + run.0)) (x - run.0) i (omega (arith, same))
     (λ k lt within. omega (arith, before (suc k) (omega arith) (omega arith), same))
     (λ lt. omega (arith, here (omega arith), same))
@@ -81,9 +81,9 @@ length-ends (run ∷ runs) n = ap suc (length-ends runs (clip (n + run.0)))
 pub found_at : (params : List ValType) (runs : List (ℕ × ValType)) (ends : List ℕ) (x i : ℕ) →
     ends ≡ ends_from 0 runs → length params ≤ x → x < 2 ^ 32 →
     IsPartitionPoint (λ e. e ≤ x - length params) (λ e. x - length params < e) ends i →
-    slice_get (params ++ expand runs) x ≡ type_of (slice_get runs i)
+    slice_get (params ++ expand_locals runs) x ≡ type_of (slice_get runs i)
 found_at params runs ends x i is behind small point =
-    slice_get-right params (expand runs) x (x - length params) (omega arith)
+    slice_get-right params (expand_locals runs) x (x - length params) (omega arith)
     ∙ at_run runs 0 (x - length params) i (omega arith)
     (λ k lt within. omega (arith, subst (λ (l : List ℕ). get_or l k 0 ≤ x - length params) is (point.0 k 0 (omega arith) lt)))
     (λ lt. omega (arith, subst (λ (l : List ℕ). x - length params < get_or l i 0) is (point.1 i 0 (omega arith) (omega (arith, lt, ap length is)))))

@@ -6,20 +6,20 @@ use Rattle.wasm_typing.specs.declared.refusal.TypingError.{TypingError}
 use Rattle.wasm_typing.specs.declared.refusal.TypingError.TheVariants.{Invalid, OutOfMemory}
 
 -- it accepts only where the rule holds, and refuses only where it does not
-abbrev pub Judges : Type 0 → Result (Unit {0}) TypingError → Type 0
-Judges Rule (Ok _) = Rule
-Judges Rule (Err Invalid) = ¬ Rule
-Judges Rule (Err OutOfMemory) = Unit {0}
+abbrev pub JudgesCode : Type 0 → Result (Unit {0}) TypingError → Type 0
+JudgesCode Rule (Ok _) = Rule
+JudgesCode Rule (Err Invalid) = ¬ Rule
+JudgesCode Rule (Err OutOfMemory) = Unit {0}
 
 -- The step ends where the rule's does, and leaves the blocks around alone; it refuses where the rule has
 -- no end.
-abbrev pub Follows : Option BlockStack → Blocks → Blocks → Result (Unit {0}) TypingError → Type 0
-Follows after old new (Ok _) = (after ≡ Some new.current) × (new.outer ≡ old.outer)
-Follows after old new (Err Invalid) = after ≡ None
-Follows after old new (Err OutOfMemory) = Unit {0}
+abbrev pub FollowsTyping : Option BlockStack → Blocks → Blocks → Result (Unit {0}) TypingError → Type 0
+FollowsTyping after old new (Ok _) = (after ≡ Some new.current) × (new.outer ≡ old.outer)
+FollowsTyping after old new (Err Invalid) = after ≡ None
+FollowsTyping after old new (Err OutOfMemory) = Unit {0}
 
 -- the value that the rule has, or a refusal where it has none
-abbrev pub Finds : {A : Type 0} → Option A → Result A TypingError → Type 0
-Finds found (Ok x) = found ≡ Some x
-Finds found (Err Invalid) = found ≡ None
-Finds found (Err OutOfMemory) = Unit {0}
+abbrev pub FindsType : {A : Type 0} → Option A → Result A TypingError → Type 0
+FindsType found (Ok x) = found ≡ Some x
+FindsType found (Err Invalid) = found ≡ None
+FindsType found (Err OutOfMemory) = Unit {0}

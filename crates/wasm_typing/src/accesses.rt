@@ -2,7 +2,7 @@
 ghost use Rattle.std.specs.Prelude.{◌≡◌, map};
 ghost use Rattle.wasm_types.specs.Accesses.{typed_local_get, typed_local_set, typed_local_tee, typed_global_get, typed_global_set, may_access, typed_load, typed_store, typed_memory_size, typed_memory_grow};
 ghost use Rattle.wasm_types.specs.Modules.{global_def, global_type};
-ghost use Rattle.wasm_typing.specs.Steps.{Follows};
+ghost use Rattle.wasm_typing.specs.Steps.{FollowsTyping};
 ghost use Rattle.wasm_types.specs.Opcodes.{access_of};
 ghost use Rattle.wasm_typing.specs.Views.{global_of};
 
@@ -18,7 +18,7 @@ pub(crate) fn typed_local_get(
     index: u32,
     operands: &mut Operands,
 ) -> Result<(), TypingError>
-    ensures { Follows
+    ensures { FollowsTyping
         (typed_local_get locals.now index operands.old.current)
         operands.old operands.new result }
 {
@@ -33,7 +33,7 @@ pub(crate) fn typed_local_set(
     index: u32,
     operands: &mut Operands,
 ) -> Result<(), TypingError>
-    ensures { Follows
+    ensures { FollowsTyping
         (typed_local_set locals.now index operands.old.current)
         operands.old operands.new result }
 {
@@ -48,7 +48,7 @@ pub(crate) fn typed_local_tee(
     index: u32,
     operands: &mut Operands,
 ) -> Result<(), TypingError>
-    ensures { Follows
+    ensures { FollowsTyping
         (typed_local_tee locals.now index operands.old.current)
         operands.old operands.new result }
 {
@@ -66,7 +66,7 @@ pub(crate) fn typed_global_get(
     index: u32,
     operands: &mut Operands,
 ) -> Result<(), TypingError>
-    ensures { Follows
+    ensures { FollowsTyping
         (typed_global_get (map global_of globals.now) index operands.old.current)
         operands.old operands.new result }
 {
@@ -81,7 +81,7 @@ pub(crate) fn typed_global_set(
     index: u32,
     operands: &mut Operands,
 ) -> Result<(), TypingError>
-    ensures { Follows
+    ensures { FollowsTyping
         (typed_global_set (map global_of globals.now) index operands.old.current)
         operands.old operands.new result }
 {
@@ -97,7 +97,7 @@ pub(crate) fn typed_load(
     align: u32,
     operands: &mut Operands,
 ) -> Result<(), TypingError>
-    ensures { Follows
+    ensures { FollowsTyping
         (typed_load has_memory opcode align operands.old.current)
         operands.old operands.new result }
 {
@@ -119,7 +119,7 @@ pub(crate) fn typed_store(
     align: u32,
     operands: &mut Operands,
 ) -> Result<(), TypingError>
-    ensures { Follows
+    ensures { FollowsTyping
         (typed_store has_memory opcode align operands.old.current)
         operands.old operands.new result }
 {
@@ -139,7 +139,7 @@ pub(crate) fn typed_memory_size(
     has_memory: bool,
     operands: &mut Operands,
 ) -> Result<(), TypingError>
-    ensures { Follows (typed_memory_size has_memory operands.old.current) operands.old operands.new result }
+    ensures { FollowsTyping (typed_memory_size has_memory operands.old.current) operands.old operands.new result }
 {
     if has_memory {
         push_type(operands, I32)
@@ -152,7 +152,7 @@ pub(crate) fn typed_memory_grow(
     has_memory: bool,
     operands: &mut Operands,
 ) -> Result<(), TypingError>
-    ensures { Follows (typed_memory_grow has_memory operands.old.current) operands.old operands.new result }
+    ensures { FollowsTyping (typed_memory_grow has_memory operands.old.current) operands.old operands.new result }
 {
     if has_memory {
         operate(operands, &[I32], Some(I32))

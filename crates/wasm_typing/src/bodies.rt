@@ -2,10 +2,10 @@
 // module.
 ghost use Rattle.std.specs.Prelude.{◌≡◌, ◌∷◌, reverse, OnOk};
 ghost use Rattle.wasm_types.specs.Code.{tree, trees};
-ghost use Rattle.wasm_types.specs.Labels.{around, block_of};
-ghost use Rattle.wasm_types.specs.Stack.{empty_stack};
+ghost use Rattle.wasm_types.specs.Labels.{stack_around_block, block_of};
+ghost use Rattle.wasm_types.specs.Stack.{no_operands};
 ghost use Rattle.wasm_types.specs.Typing.{typed_instr, typed_instrs, IsWellTyped};
-ghost use Rattle.wasm_typing.specs.Steps.{Follows, Judges};
+ghost use Rattle.wasm_typing.specs.Steps.{FollowsTyping, JudgesCode};
 
 use crate::accesses::{
     typed_global_get, typed_global_set, typed_load, typed_local_get, typed_local_set,
@@ -24,7 +24,7 @@ use wasm_types::{Instr, ValType};
 
 /// Whether the body of a function is well typed.
 pub fn check_body(alloc: Global, context: &Context<'_>, body: &[Instr]) -> Result<(), TypingError>
-    ensures { Judges (IsWellTyped context.now (trees body.now)) result }
+    ensures { JudgesCode (IsWellTyped context.now (trees body.now)) result }
 {
     let mut operands = Operands::new(alloc);
     let mut labels = Vec::new(alloc);
@@ -48,9 +48,9 @@ fn check_block(
     labels: &mut Vec<Label>,
     operands: &mut Operands,
 ) -> Result<(), TypingError>
-    ensures typed { Follows
+    ensures typed { FollowsTyping
         (block_of result_type
-        (typed_instrs context.now (trees body.now) (label ∷ reverse labels.old.items) empty_stack)
+        (typed_instrs context.now (trees body.now) (label ∷ reverse labels.old.items) no_operands)
         operands.old.current)
         operands.old operands.new result }
     ensures labels { OnOk result (labels.new.items ≡ labels.old.items) }
@@ -69,9 +69,9 @@ fn check_inside(
     labels: &mut Vec<Label>,
     operands: &mut Operands,
 ) -> Result<(), TypingError>
-    ensures typed { Follows
-        (around result_type
-        (typed_instrs context.now (trees body.now) (label ∷ reverse labels.old.items) empty_stack)
+    ensures typed { FollowsTyping
+        (stack_around_block result_type
+        (typed_instrs context.now (trees body.now) (label ∷ reverse labels.old.items) no_operands)
         operands.old.current)
         operands.old operands.new result }
     ensures labels { OnOk result (labels.new.items ≡ labels.old.items) }
@@ -95,7 +95,7 @@ fn check_all(
     labels: &mut Vec<Label>,
     operands: &mut Operands,
 ) -> Result<(), TypingError>
-    ensures typed { Follows
+    ensures typed { FollowsTyping
         (typed_instrs context.now (trees body.now) (reverse labels.old.items) operands.old.current)
         operands.old operands.new result }
     ensures labels { OnOk result (labels.new.items ≡ labels.old.items) }
@@ -113,7 +113,7 @@ fn check(
     labels: &mut Vec<Label>,
     operands: &mut Operands,
 ) -> Result<(), TypingError>
-    ensures typed { Follows
+    ensures typed { FollowsTyping
         (typed_instr context.now (tree instr.now) (reverse labels.old.items) operands.old.current)
         operands.old operands.new result }
     ensures labels { OnOk result (labels.new.items ≡ labels.old.items) }

@@ -2,7 +2,7 @@
 ghost use Rattle.std.specs.Prelude.{map};
 ghost use Rattle.wasm_types.specs.Calls.{typed_call, call_type, typed_call_indirect, typed_operator};
 ghost use Rattle.wasm_types.specs.Modules.{func_type};
-ghost use Rattle.wasm_typing.specs.Steps.{Follows};
+ghost use Rattle.wasm_typing.specs.Steps.{FollowsTyping};
 
 use crate::operands::Operands;
 use crate::refusal::TypingError;
@@ -16,7 +16,7 @@ pub(crate) fn typed_call(
     func: u32,
     operands: &mut Operands,
 ) -> Result<(), TypingError>
-    ensures { Follows
+    ensures { FollowsTyping
         (typed_call (map func_type types.now) funcs.now func operands.old.current)
         operands.old operands.new result }
 {
@@ -33,7 +33,7 @@ pub(crate) fn typed_call_indirect(
     type_index: u32,
     operands: &mut Operands,
 ) -> Result<(), TypingError>
-    ensures { Follows
+    ensures { FollowsTyping
         (typed_call_indirect has_table (map func_type types.now) type_index operands.old.current)
         operands.old operands.new result }
 {
@@ -51,7 +51,7 @@ fn call_type(
     type_index: u32,
     operands: &mut Operands,
 ) -> Result<(), TypingError>
-    ensures { Follows
+    ensures { FollowsTyping
         (call_type (map func_type types.now) type_index operands.old.current)
         operands.old operands.new result }
 {
@@ -63,7 +63,7 @@ fn call_type(
 
 /// An operator by its opcode.
 pub(crate) fn typed_operator(opcode: u8, operands: &mut Operands) -> Result<(), TypingError>
-    ensures { Follows (typed_operator opcode operands.old.current) operands.old operands.new result }
+    ensures { FollowsTyping (typed_operator opcode operands.old.current) operands.old operands.new result }
 {
     match operator_of(opcode) {
         None => Err(TypingError::Invalid),

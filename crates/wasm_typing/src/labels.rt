@@ -1,7 +1,7 @@
 // The labels of the open blocks, the outermost first.
 ghost use Rattle.std.specs.Prelude.{◌≡◌, reverse, slice_get};
 ghost use Rattle.wasm_types.specs.Labels.{is_same_label, table_label, typed_branch, typed_branch_if, typed_branch_table};
-ghost use Rattle.wasm_typing.specs.Steps.{Follows, Finds};
+ghost use Rattle.wasm_typing.specs.Steps.{FollowsTyping, FindsType};
 
 use crate::operands::Operands;
 use crate::refusal::TypingError;
@@ -13,7 +13,7 @@ pub(crate) type Label = Option<ValType>;
 
 /// The label of the block that many blocks out.
 pub(crate) fn label_at(labels: &[Label], depth: u32) -> Result<Label, TypingError>
-    ensures { Finds (slice_get (reverse labels.now) depth) result }
+    ensures { FindsType (slice_get (reverse labels.now) depth) result }
 {
     let depth = depth as usize;
     if depth < labels.len() {
@@ -25,7 +25,7 @@ pub(crate) fn label_at(labels: &[Label], depth: u32) -> Result<Label, TypingErro
 
 /// The label of a table of branches, which are all of one type.
 pub(crate) fn table_label(labels: &[Label], depths: &[u32], last: u32) -> Result<Label, TypingError>
-    ensures { Finds (table_label (reverse labels.now) depths.now last) result }
+    ensures { FindsType (table_label (reverse labels.now) depths.now last) result }
 {
     let label = label_at(labels, last)?;
     for depth in depths {
@@ -41,7 +41,7 @@ pub(crate) fn typed_branch(
     depth: u32,
     operands: &mut Operands,
 ) -> Result<(), TypingError>
-    ensures { Follows
+    ensures { FollowsTyping
         (typed_branch (reverse labels.now) depth operands.old.current)
         operands.old operands.new result }
 {
@@ -53,7 +53,7 @@ pub(crate) fn typed_branch_if(
     depth: u32,
     operands: &mut Operands,
 ) -> Result<(), TypingError>
-    ensures { Follows
+    ensures { FollowsTyping
         (typed_branch_if (reverse labels.now) depth operands.old.current)
         operands.old operands.new result }
 {
@@ -69,7 +69,7 @@ pub(crate) fn typed_branch_table(
     last: u32,
     operands: &mut Operands,
 ) -> Result<(), TypingError>
-    ensures { Follows
+    ensures { FollowsTyping
         (typed_branch_table (reverse labels.now) depths.now last operands.old.current)
         operands.old operands.new result }
 {

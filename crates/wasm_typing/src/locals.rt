@@ -1,7 +1,7 @@
 // The types of a function's parameters and locals.
 ghost use Rattle.std.specs.Prelude.{◌≡◌, ℕ, ◌<◌, ◌≤◌, ◌++◌, IfOk, option_map, slice_get};
 ghost use Rattle.std.specs.List.Sorted.{IsNonDecreasing, IsPartitionPoint};
-ghost use Rattle.wasm_types.specs.Context.{expand};
+ghost use Rattle.wasm_types.specs.Context.{expand_locals};
 ghost use Rattle.wasm_types.specs.declared.code.ValType.{ValType};
 
 use std::alloc::{AllocError, Global};
@@ -24,10 +24,10 @@ impl<'a> Model for Locals<'a> {
 
     ghost Value = { List ValType };
 
-    ghost use Rattle.wasm_types.specs.Context.{expand};
+    ghost use Rattle.wasm_types.specs.Context.{expand_locals};
     ghost use Rattle.wasm_typing.specs.Locals.{ends_from};
 
-    ghost view = { λ l. l.params.now ++ expand l.runs.now };
+    ghost view = { λ l. l.params.now ++ expand_locals l.runs.now };
 
     ghost invariant = { λ l. l.ends.items ≡ ends_from 0 l.runs.now };
 }
@@ -38,7 +38,7 @@ impl<'a> Locals<'a> {
         params: &'a [ValType],
         runs: &'a [(u32, ValType)],
     ) -> Result<Locals<'a>, AllocError>
-        ensures { IfOk result (λ locals. locals ≡ params.now ++ expand runs.now) }
+        ensures { IfOk result (λ locals. locals ≡ params.now ++ expand_locals runs.now) }
     {
         let mut ends = Vec::new(alloc);
         let mut end: u64 = 0;

@@ -1,6 +1,6 @@
 // The operands' types, as one stack for all open blocks.
 ghost use Rattle.std.specs.Prelude.{◌≡◌, [], ◌∷◌, List, OnOk, MatchOption, ◌&&◌};
-ghost use Rattle.wasm_types.specs.Stack.{empty_stack, jumped, push, pop, has_none, BlockStack};
+ghost use Rattle.wasm_types.specs.Stack.{no_operands, jumped_stack, push_operand, pop, has_no_operand, BlockStack};
 
 use std::alloc::{AllocError, Global};
 use std::marker::Model;
@@ -38,7 +38,7 @@ impl Model for Operands {
 impl Operands {
     /// No operands, and one block.
     pub(crate) fn new(alloc: Global) -> Operands
-        ensures { result ≡ record { current = empty_stack; outer = [] } }
+        ensures { result ≡ record { current = no_operands; outer = [] } }
     {
         Operands {
             types: Vec::new(alloc),
@@ -51,7 +51,7 @@ impl Operands {
     }
 
     pub(crate) fn push(&mut self, operand: Operand) -> Result<(), AllocError>
-        ensures { OnOk result (self.new ≡ record self.old { current = push operand self.old.current }) }
+        ensures { OnOk result (self.new ≡ record self.old { current = push_operand operand self.old.current }) }
     {
         self.types.push(operand)?;
         Ok(())
@@ -75,14 +75,14 @@ impl Operands {
 
     /// Whether the current block has no operands, and any may be popped.
     pub(crate) fn is_unknown(&self) -> bool
-        ensures { result ≡ (self.now.current.after_jump && has_none self.now.current.types) }
+        ensures { result ≡ (self.now.current.after_jump && has_no_operand self.now.current.types) }
     {
         self.current.after_jump && self.types.len() == self.current.height
     }
 
     /// Forgets the operands of the current block, as after a jump.
     pub(crate) fn jump(&mut self)
-        ensures { self.new ≡ record self.old { current = jumped } }
+        ensures { self.new ≡ record self.old { current = jumped_stack } }
     {
         self.types.truncate(self.current.height);
         self.current.after_jump = true;
@@ -91,7 +91,7 @@ impl Operands {
     /// Begins a block.
     pub(crate) fn enter(&mut self) -> Result<(), AllocError>
         ensures { OnOk result
-            (self.new ≡ record { current = empty_stack; outer = self.old.current ∷ self.old.outer }) }
+            (self.new ≡ record { current = no_operands; outer = self.old.current ∷ self.old.outer }) }
     {
         self.outer.push(self.current)?;
         self.current = Frame {
@@ -103,7 +103,7 @@ impl Operands {
 
     /// Ends a block, and says whether it had no operands left.
     pub(crate) fn leave(&mut self) -> bool
-        ensures exact { result ≡ has_none self.old.current.types }
+        ensures exact { result ≡ has_no_operand self.old.current.types }
         ensures outer { (s : BlockStack) (rest : List BlockStack) → self.old.outer ≡ s ∷ rest →
             self.new ≡ record { current = s; outer = rest } }
     {

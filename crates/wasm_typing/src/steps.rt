@@ -1,7 +1,7 @@
 // Steps on the operands of the current block.
 ghost use Rattle.std.specs.Prelude.{◌≡◌, Some};
-ghost use Rattle.wasm_types.specs.Stack.{pop_type, pop_types, pop_result, push_result, push, typed_select, common_type, operate, jump_with, typed_drop_top};
-ghost use Rattle.wasm_typing.specs.Steps.{Follows, Finds};
+ghost use Rattle.wasm_types.specs.Stack.{pop_type, pop_types, pop_result, push_result, push_operand, typed_select, common_type, operate, jump_with, typed_drop_top};
+ghost use Rattle.wasm_typing.specs.Steps.{FollowsTyping, FindsType};
 
 use crate::operands::{Operand, Operands};
 use crate::refusal::TypingError;
@@ -9,7 +9,7 @@ use wasm_types::ValType;
 
 /// An operand of this type.
 pub(crate) fn pop_type(operands: &mut Operands, expected: ValType) -> Result<(), TypingError>
-    ensures { Follows (pop_type expected operands.old.current) operands.old operands.new result }
+    ensures { FollowsTyping (pop_type expected operands.old.current) operands.old operands.new result }
 {
     match operands.pop() {
         None => Err(TypingError::Invalid),
@@ -28,7 +28,7 @@ pub(crate) fn pop_type(operands: &mut Operands, expected: ValType) -> Result<(),
 // Where nothing is known of what lies below, the rest is not read: a call in unreachable code costs no
 // more than its operands that are there.
 pub(crate) fn pop_types(operands: &mut Operands, expected: &[ValType]) -> Result<(), TypingError>
-    ensures { Follows (pop_types expected.now operands.old.current) operands.old operands.new result }
+    ensures { FollowsTyping (pop_types expected.now operands.old.current) operands.old operands.new result }
 {
     for t in expected.iter().rev() {
         if operands.is_unknown() {
@@ -43,7 +43,7 @@ pub(crate) fn pop_result(
     operands: &mut Operands,
     result_type: Option<ValType>,
 ) -> Result<(), TypingError>
-    ensures { Follows (pop_result result_type operands.old.current) operands.old operands.new result }
+    ensures { FollowsTyping (pop_result result_type operands.old.current) operands.old operands.new result }
 {
     match result_type {
         None => Ok(()),
@@ -55,7 +55,7 @@ pub(crate) fn push_result(
     operands: &mut Operands,
     result_type: Option<ValType>,
 ) -> Result<(), TypingError>
-    ensures { Follows
+    ensures { FollowsTyping
         (Some (push_result result_type operands.old.current))
         operands.old operands.new result }
 {
@@ -66,8 +66,8 @@ pub(crate) fn push_result(
 }
 
 pub(crate) fn push_type(operands: &mut Operands, pushed: ValType) -> Result<(), TypingError>
-    ensures { Follows
-        (Some (push (Some pushed) operands.old.current))
+    ensures { FollowsTyping
+        (Some (push_operand (Some pushed) operands.old.current))
         operands.old operands.new result }
 {
     operands.push(Some(pushed))?;
@@ -80,7 +80,7 @@ pub(crate) fn operate(
     params: &[ValType],
     result_type: Option<ValType>,
 ) -> Result<(), TypingError>
-    ensures { Follows
+    ensures { FollowsTyping
         (operate params.now result_type operands.old.current)
         operands.old operands.new result }
 {
@@ -90,7 +90,7 @@ pub(crate) fn operate(
 
 /// A jump that takes the label's operand.
 pub(crate) fn jump_with(operands: &mut Operands, label: Option<ValType>) -> Result<(), TypingError>
-    ensures { Follows (jump_with label operands.old.current) operands.old operands.new result }
+    ensures { FollowsTyping (jump_with label operands.old.current) operands.old operands.new result }
 {
     pop_result(operands, label)?;
     operands.jump();
@@ -99,7 +99,7 @@ pub(crate) fn jump_with(operands: &mut Operands, label: Option<ValType>) -> Resu
 
 /// An operand of any type.
 pub(crate) fn typed_drop_top(operands: &mut Operands) -> Result<(), TypingError>
-    ensures { Follows (typed_drop_top operands.old.current) operands.old operands.new result }
+    ensures { FollowsTyping (typed_drop_top operands.old.current) operands.old operands.new result }
 {
     match operands.pop() {
         None => Err(TypingError::Invalid),
@@ -109,7 +109,7 @@ pub(crate) fn typed_drop_top(operands: &mut Operands) -> Result<(), TypingError>
 
 /// One of two operands of one type, by a test.
 pub(crate) fn typed_select(operands: &mut Operands) -> Result<(), TypingError>
-    ensures { Follows (typed_select operands.old.current) operands.old operands.new result }
+    ensures { FollowsTyping (typed_select operands.old.current) operands.old operands.new result }
 {
     pop_type(operands, ValType::I32)?;
     let Some(second) = operands.pop() else {
@@ -124,7 +124,7 @@ pub(crate) fn typed_select(operands: &mut Operands) -> Result<(), TypingError>
 }
 
 fn common_type(first: Operand, second: Operand) -> Result<Operand, TypingError>
-    ensures { Finds (common_type first second) result }
+    ensures { FindsType (common_type first second) result }
 {
     match (first, second) {
         (None, second) => Ok(second),

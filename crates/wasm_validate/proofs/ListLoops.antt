@@ -6,7 +6,7 @@ use Rattle.std.proofs.Math.ListN.{get_or-map}
 use Rattle.std.specs.Prelude.{Err}
 use Rattle.wasm_typing.specs.declared.refusal.TypingError.{TypingError}
 use Rattle.wasm_typing.specs.declared.refusal.TypingError.TheVariants.{Invalid, OutOfMemory}
-use Rattle.wasm_typing.specs.Steps.{Judges}
+use Rattle.wasm_typing.specs.Steps.{JudgesCode}
 
 module _ {X Y : Type 0} (P : Y → Type 0) (f : X → Y) where
   abbrev pub IsSeen : X → Type 0
@@ -34,6 +34,6 @@ module _ {X Y : Type 0} (P : Y → Type 0) (f : X → Y) where
       fails (subst P (get_or-map f xs i x ∙ ap f (sym at)) (all i (f x) (omega (arith, lt, ap length same, length-map xs f))))
 
 -- a refusal of one thing as that of another
-pub judges_refused : (P Q : Type 0) (e : TypingError) → (¬ P → ¬ Q) → Judges P (Err e) → Judges Q (Err e)
+pub judges_refused : (P Q : Type 0) (e : TypingError) → (¬ P → ¬ Q) → JudgesCode P (Err e) → JudgesCode Q (Err e)
 judges_refused P Q Invalid step fails = step fails
 judges_refused P Q OutOfMemory step fails = tt

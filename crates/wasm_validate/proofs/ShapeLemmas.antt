@@ -12,7 +12,7 @@ use Rattle.wasm_types.specs.declared.modules.Import.{Import as RustImport}
 use Rattle.wasm_types.specs.declared.modules.Export.{Export as RustExport}
 use Rattle.wasm_types.specs.Context.{func_type_of}
 use Rattle.wasm_types.specs.Modules.{FuncType, Module, Export, elem, export, global_def, module_of, segment}
-use Rattle.wasm_types.specs.Rules.{HasShape, has_type, is_elem, is_initial, is_segment, names_something}
+use Rattle.wasm_types.specs.Rules.{HasShape, has_type, is_elem, is_initial_value, is_segment, names_something}
 use Rattle.wasm_types.specs.Valid.{is_plain}
 use Rattle.wasm_validate.proofs.ListTests.{list_all_map}
 use Rattle.wasm_validate.specs.Shape.{has_plain_start, is_linked, is_within_limits}
@@ -98,7 +98,7 @@ linked_by m s =
 
 -- where only the data segments are left
 pub last_is : (m : RustModule) {r : Bool}
-    → list_all (λ (i : RustImport). has_type (module_of m) i.desc) m.imports.items ≡ true → list_all (λ g. is_initial (global_def g)) m.globals.items ≡ true
+    → list_all (λ (i : RustImport). has_type (module_of m) i.desc) m.imports.items ≡ true → list_all (λ g. is_initial_value (global_def g)) m.globals.items ≡ true
     → list_all (λ (e : RustExport). names_something (module_of m) e.desc) m.exports.items ≡ true → has_plain_start (module_of m) ≡ true
     → list_all (λ e. is_elem (module_of m) (elem e)) m.elems.items ≡ true → r ≡ list_all (λ s. is_segment (module_of m) (segment s)) m.segments.items
     → r ≡ is_linked (module_of m)

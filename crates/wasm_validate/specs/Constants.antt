@@ -5,7 +5,7 @@ use Rattle.wasm_types.specs.declared.code.ValType.{ValType}
 use Rattle.wasm_types.specs.declared.code.ValType.TheVariants.{I32, I64, F32, F64}
 use Rattle.wasm_types.specs.Code.{Tree, ConstI32, ConstI64, ConstF32, ConstF64, GlobalGet}
 use Rattle.wasm_types.specs.Modules.{GlobalDef}
-use Rattle.wasm_types.specs.Rules.{is_fixed}
+use Rattle.wasm_types.specs.Rules.{is_fixed_global}
 
 -- the type of a constant
 abbrev pub constant_of : Tree → Option ValType
@@ -18,5 +18,5 @@ constant_of _ = None
 -- the instruction gives an offset
 abbrev pub gives_offset : List GlobalDef → Tree → Bool
 gives_offset globals (ConstI32 bits) = true
-gives_offset globals (GlobalGet x) = option_map_or is_fixed (slice_get globals x) false
+gives_offset globals (GlobalGet x) = option_map_or is_fixed_global (slice_get globals x) false
 gives_offset globals _ = false

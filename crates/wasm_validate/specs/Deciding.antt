@@ -4,12 +4,12 @@ use Rattle.std.specs.List.{list_all}
 use Rattle.std.specs.Option.{option_map_or, is_some}
 use Rattle.call_table.specs.Table.{row}
 use Rattle.wasm_types.specs.Calls.{result_of}
-use Rattle.wasm_types.specs.Context.{context_of, expand}
+use Rattle.wasm_types.specs.Context.{context_of, expand_locals}
 use Rattle.wasm_types.specs.Functions.{same_type}
 use Rattle.wasm_types.specs.Library.{importable, imported_type_index, signature_type}
 use Rattle.wasm_types.specs.Maybe.{◌>>=◌}
 use Rattle.wasm_types.specs.Modules.{FuncType, Import, Func, Export, Module}
-use Rattle.wasm_types.specs.Stack.{empty_stack, is_exactly}
+use Rattle.wasm_types.specs.Stack.{no_operands, is_exactly}
 use Rattle.wasm_types.specs.Typing.{typed_instrs}
 use Rattle.wasm_validate.specs.Shape.{is_linked, is_within_limits}
 
@@ -41,7 +41,7 @@ has_shape m = is_within_limits m && (is_linked m && are_distinct (map (λ (e : E
 -- the body of a function of this type is typed
 abbrev pub is_typed_body : Module → Func → FuncType → Bool
 is_typed_body m f t =
-    is_some (typed_instrs (context_of m (t.params ++ expand f.locals) (result_of t)) f.body (result_of t ∷ []) empty_stack >>= is_exactly (result_of t))
+    is_some (typed_instrs (context_of m (t.params ++ expand_locals f.locals) (result_of t)) f.body (result_of t ∷ []) no_operands >>= is_exactly (result_of t))
 
 abbrev pub is_typed_func : Module → Func → Bool
 is_typed_func m f = option_map_or (is_typed_body m f) (slice_get m.types f.type_index) false

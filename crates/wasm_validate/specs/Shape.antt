@@ -4,7 +4,7 @@ use Rattle.std.specs.List.{list_all}
 use Rattle.std.specs.Option.{option_map_or}
 use Rattle.wasm_types.specs.Context.{func_type_of}
 use Rattle.wasm_types.specs.Modules.{Import, Export, FuncType, Module}
-use Rattle.wasm_types.specs.Rules.{has_type, is_elem, is_initial, is_memory, is_ordered, is_segment, names_something}
+use Rattle.wasm_types.specs.Rules.{has_type, is_elem, is_initial_value, is_memory, is_ordered, is_segment, names_something}
 use Rattle.wasm_types.specs.Valid.{is_plain}
 
 -- few results, tables and memories, and their limits
@@ -24,7 +24,7 @@ has_plain_start m = option_map_or (λ f. option_map_or is_plain (func_type_of m 
 abbrev pub is_linked : Module → Bool
 is_linked m =
     list_all (λ (i : Import). has_type m i.desc) m.imports
-    && (list_all is_initial m.globals
+    && (list_all is_initial_value m.globals
     && (list_all (λ (e : Export). names_something m e.desc) m.exports
     && (has_plain_start m
     && (list_all (is_elem m) m.elems

@@ -6,7 +6,7 @@ ghost use Rattle.wasm_types.specs.Modules.{module_of};
 ghost use Rattle.wasm_types.specs.Rules.{IsTyped};
 ghost use Rattle.wasm_types.specs.Valid.{IsValid};
 ghost use Rattle.wasm_validate.specs.Refusals.{IsFirst};
-ghost use Rattle.wasm_typing.specs.Steps.{Judges};
+ghost use Rattle.wasm_typing.specs.Steps.{JudgesCode};
 
 use crate::floats::is_with_floats;
 use crate::functions::{check_functions, type_indices};
@@ -50,7 +50,7 @@ pub(crate) fn check(alloc: Global, module: &Module) -> Result<(), Invalid>
 fn check_typed(alloc: Global, module: &Module, type_indices: &[u32]) -> Result<(), TypingError>
     requires indices { type_indices.now ≡ funcs_of (module_of «module».now) }
     requires imports { All (IsOfLibrary (module_of «module».now).types) (module_of «module».now).imports }
-    ensures { Judges (IsTyped (module_of «module».now)) result }
+    ensures { JudgesCode (IsTyped (module_of «module».now)) result }
 {
     check_shape(alloc, module, type_indices)?;
     check_functions(alloc, module, type_indices)

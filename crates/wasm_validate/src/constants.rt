@@ -3,20 +3,20 @@ ghost use Rattle.std.specs.Prelude.{◌≡◌, ◌≢◌, ◌∷◌, [], MatchOp
 ghost use Rattle.std.specs.List.{list_all};
 ghost use Rattle.wasm_types.specs.Code.{tree, trees};
 ghost use Rattle.wasm_types.specs.Modules.{global_def};
-ghost use Rattle.wasm_types.specs.Rules.{constant_type, is_fixed, is_initial, is_offset};
+ghost use Rattle.wasm_types.specs.Rules.{constant_type, is_fixed_global, is_initial_value, is_offset};
 ghost use Rattle.wasm_validate.specs.Constants.{constant_of, gives_offset};
 
 use wasm_types::{GlobalDef, Instr, Module, ValType};
 
 /// Whether each global's first value is one constant of its type.
 pub(crate) fn are_initial(module: &Module) -> bool
-    ensures { result ≡ list_all (λ g. is_initial (global_def g)) «module».now.globals.items }
+    ensures { result ≡ list_all (λ g. is_initial_value (global_def g)) «module».now.globals.items }
 {
     module.globals.iter().all(|global| is_initial(global))
 }
 
 fn is_initial(global: &GlobalDef) -> bool
-    ensures { result ≡ is_initial (global_def global.now) }
+    ensures { result ≡ is_initial_value (global_def global.now) }
 {
     match constant_type(&global.init) {
         Some(value_type) => global.kind == value_type,
@@ -79,7 +79,7 @@ fn gives_offset(globals: &[GlobalDef], instr: &Instr) -> bool
 }
 
 fn is_fixed(global: &GlobalDef) -> bool
-    ensures { result ≡ is_fixed (global_def global.now) }
+    ensures { result ≡ is_fixed_global (global_def global.now) }
 {
     global.kind == ValType::I32 && !global.mutable
 }

@@ -3,7 +3,7 @@ ghost use Rattle.std.specs.Prelude.{◌≡◌, IfOk};
 ghost use Rattle.wasm_types.specs.Context.{funcs_of};
 ghost use Rattle.wasm_types.specs.Modules.{module_of, func};
 ghost use Rattle.wasm_types.specs.Rules.{IsTypedFunc, AreTypedFuncs};
-ghost use Rattle.wasm_typing.specs.Steps.{Judges};
+ghost use Rattle.wasm_typing.specs.Steps.{JudgesCode};
 
 use std::alloc::{AllocError, Global};
 use wasm_types::{Func, ImportDesc, Module, result_of, type_at};
@@ -16,7 +16,7 @@ pub(crate) fn check_functions(
     type_indices: &[u32],
 ) -> Result<(), TypingError>
     requires { type_indices.now ≡ funcs_of (module_of «module».now) }
-    ensures { Judges (AreTypedFuncs (module_of «module».now)) result }
+    ensures { JudgesCode (AreTypedFuncs (module_of «module».now)) result }
 {
     for function in &module.funcs {
         check_function(alloc, module, type_indices, function)?;
@@ -47,7 +47,7 @@ fn check_function(
     function: &Func,
 ) -> Result<(), TypingError>
     requires { type_indices.now ≡ funcs_of (module_of «module».now) }
-    ensures { Judges (IsTypedFunc (module_of «module».now) (func function.now)) result }
+    ensures { JudgesCode (IsTypedFunc (module_of «module».now) (func function.now)) result }
 {
     let Some(func_type) = type_at(module, function.type_index) else {
         return Err(TypingError::Invalid);

@@ -5,7 +5,7 @@ ghost use Rattle.wasm_types.specs.Library.{IsOfLibrary};
 ghost use Rattle.wasm_types.specs.Modules.{module_of};
 ghost use Rattle.wasm_types.specs.Rules.{HasShape};
 ghost use Rattle.wasm_validate.specs.Shape.{is_linked, is_within_limits};
-ghost use Rattle.wasm_typing.specs.Steps.{Judges};
+ghost use Rattle.wasm_typing.specs.Steps.{JudgesCode};
 
 use crate::constants::are_initial;
 use crate::exports::{are_exports, have_own_names};
@@ -25,7 +25,7 @@ pub(crate) fn check_shape(
 ) -> Result<(), TypingError>
     requires indices { type_indices.now ≡ funcs_of (module_of «module».now) }
     requires imports { All (IsOfLibrary (module_of «module».now).types) (module_of «module».now).imports }
-    ensures { Judges (HasShape (module_of «module».now)) result }
+    ensures { JudgesCode (HasShape (module_of «module».now)) result }
 {
     if !is_within_limits(module) {
         return Err(TypingError::Invalid);

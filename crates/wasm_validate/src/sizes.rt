@@ -7,21 +7,21 @@ ghost use Rattle.wasm_types.specs.Valid.{is_over_limit, local_count};
 use wasm_types::{Func, Limits, Module, ValType, type_at};
 
 // A memory's pages, a table's elements, and a function's parameters and locals, all at most.
-const PAGES: u32 = 256;
+const MOST_PAGES: u32 = 256;
 
-const ELEMENTS: u32 = 65_536;
+const MOST_ELEMENTS: u32 = 65_536;
 
-const LOCALS: u32 = 4_096;
+const MOST_LOCALS: u32 = 4_096;
 
 /// Whether a memory, a table or a function of the module is too large.
 #[tactic(auto, using(crate::proofs::ListTests::list_any_map))]
 pub(crate) fn is_over_limit(module: &Module) -> bool
     ensures { result ≡ is_over_limit (module_of «module».now) }
 {
-    if has_min_over(&module.mems, PAGES) {
+    if has_min_over(&module.mems, MOST_PAGES) {
         return true;
     }
-    if has_min_over(&module.tables, ELEMENTS) {
+    if has_min_over(&module.tables, MOST_ELEMENTS) {
         return true;
     }
     has_large_func(module)
@@ -51,7 +51,7 @@ fn is_large(module: &Module, function: &Func) -> bool
         Some(found) => found.params.len(),
         None => 0,
     };
-    params > LOCALS as usize || is_sum_over(&function.locals, LOCALS - params as u32)
+    params > MOST_LOCALS as usize || is_sum_over(&function.locals, MOST_LOCALS - params as u32)
 }
 
 // Whether the counts of the runs have a sum above the bound. The sum itself may be too large for a number.

@@ -52,14 +52,14 @@ operand_of types.F32 bits = None
 operand_of types.F64 bits = None
 
 -- the lowest bits of the number, as many as the load reads, at another width
-abbrev pub widened : ℕ → ℕ → ℕ → Width → ℕ
-widened op exponent n to =
+abbrev pub widened_load : ℕ → ℕ → ℕ → Width → ℕ
+widened_load op exponent n to =
     if is_signed op
     then extend_s (bits_at exponent) to (wrap (bits_at exponent) n)
     else wrap (bits_at exponent) n
 
 abbrev pub loaded_value : ℕ → ℕ → Access → Option Value
-loaded_value op n a = operand_of a.moved (widened op a.exponent n)
+loaded_value op n a = operand_of a.moved (widened_load op a.exponent n)
 
 -- the operand that a load makes of the number that it reads
 unfoldable pub load_value : ℕ → ℕ → Option Value

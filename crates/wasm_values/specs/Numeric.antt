@@ -43,12 +43,12 @@ divided_64 (Err e) = Fails (trap_of e)
 
 -- ---- on one operand
 
-abbrev pub takes_one : Operator → Bool
-takes_one o = nat_eq (length o.takes) 1
+abbrev pub takes_one_operand : Operator → Bool
+takes_one_operand o = nat_eq (length o.takes) 1
 
 -- the opcode table has it as an instruction on one operand
 unfoldable pub is_unary : ℕ → Bool
-is_unary op = option_map_or takes_one (operator_of op) false
+is_unary op = option_map_or takes_one_operand (operator_of op) false
 
 abbrev pub unary_32 : ℕ → ℕ → Computed
 unary_32 op x =

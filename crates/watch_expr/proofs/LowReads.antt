@@ -7,22 +7,22 @@ use Rattle.guest_memory.specs.Memory.{is_inside}
 use Rattle.watch_expr.specs.declared.reads.Place.{Place}
 use Rattle.watch_expr.specs.declared.reads.Place.TheVariants as place
 use Rattle.expression_text.specs.Expression.{Clock, Events, Expression, Global, Load, Number, One, Over, Size, Two, Var}
-use Rattle.watch_expr.specs.Reads.{ReadsLow, at_node, evaluates_right, is_low, load_places, no_variables, reads_at}
-use Rattle.watch_expr.specs.Value.{Setting, byte_count, resolved_node, setting, value_at}
+use Rattle.watch_expr.specs.Reads.{ReadsLow, places_at_node, evaluates_right, is_low_place, load_places, no_variables, reads_at}
+use Rattle.watch_expr.specs.Value.{ExpressionSetting, byte_count, resolved_node, expression_setting, value_at}
 use Rattle.watch_expr.specs.View.{Node}
 
 -- none of these is a global that is too high
 abbrev AreLow : List Place → Type 0
-AreLow places = list_all is_low places ≡ true
+AreLow places = list_all is_low_place places ≡ true
 
 both : (xs ys : List Place) → AreLow xs → AreLow ys → AreLow (xs ++ ys)
-both xs ys a b = list_all-append is_low xs ys ∙ ap (λ (t : Bool). t && list_all is_low ys) a ∙ b
+both xs ys a b = list_all-append is_low_place xs ys ∙ ap (λ (t : Bool). t && list_all is_low_place ys) a ∙ b
 
 if_read : (t : Bool) (xs : List Place) → AreLow xs → AreLow (cond t xs [])
 if_read true xs h = h
 if_read false xs h = refl
 
-at_one : (node : Option ℕ) (places : ℕ → List Place) → ((k : ℕ) → AreLow (places k)) → AreLow (at_node node places)
+at_one : (node : Option ℕ) (places : ℕ → List Place) → ((k : ℕ) → AreLow (places k)) → AreLow (places_at_node node places)
 at_one None places h = refl
 at_one (Some k) places h = h k
 
@@ -46,7 +46,7 @@ low_global : (t : Bool) (node n : ℕ) → nat_lt n (2 ^ 32) ≡ t → AreLow (c
 low_global true node n e = ap (λ (t : Bool). t && true) e
 low_global false node n e = refl
 
-low_at : (s : Setting) (each : Option ℕ) (x : Expression) → AreLow (reads_at s each x)
+low_at : (s : ExpressionSetting) (each : Option ℕ) (x : Expression) → AreLow (reads_at s each x)
 low_at s each (Number n) = refl
 low_at s each (Var name) = refl
 low_at s each (One op x) = low_at s each x
@@ -64,4 +64,4 @@ low_at s each (Events name) = at_one (resolved_node each name) (λ node. place.M
 low_at s each (Size name) = at_one (resolved_node each name) (λ node. place.Size node ∷ []) (λ k. refl)
 
 pub reads_low : ReadsLow
-reads_low nodes x = low_at (setting nodes no_variables) None x
+reads_low nodes x = low_at (expression_setting nodes no_variables) None x

@@ -13,8 +13,8 @@ use Rattle.expression_text.specs.declared.expr.Width.TheVariants as width
 use Rattle.expression_text.specs.Expression.{Clock, Events, Expression, Global, Load, Number, One, Over, Size, Two, Var}
 use Rattle.watch_expr.specs.declared.reads.Place.{Place}
 use Rattle.watch_expr.specs.declared.reads.Place.TheVariants as place
-use Rattle.watch_expr.specs.Reads.{AreMemories, ReadsTell, SameAt, SamePage, at_node, evaluates_right, load_places, no_variables, pages_of, reads_at, two_pages}
-use Rattle.watch_expr.specs.Value.{Setting, all_numbers, byte_count, decided, global_value, loaded_at, one, over, resolved_node, setting, two, value_at, value_of_bytes, with_right}
+use Rattle.watch_expr.specs.Reads.{AreMemories, ReadsTell, SameAtPlace, SamePage, places_at_node, evaluates_right, load_places, no_variables, pages_of, reads_at, two_pages}
+use Rattle.watch_expr.specs.Value.{ExpressionSetting, all_numbers, byte_count, decided_by_left, global_value, loaded_at, unary_value, aggregate_over, resolved_node, expression_setting, two, value_at, value_of_bytes, decided_with_right}
 use Rattle.watch_expr.specs.View.{Node, ◌>>=◌, node_clock, events_at, global_at, piece_in_memory, size_at}
 
 -- ---- bytes that lie in one page or two
@@ -126,7 +126,7 @@ no_address node (Some s) count = refl
 
 module _ (old new : List Node) (node : ℕ) (a b : Node) (is_a : slice_get old node ≡ Some a) (is_b : slice_get new node ≡ Some b) where
   pages_same : (p q : ℕ) (t : Bool) → nat_eq p q ≡ t → 4096 * p + 4096 ≤ length a.memory.bytes → 4096 * q + 4096 ≤ length a.memory.bytes
-      → AllByRecursion (SameAt old new) (cond t (place.Page node p ∷ []) (place.Page node p ∷ place.Page node q ∷ []))
+      → AllByRecursion (SameAtPlace old new) (cond t (place.Page node p ∷ []) (place.Page node p ∷ place.Page node q ∷ []))
       → SamePage a.memory b.memory p × SamePage a.memory b.memory q
   pages_same p q true e in_p in_q h = let first = h.0 a b is_a is_b in_p in (first, subst (SamePage a.memory b.memory) (eqb-true p q e) first)
   pages_same p q false e in_p in_q h = (h.0 a b is_a is_b in_p, h.1.0 a b is_a is_b in_q)
@@ -140,7 +140,7 @@ module _ (old new : List Node) (node : ℕ) (a b : Node) (is_a : slice_get old n
 
   pieces_same : (addr count : ℕ) → 0 < count → count ≤ 8 → IsMemory a.memory → IsMemory b.memory
       → (i : Bool) → nat_le (addr + count) (length a.memory.bytes) ≡ i
-      → AllByRecursion (SameAt old new) (cond i (two_pages node (addr / 4096) ((addr + count - 1) / 4096)) (place.Size node ∷ []))
+      → AllByRecursion (SameAtPlace old new) (cond i (two_pages node (addr / 4096) ((addr + count - 1) / 4096)) (place.Size node ∷ []))
       → (piece_in_memory b.memory addr count ≡ cond i (Some (bytes_from a.memory addr count)) None)
       × (pages_of node b.memory addr count ≡ cond i (two_pages node (addr / 4096) ((addr + count - 1) / 4096)) (place.Size node ∷ []))
   pieces_same addr count some few in_a in_b true inside h =
@@ -159,7 +159,7 @@ module _ (old new : List Node) (node : ℕ) (a b : Node) (is_a : slice_get old n
         ap (λ (t : Bool). cond t (two_pages node (addr / 4096) ((addr + count - 1) / 4096)) (place.Size node ∷ [])) not_there,
       )
 
-  load_same : (w : Width) (addr : ℤ) → IsMemory a.memory → IsMemory b.memory → AllByRecursion (SameAt old new) (load_places node (Some a) (byte_count w) (Some addr))
+  load_same : (w : Width) (addr : ℤ) → IsMemory a.memory → IsMemory b.memory → AllByRecursion (SameAtPlace old new) (load_places node (Some a) (byte_count w) (Some addr))
       → (loaded_from (Some b) w addr ≡ loaded_from (Some a) w addr)
       × (load_places node (Some b) (byte_count w) (Some addr) ≡ load_places node (Some a) (byte_count w) (Some addr))
   load_same w (negsuc n) in_a in_b h = (refl, refl)
@@ -172,11 +172,11 @@ module _ (old new : List Node) (node : ℕ) (a b : Node) (is_a : slice_get old n
 -- ---- right sides
 
 right_values : (op : Binary) (o yo yn : Option ℤ) → (evaluates_right op o ≡ true → yn ≡ yo)
-    → ◌≡◌ {A = Option ℤ} (o >>= λ a. with_right op a (decided op a) yn) (o >>= λ a. with_right op a (decided op a) yo)
+    → ◌≡◌ {A = Option ℤ} (o >>= λ a. decided_with_right op a (decided_by_left op a) yn) (o >>= λ a. decided_with_right op a (decided_by_left op a) yo)
 right_values op None yo yn h = refl
-right_values op (Some a) yo yn h = by_decided (decided op a) h
+right_values op (Some a) yo yn h = by_decided (decided_by_left op a) h
   where
-    by_decided : (d : Option ℤ) → (is_none d ≡ true → yn ≡ yo) → with_right op a d yn ≡ with_right op a d yo
+    by_decided : (d : Option ℤ) → (is_none d ≡ true → yn ≡ yo) → decided_with_right op a d yn ≡ decided_with_right op a d yo
     by_decided (Some r) same = refl
     by_decided None same = ap (λ (y : Option ℤ). y >>= λ b. two op a b) (same refl)
 
@@ -192,23 +192,23 @@ right_all P false rs h e = absurd (cc)
 
 module _ (old new : List Node) (even : length new ≡ length old)
     (in_old : AreMemories old) (in_new : AreMemories new) where
-  abbrev so : Setting
-  so = setting old no_variables
+  abbrev so : ExpressionSetting
+  so = expression_setting old no_variables
 
-  abbrev sn : Setting
-  sn = setting new no_variables
+  abbrev sn : ExpressionSetting
+  sn = expression_setting new no_variables
 
   record Same (each : Option ℕ) (x : Expression) : Type 0 where
     values : value_at sn each x ≡ value_at so each x
     reads : reads_at sn each x ≡ reads_at so each x
 
-  over_nodes : (x : Expression) (ks : List ℕ) → ((k : ℕ) → AllByRecursion (SameAt old new) (reads_at so (Some k) x) → Same (Some k) x)
-      → AllByRecursion (SameAt old new) (flat_map (λ (k : ℕ). reads_at so (Some k) x) ks)
+  over_nodes : (x : Expression) (ks : List ℕ) → ((k : ℕ) → AllByRecursion (SameAtPlace old new) (reads_at so (Some k) x) → Same (Some k) x)
+      → AllByRecursion (SameAtPlace old new) (flat_map (λ (k : ℕ). reads_at so (Some k) x) ks)
       → (map (λ (k : ℕ). value_at sn (Some k) x) ks ≡ map (λ (k : ℕ). value_at so (Some k) x) ks)
       × (flat_map (λ (k : ℕ). reads_at sn (Some k) x) ks ≡ flat_map (λ (k : ℕ). reads_at so (Some k) x) ks)
   over_nodes x [] each_same h = (refl, refl)
   over_nodes x (k ∷ ks) each_same h =
-      let parts = split_all (SameAt old new) (reads_at so (Some k) x) (flat_map (λ (k : ℕ). reads_at so (Some k) x) ks) h in
+      let parts = split_all (SameAtPlace old new) (reads_at so (Some k) x) (flat_map (λ (k : ℕ). reads_at so (Some k) x) ks) h in
       let first = each_same k parts.0 in
       let rest = over_nodes x ks each_same parts.1 in (
         ap (λ (v : Option ℤ). v ∷ map (λ (k : ℕ). value_at sn (Some k) x) ks) first.values ∙ ap (λ (vs : List (Option ℤ)). value_at so (Some k) x ∷ vs) rest.0,
@@ -218,13 +218,13 @@ module _ (old new : List Node) (even : length new ≡ length old)
 
   abbrev LoadsSame : ℕ → Width → ℤ → Option Node → Option Node → Type 0
   LoadsSame node w addr oa ob =
-      AllByRecursion (SameAt old new) (load_places node oa (byte_count w) (Some addr))
+      AllByRecursion (SameAtPlace old new) (load_places node oa (byte_count w) (Some addr))
       → (loaded_from ob w addr ≡ loaded_from oa w addr) × (load_places node ob (byte_count w) (Some addr) ≡ load_places node oa (byte_count w) (Some addr))
 
   load_case : (r : Option ℕ) (w : Width) (o : Option ℤ)
-      → AllByRecursion (SameAt old new) (at_node r (λ node. load_places node (slice_get old node) (byte_count w) o))
+      → AllByRecursion (SameAtPlace old new) (places_at_node r (λ node. load_places node (slice_get old node) (byte_count w) o))
       → (◌≡◌ {A = Option ℤ} (o >>= λ addr. r >>= λ node. loaded_at new node w addr) (o >>= λ addr. r >>= λ node. loaded_at old node w addr))
-      × (at_node r (λ node. load_places node (slice_get new node) (byte_count w) o) ≡ at_node r (λ node. load_places node (slice_get old node) (byte_count w) o))
+      × (places_at_node r (λ node. load_places node (slice_get new node) (byte_count w) o) ≡ places_at_node r (λ node. load_places node (slice_get old node) (byte_count w) o))
   load_case None w o h = (refl, refl)
   load_case (Some node) w None h = (refl, no_address node (slice_get new node) (byte_count w) ∙ sym (no_address node (slice_get old node) (byte_count w)))
   load_case (Some node) w (Some addr) h =
@@ -232,40 +232,40 @@ module _ (old new : List Node) (even : length new ≡ length old)
       (λ a b is_a is_b all. load_same old new node a b is_a is_b w addr (memory_of_node old in_old node a is_a) (memory_of_node new in_new node b is_b) all) h in
       (loaded_is new node w addr ∙ r.0 ∙ sym (loaded_is old node w addr), r.1)
 
-  global_case : (r : Option ℕ) (n : ℕ) → AllByRecursion (SameAt old new) (at_node r (λ node. cond (nat_lt n (2 ^ 32)) (place.Global node n ∷ []) []))
+  global_case : (r : Option ℕ) (n : ℕ) → AllByRecursion (SameAtPlace old new) (places_at_node r (λ node. cond (nat_lt n (2 ^ 32)) (place.Global node n ∷ []) []))
       → ◌≡◌ {A = Option ℤ} (r >>= λ node. global_value new node n) (r >>= λ node. global_value old node n)
   global_case None n h = refl
   global_case (Some node) n h = by_low (nat_lt n (2 ^ 32)) h
     where
-      by_low : (b : Bool) → AllByRecursion (SameAt old new) (cond b (place.Global node n ∷ []) []) → cond b (global_at new node n) None ≡ cond b (global_at old node n) None
+      by_low : (b : Bool) → AllByRecursion (SameAtPlace old new) (cond b (place.Global node n ∷ []) []) → cond b (global_at new node n) None ≡ cond b (global_at old node n) None
       by_low true same = same.0
       by_low false same = refl
 
-  clock_case : (r : Option ℕ) → AllByRecursion (SameAt old new) (at_node r (λ node. place.Motion node ∷ [])) → ◌≡◌ {A = Option ℤ} (r >>= node_clock new) (r >>= node_clock old)
+  clock_case : (r : Option ℕ) → AllByRecursion (SameAtPlace old new) (places_at_node r (λ node. place.Motion node ∷ [])) → ◌≡◌ {A = Option ℤ} (r >>= node_clock new) (r >>= node_clock old)
   clock_case None h = refl
   clock_case (Some node) h = h.0.0
 
-  events_case : (r : Option ℕ) → AllByRecursion (SameAt old new) (at_node r (λ node. place.Motion node ∷ [])) → ◌≡◌ {A = Option ℤ} (r >>= events_at new) (r >>= events_at old)
+  events_case : (r : Option ℕ) → AllByRecursion (SameAtPlace old new) (places_at_node r (λ node. place.Motion node ∷ [])) → ◌≡◌ {A = Option ℤ} (r >>= events_at new) (r >>= events_at old)
   events_case None h = refl
   events_case (Some node) h = h.0.1
 
-  size_case : (r : Option ℕ) → AllByRecursion (SameAt old new) (at_node r (λ node. place.Size node ∷ []))
+  size_case : (r : Option ℕ) → AllByRecursion (SameAtPlace old new) (places_at_node r (λ node. place.Size node ∷ []))
       → ◌≡◌ {A = Option ℤ} (r >>= λ node. option_map pos (size_at new node)) (r >>= λ node. option_map pos (size_at old node))
   size_case None h = refl
   size_case (Some node) h = ap (option_map pos) h.0
 
-  agrees : (x : Expression) (each : Option ℕ) → AllByRecursion (SameAt old new) (reads_at so each x) → Same each x
+  agrees : (x : Expression) (each : Option ℕ) → AllByRecursion (SameAtPlace old new) (reads_at so each x) → Same each x
   agrees (Number n) each h = record { values = refl; reads = refl }
   agrees (Var name) each h = record { values = refl; reads = refl }
-  agrees (One op x) each h = let r = agrees x each h in record { values = ap (λ (o : Option ℤ). o >>= one op) r.values; reads = r.reads }
+  agrees (One op x) each h = let r = agrees x each h in record { values = ap (λ (o : Option ℤ). o >>= unary_value op) r.values; reads = r.reads }
   agrees (Two op x y) each h =
-      let parts = split_all (SameAt old new) (reads_at so each x) (cond (evaluates_right op (value_at so each x)) (reads_at so each y) []) h in
+      let parts = split_all (SameAtPlace old new) (reads_at so each x) (cond (evaluates_right op (value_at so each x)) (reads_at so each y) []) h in
       let left = agrees x each parts.0 in
       let right : evaluates_right op (value_at so each x) ≡ true → Same each y =
-      λ e. agrees y each (right_all (SameAt old new) (evaluates_right op (value_at so each x)) (reads_at so each y) parts.1 e) in
+      λ e. agrees y each (right_all (SameAtPlace old new) (evaluates_right op (value_at so each x)) (reads_at so each y) parts.1 e) in
       record {
         values =
-            ap (λ (o : Option ℤ). o >>= λ a. with_right op a (decided op a) (value_at sn each y)) left.values
+            ap (λ (o : Option ℤ). o >>= λ a. decided_with_right op a (decided_by_left op a) (value_at sn each y)) left.values
             ∙ right_values op (value_at so each x) (value_at so each y) (value_at sn each y) (λ e. (right e).values);
         reads =
             both_parts (reads_at sn each x) (reads_at so each x) _ _ left.reads
@@ -276,20 +276,20 @@ module _ (old new : List Node) (even : length new ≡ length old)
       let r = over_nodes x (range_with_len 0 (length old)) (λ k all. agrees x (Some k) all) h in
       record {
         values =
-            ap (λ (n : ℕ). all_numbers (map (λ (k : ℕ). value_at sn (Some k) x) (range_with_len 0 n)) >>= over agg) even
-            ∙ ap (λ (vs : List (Option ℤ)). all_numbers vs >>= over agg) r.0;
+            ap (λ (n : ℕ). all_numbers (map (λ (k : ℕ). value_at sn (Some k) x) (range_with_len 0 n)) >>= aggregate_over agg) even
+            ∙ ap (λ (vs : List (Option ℤ)). all_numbers vs >>= aggregate_over agg) r.0;
         reads = ap (λ (n : ℕ). flat_map (λ (k : ℕ). reads_at sn (Some k) x) (range_with_len 0 n)) even ∙ r.1;
       }
   agrees (Load name w x) each h =
-      let parts = split_all (SameAt old new) (reads_at so each x)
-      (at_node (resolved_node each name) (λ node. load_places node (slice_get old node) (byte_count w) (value_at so each x))) h in
+      let parts = split_all (SameAtPlace old new) (reads_at so each x)
+      (places_at_node (resolved_node each name) (λ node. load_places node (slice_get old node) (byte_count w) (value_at so each x))) h in
       let r = agrees x each parts.0 in
       let l = load_case (resolved_node each name) w (value_at so each x) parts.1 in
       record {
         values = ap (λ (o : Option ℤ). o >>= λ addr. resolved_node each name >>= λ node. loaded_at new node w addr) r.values ∙ l.0;
         reads =
             both_parts (reads_at sn each x) (reads_at so each x) _ _ r.reads
-            (ap (λ (o : Option ℤ). at_node (resolved_node each name) (λ node. load_places node (slice_get new node) (byte_count w) o)) r.values ∙ l.1);
+            (ap (λ (o : Option ℤ). places_at_node (resolved_node each name) (λ node. load_places node (slice_get new node) (byte_count w) o)) r.values ∙ l.1);
       }
   agrees (Global name n) each h = record { values = global_case (resolved_node each name) n h; reads = refl }
   agrees (Clock name) each h = record { values = clock_case (resolved_node each name) h; reads = refl }

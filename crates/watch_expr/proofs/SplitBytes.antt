@@ -5,18 +5,18 @@ use Rattle.std.proofs.lemmas.Bool.Decides.{nat_tests}
 use Rattle.std.proofs.lemmas.Grind.{common_steps}
 use Rattle.std.proofs.lemmas.List.{drop-drop, length-take-le}
 use Rattle.std.specs.Prelude.{slice_get}
-use Rattle.guest_memory.specs.Memory.{Memory, bytes_from, stretch}
+use Rattle.guest_memory.specs.Memory.{Memory, bytes_from, stretch_in_page}
 use Rattle.watch_expr.specs.View.{Node, ◌>>=◌, part_at, part_of, bytes_of_node, piece_in_memory}
 
 part_inside : (memory : Memory) (addr len : ℕ) (part : List ℕ) → Some part ≡ part_of memory addr len
-    → (addr + len ≤ length memory.bytes) × (part ≡ bytes_from memory addr (stretch addr len))
+    → (addr + len ≤ length memory.bytes) × (part ≡ bytes_from memory addr (stretch_in_page addr len))
 part_inside memory addr len part e = grind (arith, common_steps, nat_tests)
 
 piece_inside : (memory : Memory) (addr len : ℕ) → addr + len ≤ length memory.bytes → Some (bytes_from memory addr len) ≡ piece_in_memory memory addr len
 piece_inside memory addr len inside = grind (arith, common_steps, nat_tests)
 
 -- a part that is shorter than the range ends with its page, and the rest of 8 bytes at most lies in the next one
-rest_fits : (addr count n : ℕ) → n ≡ stretch addr count → n < count → count ≤ 8 → stretch (addr + n) (count - n) ≡ count - n
+rest_fits : (addr count n : ℕ) → n ≡ stretch_in_page addr count → n < count → count ≤ 8 → stretch_in_page (addr + n) (count - n) ≡ count - n
 rest_fits addr count n e short few = omega arith
 
 length-bytes : (bytes : List ℕ) (addr n count : ℕ) → n ≤ count → addr + count ≤ length bytes → length (take n (drop addr bytes)) ≡ n
@@ -38,8 +38,8 @@ in_memory memory addr count first rest zeros tail is_first is_rest short few =
     let a = part_inside memory addr count first is_first in
     let b = part_inside memory (addr + length first) (count - length first) rest is_rest in
     let n = length first in
-    let long : n ≡ stretch addr count = ap length a.1 ∙ length-bytes memory.bytes addr (stretch addr count) count (omega arith) a.0 in
-    let fits : stretch (addr + n) (count - n) ≡ count - n = rest_fits addr count n long short few in
+    let long : n ≡ stretch_in_page addr count = ap length a.1 ∙ length-bytes memory.bytes addr (stretch_in_page addr count) count (omega arith) a.0 in
+    let fits : stretch_in_page (addr + n) (count - n) ≡ count - n = rest_fits addr count n long short few in
     let the_first : first ≡ take n (drop addr memory.bytes) = a.1 ∙ ap (λ (k : ℕ). take k (drop addr memory.bytes)) (sym long) in
     let the_rest : rest ≡ take (count - n) (drop (addr + n) memory.bytes) = b.1 ∙ ap (λ (k : ℕ). take k (drop (addr + n) memory.bytes)) fits in
     let rest_long : length rest ≡ count - n = ap length the_rest ∙ length-bytes memory.bytes (addr + n) (count - n) (count - n) (omega arith) (omega (arith, a.0)) in

@@ -7,7 +7,7 @@ use Rattle.expression_text.specs.declared.expr.Binary.TheVariants as binary
 use Rattle.watch_expr.specs.declared.reads.Place.{Place}
 use Rattle.watch_expr.specs.declared.reads.Place.TheVariants as place
 use Rattle.expression_text.specs.Expression.{Expression, Number, Var, One, Two, Over, Load, Global, Clock, Events, Size}
-use Rattle.watch_expr.specs.Value.{Setting, byte_count, decided, resolved_node, setting, value, value_at}
+use Rattle.watch_expr.specs.Value.{ExpressionSetting, byte_count, decided_by_left, resolved_node, expression_setting, value, value_at}
 use Rattle.watch_expr.specs.View.{Node, node_clock, events_at, global_at, size_at}
 
 -- the operators that may leave their right side out
@@ -20,7 +20,7 @@ is_lazy _ = false
 -- operator evaluates both.
 abbrev pub evaluates_right : Binary → Option ℤ → Bool
 evaluates_right op None = not (is_lazy op)
-evaluates_right op (Some a) = is_none (decided op a)
+evaluates_right op (Some a) = is_none (decided_by_left op a)
 
 -- the pages from the one to the other, which are the same or follow one another
 abbrev pub two_pages : ℕ → ℕ → ℕ → List Place
@@ -38,43 +38,43 @@ load_places node (Some s) count None = []
 load_places node (Some s) count (Some (pos addr)) = pages_of node s.memory addr count
 load_places node (Some s) count (Some (negsuc _)) = place.Size node ∷ []
 
-abbrev pub at_node : Option ℕ → (ℕ → List Place) → List Place
-at_node None places = []
-at_node (Some node) places = places node
+abbrev pub places_at_node : Option ℕ → (ℕ → List Place) → List Place
+places_at_node None places = []
+places_at_node (Some node) places = places node
 
 -- What is read where `each` is the node of the aggregate around the expression: by all operands that are evaluated, and by an
 -- aggregate at every node.
-abbrev pub reads_at : Setting → Option ℕ → Expression → List Place
+abbrev pub reads_at : ExpressionSetting → Option ℕ → Expression → List Place
 reads_at s each (Number n) = []
 reads_at s each (Var name) = []
 reads_at s each (One op x) = reads_at s each x
 reads_at s each (Two op x y) = reads_at s each x ++ (if evaluates_right op (value_at s each x) then reads_at s each y else [])
 reads_at s each (Over agg x) = flat_map (λ node. reads_at s (Some node) x) (range_with_len 0 (length s.nodes))
 reads_at s each (Load name width x) =
-    reads_at s each x ++ at_node (resolved_node each name) (λ node. load_places node (slice_get s.nodes node) (byte_count width) (value_at s each x))
-reads_at s each (Global name n) = at_node (resolved_node each name) (λ node. if nat_lt n (2 ^ 32) then place.Global node n ∷ [] else [])
-reads_at s each (Clock name) = at_node (resolved_node each name) (λ node. place.Motion node ∷ [])
-reads_at s each (Events name) = at_node (resolved_node each name) (λ node. place.Motion node ∷ [])
-reads_at s each (Size name) = at_node (resolved_node each name) (λ node. place.Size node ∷ [])
+    reads_at s each x ++ places_at_node (resolved_node each name) (λ node. load_places node (slice_get s.nodes node) (byte_count width) (value_at s each x))
+reads_at s each (Global name n) = places_at_node (resolved_node each name) (λ node. if nat_lt n (2 ^ 32) then place.Global node n ∷ [] else [])
+reads_at s each (Clock name) = places_at_node (resolved_node each name) (λ node. place.Motion node ∷ [])
+reads_at s each (Events name) = places_at_node (resolved_node each name) (λ node. place.Motion node ∷ [])
+reads_at s each (Size name) = places_at_node (resolved_node each name) (λ node. place.Size node ∷ [])
 
 -- every variable is undef
 abbrev pub no_variables : List ℕ → Option ℤ
 no_variables name = None
 
 -- what an expression without variables reads
-abbrev pub reads : List Node → Expression → List Place
-reads nodes x = reads_at (setting nodes no_variables) None x
+abbrev pub reads_of_expression : List Node → Expression → List Place
+reads_of_expression nodes x = reads_at (expression_setting nodes no_variables) None x
 
 -- a global whose number is below 2^32, or another place
-abbrev pub is_low : Place → Bool
-is_low (place.Page node page) = true
-is_low (place.Global node n) = nat_lt n (2 ^ 32)
-is_low (place.Motion node) = true
-is_low (place.Size node) = true
+abbrev pub is_low_place : Place → Bool
+is_low_place (place.Page node page) = true
+is_low_place (place.Global node n) = nat_lt n (2 ^ 32)
+is_low_place (place.Motion node) = true
+is_low_place (place.Size node) = true
 
 -- every global that is read has such a number
 abbrev pub ReadsLow : Type 0
-ReadsLow = (nodes : List Node) (x : Expression) → list_all is_low (reads nodes x) ≡ true
+ReadsLow = (nodes : List Node) (x : Expression) → list_all is_low_place (reads_of_expression nodes x) ≡ true
 
 -- ---- where nothing of it changed
 
@@ -84,13 +84,13 @@ pub record SamePage (old new : Memory) (page : ℕ) : Type 0 where
   pub bytes : bytes_from new (4096 * page) 4096 ≡ bytes_from old (4096 * page) 4096
 
 -- the place is the same in both states; of a page this is said only where it lies in the earlier memory
-abbrev pub SameAt : List Node → List Node → Place → Type 0
-SameAt old new (place.Page node page) =
+abbrev pub SameAtPlace : List Node → List Node → Place → Type 0
+SameAtPlace old new (place.Page node page) =
     (a b : Node) → slice_get old node ≡ Some a → slice_get new node ≡ Some b
     → 4096 * page + 4096 ≤ length a.memory.bytes → SamePage a.memory b.memory page
-SameAt old new (place.Global node n) = global_at new node n ≡ global_at old node n
-SameAt old new (place.Motion node) = (node_clock new node ≡ node_clock old node) × (events_at new node ≡ events_at old node)
-SameAt old new (place.Size node) = size_at new node ≡ size_at old node
+SameAtPlace old new (place.Global node n) = global_at new node n ≡ global_at old node n
+SameAtPlace old new (place.Motion node) = (node_clock new node ≡ node_clock old node) × (events_at new node ≡ events_at old node)
+SameAtPlace old new (place.Size node) = size_at new node ≡ size_at old node
 
 -- each node's memory is one
 abbrev pub AreMemories : List Node → Type 0
@@ -99,5 +99,5 @@ AreMemories nodes = AllByRecursion (λ (s : Node). IsMemory s.memory) nodes
 -- where all that an expression reads is the same, its value and what it reads are the same
 abbrev pub ReadsTell : Type 0
 ReadsTell = (old new : List Node) (x : Expression) → length new ≡ length old → AreMemories old → AreMemories new
-    → AllByRecursion (SameAt old new) (reads old x)
-    → (value new no_variables x ≡ value old no_variables x) × (reads new x ≡ reads old x)
+    → AllByRecursion (SameAtPlace old new) (reads_of_expression old x)
+    → (value new no_variables x ≡ value old no_variables x) × (reads_of_expression new x ≡ reads_of_expression old x)

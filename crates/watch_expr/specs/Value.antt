@@ -17,7 +17,7 @@ use Rattle.expression_text.specs.Expression.{Expression, Number, Var, One, Two, 
 use Rattle.watch_expr.specs.View.{Node, ◌>>=◌, node_clock, events_at, global_at, bytes_of_node, size_at}
 
 -- what an expression is about: the states of the nodes, and the variables by their names, None for undef
-pub record Setting : Type 0 where
+pub record ExpressionSetting : Type 0 where
   pub nodes : List Node
   pub variables : List ℕ → Option ℤ
 
@@ -29,8 +29,8 @@ is_i64 (pos n) = nat_lt n (2 ^ 63)
 is_i64 (negsuc n) = nat_lt n (2 ^ 63)
 
 -- a result, undef where it is out of range
-abbrev pub fit : ℤ → Option ℤ
-fit z = if is_i64 z then Some z else None
+abbrev pub fit_value : ℤ → Option ℤ
+fit_value z = if is_i64 z then Some z else None
 
 abbrev pub is_zero : ℤ → Bool
 is_zero (pos n) = n == 0
@@ -41,9 +41,9 @@ truth_value b = if b then pos 1 else pos 0
 
 -- ---- operators
 
-abbrev pub one : Unary → ℤ → Option ℤ
-one unary.Minus a = fit (neg_ℤ a)
-one unary.Not a = Some (truth_value (is_zero a))
+abbrev pub unary_value : Unary → ℤ → Option ℤ
+unary_value unary.Minus a = fit_value (neg_ℤ a)
+unary_value unary.Not a = Some (truth_value (is_zero a))
 
 abbrev pub is_least : ℤ → Bool
 is_least (pos n) = false
@@ -70,22 +70,22 @@ two binary.Lt a b = Some (truth_value (int_lt a b))
 two binary.Le a b = Some (truth_value (int_le a b))
 two binary.Gt a b = Some (truth_value (int_lt b a))
 two binary.Ge a b = Some (truth_value (int_le b a))
-two binary.Add a b = fit (a +ℤ b)
-two binary.Sub a b = fit (a -ℤ b)
-two binary.Mul a b = fit (a *ℤ b)
+two binary.Add a b = fit_value (a +ℤ b)
+two binary.Sub a b = fit_value (a -ℤ b)
+two binary.Mul a b = fit_value (a *ℤ b)
 two binary.Div a b = if can_divide a b then Some (int_div a b) else None
 two binary.Rem a b = if can_divide a b then Some (int_rem a b) else None
 
 -- what the left side alone decides: `&&` is 0 where it is 0, and `||` is 1 where it is another number
-abbrev pub decided : Binary → ℤ → Option ℤ
-decided binary.And a = if is_zero a then Some (pos 0) else None
-decided binary.Or a = if is_zero a then None else Some (pos 1)
-decided _ a = None
+abbrev pub decided_by_left : Binary → ℤ → Option ℤ
+decided_by_left binary.And a = if is_zero a then Some (pos 0) else None
+decided_by_left binary.Or a = if is_zero a then None else Some (pos 1)
+decided_by_left _ a = None
 
 -- the right side matters only where the left one does not decide
-abbrev pub with_right : Binary → ℤ → Option ℤ → Option ℤ → Option ℤ
-with_right op a (Some result) right = Some result
-with_right op a None right = right >>= λ b. two op a b
+abbrev pub decided_with_right : Binary → ℤ → Option ℤ → Option ℤ → Option ℤ
+decided_with_right op a (Some result) right = Some result
+decided_with_right op a None right = right >>= λ b. two op a b
 
 -- ---- aggregates
 
@@ -95,11 +95,11 @@ all_numbers [] = Some []
 all_numbers (None ∷ values) = None
 all_numbers (Some z ∷ values) = all_numbers values >>= λ numbers. Some (z ∷ numbers)
 
-abbrev pub over : Agg → List ℤ → Option ℤ
-over agg.Sum numbers = fit (fold ◌+ℤ◌ (pos 0) numbers)
-over agg.Min numbers = reduce int_min numbers
-over agg.Max numbers = reduce int_max numbers
-over agg.Count numbers = Some (pos (count_by (λ z. not (is_zero z)) numbers))
+abbrev pub aggregate_over : Agg → List ℤ → Option ℤ
+aggregate_over agg.Sum numbers = fit_value (fold ◌+ℤ◌ (pos 0) numbers)
+aggregate_over agg.Min numbers = reduce int_min numbers
+aggregate_over agg.Max numbers = reduce int_max numbers
+aggregate_over agg.Count numbers = Some (pos (count_by (λ z. not (is_zero z)) numbers))
 
 -- ---- places
 
@@ -139,22 +139,22 @@ global_value nodes node n = if nat_lt n (2 ^ 32) then global_at nodes node n els
 -- ---- expressions
 
 -- the value where `each` is the node of the aggregate around it
-abbrev pub value_at : Setting → Option ℕ → Expression → Option ℤ
-value_at s each (Number n) = fit (pos n)
+abbrev pub value_at : ExpressionSetting → Option ℕ → Expression → Option ℤ
+value_at s each (Number n) = fit_value (pos n)
 value_at s each (Var name) = s.variables name
-value_at s each (One op x) = value_at s each x >>= one op
-value_at s each (Two op x y) = value_at s each x >>= λ a. with_right op a (decided op a) (value_at s each y)
-value_at s each (Over agg x) = all_numbers (map (λ node. value_at s (Some node) x) (range_with_len 0 (length s.nodes))) >>= over agg
+value_at s each (One op x) = value_at s each x >>= unary_value op
+value_at s each (Two op x y) = value_at s each x >>= λ a. decided_with_right op a (decided_by_left op a) (value_at s each y)
+value_at s each (Over agg x) = all_numbers (map (λ node. value_at s (Some node) x) (range_with_len 0 (length s.nodes))) >>= aggregate_over agg
 value_at s each (Load name width x) = value_at s each x >>= λ addr. resolved_node each name >>= λ node. loaded_at s.nodes node width addr
 value_at s each (Global name n) = resolved_node each name >>= λ node. global_value s.nodes node n
 value_at s each (Clock name) = resolved_node each name >>= node_clock s.nodes
 value_at s each (Events name) = resolved_node each name >>= events_at s.nodes
 value_at s each (Size name) = resolved_node each name >>= λ node. option_map pos (size_at s.nodes node)
 
-abbrev pub setting : List Node → (List ℕ → Option ℤ) → Setting
-setting nodes variables = record { nodes = nodes; variables = variables }
+abbrev pub expression_setting : List Node → (List ℕ → Option ℤ) → ExpressionSetting
+expression_setting nodes variables = record { nodes = nodes; variables = variables }
 
 -- The value of an expression. A node that isn't there, and the name of each node outside of an aggregate,
 -- have only undef places.
 abbrev pub value : List Node → (List ℕ → Option ℤ) → Expression → Option ℤ
-value nodes variables x = value_at (setting nodes variables) None x
+value nodes variables x = value_at (expression_setting nodes variables) None x

@@ -1,6 +1,6 @@
 -- What is seen of the nodes of a group.
 use Rattle.std.specs.Prelude.{ℕ, List, slice_get, Option, Some, None, option_map, option_and_then, ℤ, if◌then◌else◌}
-use Rattle.guest_memory.specs.Memory.{Memory, bytes_from, is_inside, size_of, stretch}
+use Rattle.guest_memory.specs.Memory.{Memory, bytes_from, is_inside, size_of, stretch_in_page}
 
 -- One node's state: its memory, its globals as signed numbers, the clock of its last event, or 0, and how
 -- many events it has had.
@@ -18,7 +18,7 @@ o >>= f = option_and_then f o
 
 -- the longest first part of a range that stays in one watch page, and None where the range doesn't lie in memory
 abbrev pub part_of : Memory → ℕ → ℕ → Option (List ℕ)
-part_of memory addr len = if is_inside memory addr len then Some (bytes_from memory addr (stretch addr len)) else None
+part_of memory addr len = if is_inside memory addr len then Some (bytes_from memory addr (stretch_in_page addr len)) else None
 
 abbrev pub part_at : List Node → ℕ → ℕ → ℕ → Option (List ℕ)
 part_at nodes node addr len = slice_get nodes node >>= λ s. part_of s.memory addr len

@@ -1,8 +1,8 @@
 // The value of an expression together with what it is read from.
 ghost use Rattle.std.specs.Prelude.{◌≡◌, ◌+◌, ◌++◌, IfOk, OnOk, option_and_then};
 ghost use Rattle.expression_text.specs.Expression.{expression_of};
-ghost use Rattle.watch_expr.specs.Reads.{no_variables, reads, reads_at};
-ghost use Rattle.watch_expr.specs.Value.{setting, value, value_at};
+ghost use Rattle.watch_expr.specs.Reads.{no_variables, reads_of_expression, reads_at};
+ghost use Rattle.watch_expr.specs.Value.{expression_setting, value, value_at};
 
 mod leaves;
 mod operands;
@@ -44,7 +44,7 @@ pub fn eval_reads<V: View, L: Ledger>(
     steps: &mut Steps<L>,
 ) -> Result<Reading, AllocError>
     ensures value { IfOk result (λ r. r.value ≡ value (V.nodes v.now) no_variables (expression_of e.now)) }
-    ensures places { IfOk result (λ r. r.places.items ≡ reads (V.nodes v.now) (expression_of e.now)) }
+    ensures places { IfOk result (λ r. r.places.items ≡ reads_of_expression (V.nodes v.now) (expression_of e.now)) }
     ensures steps { steps.new ≡ steps.old + 1 }
 {
     steps.tick();
@@ -60,8 +60,8 @@ fn read<V: View>(
     each: Option<u32>,
     places: &mut Vec<Place>,
 ) -> Result<Option<i64>, AllocError>
-    ensures value { IfOk result (λ a. a ≡ value_at (setting (V.nodes v.now) no_variables) each (expression_of e.now)) }
-    ensures places { OnOk result (places.new.items ≡ places.old.items ++ reads_at (setting (V.nodes v.now) no_variables) each (expression_of e.now)) }
+    ensures value { IfOk result (λ a. a ≡ value_at (expression_setting (V.nodes v.now) no_variables) each (expression_of e.now)) }
+    ensures places { OnOk result (places.new.items ≡ places.old.items ++ reads_at (expression_setting (V.nodes v.now) no_variables) each (expression_of e.now)) }
 {
     match e {
         Expr::Number(n) => Ok(number(*n)),

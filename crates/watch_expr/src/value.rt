@@ -1,7 +1,7 @@
 // The value of an expression.
 ghost use Rattle.std.specs.Prelude.{◌≡◌};
 ghost use Rattle.expression_text.specs.Expression.{expression_of};
-ghost use Rattle.watch_expr.specs.Value.{setting, value, value_at};
+ghost use Rattle.watch_expr.specs.Value.{expression_setting, value, value_at};
 
 pub(crate) mod loads;
 pub(crate) mod operators;
@@ -9,7 +9,7 @@ pub(crate) mod places;
 pub(crate) mod tally;
 
 use crate::value::loads::load;
-use crate::value::operators::{decided, number, one, two};
+use crate::value::operators::{decided_by_left, number, two, unary_value};
 use crate::value::places::{clock, events, global, node_of, size};
 use crate::value::tally::Tally;
 use crate::view::{Scope, View};
@@ -26,18 +26,18 @@ pub fn eval<V: View, S: Scope>(e: &Expr, v: &V, scope: &S) -> Option<i64>
 // The value where `each` is the node of the aggregate around the expression.
 #[cycle(eval)]
 fn eval_at<V: View, S: Scope>(e: &Expr, v: &V, scope: &S, each: Option<u32>) -> Option<i64>
-    ensures { result ≡ value_at (setting (V.nodes v.now) (S.variables scope.now)) each (expression_of e.now) }
+    ensures { result ≡ value_at (expression_setting (V.nodes v.now) (S.variables scope.now)) each (expression_of e.now) }
 {
     match e {
         Expr::Number(n) => number(*n),
         Expr::Var(name) => scope.value(name.as_slice()),
         Expr::One(op, x) => {
             let a = eval_at(x, v, scope, each)?;
-            one(*op, a)
+            unary_value(*op, a)
         }
         Expr::Two(op, x, y) => {
             let a = eval_at(x, v, scope, each)?;
-            match decided(*op, a) {
+            match decided_by_left(*op, a) {
                 Some(result) => Some(result),
                 None => {
                     let b = eval_at(y, v, scope, each)?;

@@ -1,14 +1,14 @@
 // Frames: a thread's start, calls of its functions, and the ends of these.
 ghost use Rattle.std.specs.Prelude.{◌≡◌, ◌+◌, ◌≤◌, [], ◌++◌, length, IfOk, OnOk, Some, None, if◌then◌else◌, IsTrue, false, take};
-ghost use Rattle.wasm_stack.specs.Thread.{arguments, at_start, called, called_with, left, without};
+ghost use Rattle.wasm_stack.specs.Thread.{arguments, function_at_start, called_function, called_with, left_frame, without_operands};
 ghost use Rattle.wasm_types.specs.Locals.{zeros};
 ghost use Rattle.wasm_types.specs.Modules.{func_type};
 ghost use Rattle.std.specs.Vec.{vec_capacity};
-ghost use Rattle.wasm_stack.specs.Limits.{Within};
+ghost use Rattle.wasm_stack.specs.Limits.{ThreadWithin};
 ghost use Rattle.wasm_stack.specs.After.{Ends, Goes, Stops};
 ghost use Rattle.wasm_stack.specs.Control.{leave_with_top};
 
-use super::{FRAME_LIMIT, SIZE_LIMIT, Stack, StackFrame, push_to};
+use super::{MOST_FRAMES, MOST_THREAD_SIZE, Stack, StackFrame, push_to};
 use std::alloc::AllocError;
 use wasm_types::{Callee, FuncType, Slot, ValType, result_of};
 
@@ -20,7 +20,7 @@ impl<'m> Stack<'m> {
         arguments: Vec<Slot>,
         gives: Option<ValType>,
     ) -> Result<Stack<'m>, AllocError>
-        ensures { IfOk result (λ s. s ≡ at_start [] index callee.entry.body (arguments.items ++ zeros callee.entry.locals) gives) }
+        ensures { IfOk result (λ s. s ≡ function_at_start [] index callee.entry.body (arguments.items ++ zeros callee.entry.locals) gives) }
     {
         let alloc = *arguments.allocator();
         let mut locals = arguments;
@@ -88,10 +88,10 @@ impl<'m> Stack<'m> {
         above: usize,
         few: bool,
     ) -> bool
-        requires within { Within self.old }
+        requires within { ThreadWithin self.old }
         requires above { above ≤ length self.old.stack }
-        ensures entered { IsTrue result → called (without above self.old) index callee.entry (func_type typing.now) ≡ Some self.new }
-        ensures within { Within self.new }
+        ensures entered { IsTrue result → called_function (without_operands above self.old) index callee.entry (func_type typing.now) ≡ Some self.new }
+        ensures within { ThreadWithin self.new }
         ensures same { result ≡ false → self.new ≡ self.old }
     {
         let n = typing.params.len();
@@ -100,12 +100,12 @@ impl<'m> Stack<'m> {
         };
         let height = self.operands.len() - above;
         let locals_from = self.locals.len();
-        let left = SIZE_LIMIT - self.labels.len() - locals_from;
+        let left = MOST_THREAD_SIZE - self.labels.len() - locals_from;
         if height - self.here.floor < n
             || starts.len() > left
             || height > left - starts.len()
             || self.locals.capacity() - locals_from < n + starts.len()
-            || self.callers.len() + 1 >= FRAME_LIMIT
+            || self.callers.len() + 1 >= MOST_FRAMES
             || self.callers.len() >= self.callers.capacity()
         {
             return false;
@@ -129,7 +129,7 @@ impl<'m> Stack<'m> {
     /// The frame that waits for the innermost, if there is one.
     #[inline(always)]
     pub fn leave(&mut self) -> bool
-        ensures left { left self.old ≡ (if result then Some self.new else None) }
+        ensures left { left_frame self.old ≡ (if result then Some self.new else None) }
         ensures same { result ≡ false → self.new ≡ self.old }
     {
         match self.callers.pop() {
@@ -185,7 +185,7 @@ fn append_all(items: &mut Vec<Slot>, more: &[Slot]) -> Result<(), AllocError>
 
 /// A copy is made in pieces of so many values: what is far larger the C library copies by a string instruction, which is
 /// no faster, and which valgrind counts for each byte.
-const PIECE: usize = 64;
+const COPIED_PIECE: usize = 64;
 
 // These values after the others, for which there is room.
 #[inline(always)]
@@ -211,7 +211,7 @@ fn append_pieces(items: &mut Vec<Slot>, more: &[Slot])
 {
     let mut rest = more;
     while rest.len() > 0 {
-        let n = rest.len().min(PIECE);
+        let n = rest.len().min(COPIED_PIECE);
         let copied = items.extend_from_slice(&rest[..n]);
         let is_ok = copied.is_ok();
         prove!(is_ok);

@@ -1,6 +1,6 @@
 // The places of a node that one part of an expression reads.
 ghost use Rattle.std.specs.Prelude.{◌≡◌, ◌+◌, ◌*◌, ◌<◌, ◌≤◌, ◌^◌, ◌++◌, ◌∷◌, [], Some, nat_lt, length, slice_get, if◌then◌else◌, OnOk};
-ghost use Rattle.watch_expr.specs.Reads.{at_node, load_places, two_pages};
+ghost use Rattle.watch_expr.specs.Reads.{places_at_node, load_places, two_pages};
 ghost use Rattle.watch_expr.specs.declared.reads.Place.TheVariants as place;
 
 use crate::reads::Place;
@@ -18,7 +18,7 @@ pub(crate) fn push_load<V: View>(
 ) -> Result<(), AllocError>
     requires some { 0 < count }
     requires few { count ≤ 8 }
-    ensures { OnOk result (places.new.items ≡ places.old.items ++ at_node node (λ k. load_places k (slice_get (V.nodes v.now) k) count addr)) }
+    ensures { OnOk result (places.new.items ≡ places.old.items ++ places_at_node node (λ k. load_places k (slice_get (V.nodes v.now) k) count addr)) }
 {
     match (within(v, node), addr) {
         (Some(node), Some(addr)) => push_bytes(v, node, count, addr, places),
@@ -68,7 +68,7 @@ pub(crate) fn push_global(
     n: u64,
     places: &mut Vec<Place>,
 ) -> Result<(), AllocError>
-    ensures { OnOk result (places.new.items ≡ places.old.items ++ at_node node (λ k. if nat_lt n (2 ^ 32) then place.Global k n ∷ [] else [])) }
+    ensures { OnOk result (places.new.items ≡ places.old.items ++ places_at_node node (λ k. if nat_lt n (2 ^ 32) then place.Global k n ∷ [] else [])) }
 {
     match node {
         Some(node) if n < 1 << 32 => push(Place::Global { node, n }, places),
@@ -77,7 +77,7 @@ pub(crate) fn push_global(
 }
 
 pub(crate) fn push_motion(node: Option<u32>, places: &mut Vec<Place>) -> Result<(), AllocError>
-    ensures { OnOk result (places.new.items ≡ places.old.items ++ at_node node (λ k. place.Motion k ∷ [])) }
+    ensures { OnOk result (places.new.items ≡ places.old.items ++ places_at_node node (λ k. place.Motion k ∷ [])) }
 {
     match node {
         Some(node) => push(Place::Motion { node }, places),
@@ -86,7 +86,7 @@ pub(crate) fn push_motion(node: Option<u32>, places: &mut Vec<Place>) -> Result<
 }
 
 pub(crate) fn push_size(node: Option<u32>, places: &mut Vec<Place>) -> Result<(), AllocError>
-    ensures { OnOk result (places.new.items ≡ places.old.items ++ at_node node (λ k. place.Size k ∷ [])) }
+    ensures { OnOk result (places.new.items ≡ places.old.items ++ places_at_node node (λ k. place.Size k ∷ [])) }
 {
     match node {
         Some(node) => push(Place::Size { node }, places),

@@ -1,19 +1,19 @@
 // Operators and aggregates of operands that may be undef.
 ghost use Rattle.std.specs.Prelude.{◌≡◌, option_and_then, IfSome};
 ghost use Rattle.watch_expr.specs.Reads.{evaluates_right};
-ghost use Rattle.watch_expr.specs.Value.{decided, loaded_at, one, with_right};
-ghost use Rattle.watch_expr.specs.inside.ValueTally.{HasRoom, added_if, total};
+ghost use Rattle.watch_expr.specs.Value.{decided_by_left, loaded_at, unary_value, decided_with_right};
+ghost use Rattle.watch_expr.specs.inside.ValueTally.{HasTallyRoomForValue, added_value_if, total};
 
 use crate::value::loads::load;
-use crate::value::operators::{decided, one, two};
+use crate::value::operators::{decided_by_left, two, unary_value};
 use crate::value::tally::Tally;
 use crate::view::View;
 use expression_text::{Binary, Unary, Width};
 
 pub(crate) fn one_of(op: Unary, a: Option<i64>) -> Option<i64>
-    ensures { result ≡ option_and_then (one op) a }
+    ensures { result ≡ option_and_then (unary_value op) a }
 {
-    one(op, a?)
+    unary_value(op, a?)
 }
 
 // With this value of the left side the right one is evaluated.
@@ -21,16 +21,16 @@ pub(crate) fn evaluates_right(op: Binary, a: Option<i64>) -> bool
     ensures { result ≡ evaluates_right op a }
 {
     match a {
-        Some(a) => decided(op, a).is_none(),
+        Some(a) => decided_by_left(op, a).is_none(),
         None => !matches!(op, Binary::And | Binary::Or),
     }
 }
 
 pub(crate) fn two_of(op: Binary, a: Option<i64>, b: Option<i64>) -> Option<i64>
-    ensures { result ≡ option_and_then (λ a. with_right op a (decided op a) b) a }
+    ensures { result ≡ option_and_then (λ a. decided_with_right op a (decided_by_left op a) b) a }
 {
     let a = a?;
-    match decided(op, a) {
+    match decided_by_left(op, a) {
         Some(result) => Some(result),
         None => two(op, a, b?),
     }
@@ -48,8 +48,8 @@ pub(crate) fn load_of<V: View>(
 }
 
 pub(crate) fn add_if(tally: Option<Tally>, a: Option<i64>) -> Option<Tally>
-    requires { IfSome tally HasRoom }
-    ensures { result ≡ added_if tally a }
+    requires { IfSome tally HasTallyRoomForValue }
+    ensures { result ≡ added_value_if tally a }
 {
     Some(tally?.add(a?))
 }

@@ -1,17 +1,17 @@
 // What the operators make of numbers.
 ghost use Rattle.std.specs.Prelude.{◌≡◌, pos};
-ghost use Rattle.watch_expr.specs.Value.{decided, fit, is_zero, one, truth_value, two};
+ghost use Rattle.watch_expr.specs.Value.{decided_by_left, fit_value, is_zero, unary_value, truth_value, two};
 
 use expression_text::{Binary, Unary};
 
 pub(crate) fn number(n: u64) -> Option<i64>
-    ensures { result ≡ fit (pos n) }
+    ensures { result ≡ fit_value (pos n) }
 {
     i64::try_from(n).ok()
 }
 
-pub(crate) fn one(op: Unary, a: i64) -> Option<i64>
-    ensures { result ≡ one op a }
+pub(crate) fn unary_value(op: Unary, a: i64) -> Option<i64>
+    ensures { result ≡ unary_value op a }
 {
     match op {
         Unary::Minus => a.checked_neg(),
@@ -20,8 +20,8 @@ pub(crate) fn one(op: Unary, a: i64) -> Option<i64>
 }
 
 // What the left side alone decides.
-pub(crate) fn decided(op: Binary, a: i64) -> Option<i64>
-    ensures { result ≡ decided op a }
+pub(crate) fn decided_by_left(op: Binary, a: i64) -> Option<i64>
+    ensures { result ≡ decided_by_left op a }
 {
     match op {
         Binary::And if is_zero(a) => Some(0),

@@ -1,7 +1,7 @@
 // What an aggregate has made of the values at the nodes so far.
 ghost use Rattle.std.specs.Prelude.{◌≡◌};
 ghost use Rattle.std.specs.Int.{int_max, int_min};
-ghost use Rattle.watch_expr.specs.inside.ValueTally.{HasRoom, added, best, empty_tally, total};
+ghost use Rattle.watch_expr.specs.inside.ValueTally.{HasTallyRoomForValue, added_value, best_value, empty_tally, total};
 
 use crate::value::operators::is_zero;
 use expression_text::Agg;
@@ -29,8 +29,8 @@ impl Tally {
 
     // With one more value.
     pub(crate) fn add(self, value: i64) -> Tally
-        requires { HasRoom self }
-        ensures { result ≡ added self value }
+        requires { HasTallyRoomForValue self }
+        ensures { result ≡ added_value self value }
     {
         match self {
             Tally::Sum(sum) => Tally::Sum(sum + i128::from(value)),
@@ -53,7 +53,7 @@ impl Tally {
 }
 
 fn smaller(least: Option<i64>, value: i64) -> i64
-    ensures { result ≡ best int_min least value }
+    ensures { result ≡ best_value int_min least value }
 {
     match least {
         Some(least) if least <= value => least,
@@ -62,7 +62,7 @@ fn smaller(least: Option<i64>, value: i64) -> i64
 }
 
 fn larger(greatest: Option<i64>, value: i64) -> i64
-    ensures { result ≡ best int_max greatest value }
+    ensures { result ≡ best_value int_max greatest value }
 {
     match greatest {
         Some(greatest) if greatest > value => greatest,
@@ -71,8 +71,8 @@ fn larger(greatest: Option<i64>, value: i64) -> i64
 }
 
 fn counted(count: u32, value: i64) -> u32
-    requires { HasRoom (Tally.Count count) }
-    ensures { Tally.Count result ≡ added (Tally.Count count) value }
+    requires { HasTallyRoomForValue (Tally.Count count) }
+    ensures { Tally.Count result ≡ added_value (Tally.Count count) value }
 {
     if is_zero(value) { count } else { count + 1 }
 }

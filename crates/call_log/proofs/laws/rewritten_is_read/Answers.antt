@@ -2,7 +2,7 @@ use Rattle.std.proofs.Common.{List, [], refl}
 use Rattle.call_log.specs.declared.version.Version.TheVariants.{Two}
 use Rattle.call_log.specs.Entry.{encodings}
 use Rattle.call_log.specs.Head.{Head, IsHead}
-use Rattle.call_log.specs.Log.{Unread, unread_after_head, rewritten}
+use Rattle.call_log.specs.Log.{Unread, unread_after_head, rewritten_log}
 use Rattle.call_log.proofs.laws.rewritten_is_read.Goals as goal
 
 pub returns : goal.returns
@@ -14,7 +14,7 @@ returns c = λ head es is shaped.
     let holds = (exact.all left es []).0 (exact.holds_written Two 0 es shaped) in
     record {
       left = left;
-      found = (exact.heads (rewritten head es) newer left).1 (in_range, (refl, refl));
+      found = (exact.heads (rewritten_log head es) newer left).1 (in_range, (refl, refl));
       entries = holds.0;
       rest = holds.1;
     }

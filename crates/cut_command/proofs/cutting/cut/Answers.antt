@@ -2,7 +2,7 @@ use Rattle.std.proofs.Common.{Ok, Err, map, subst, sym}
 use Rattle.std.proofs.lemmas.Result.{err_from_is_err_and}
 use Rattle.command_run.specs.declared.refusal.WorkText.TheVariants as answered
 use Rattle.command_run.specs.CountLaws.{counts_still}
-use Rattle.command_run.specs.FileLaws.{some_made}
+use Rattle.command_run.specs.FileLaws.{some_files_made}
 use Rattle.command_run.specs.OutcomeLaws.{refused_makes, refused_tells}
 use Rattle.log_pairs.specs.Seen.{WereLoaded, pair_of}
 use Rattle.cut_command.specs.Cut.{cut_outcome}
@@ -86,7 +86,7 @@ returns-in_err-write_cuts-clause-makes g c =
     let e = c.in_err-write_cuts.field-0.0 in
     rw (p.1, p.2)
     (work_makes c.args.process c.args.event pairs told c.in_ok-past.past works (g.F.Files.told c.write_cuts.new.files) (Err e)
-    (some_made e _ _ _ (files_made (Err e) c.deref-3.result.now c.in_ok-past.past.fronts.items (g.F.Files.told c.load_all.new.files) told (g.F.Files.told c.write_cuts.new.files) c.deref-3.ensures.value c.load_all.ensures.same c.in_err-write_cuts.ensures.made)))
+    (some_files_made e _ _ _ (files_made (Err e) c.deref-3.result.now c.in_ok-past.past.fronts.items (g.F.Files.told c.load_all.new.files) told (g.F.Files.told c.write_cuts.new.files) c.deref-3.ensures.value c.load_all.ensures.same c.in_err-write_cuts.ensures.made)))
 
 pub returns-clause-tells : goal.returns-clause-tells
 returns-clause-tells g c =

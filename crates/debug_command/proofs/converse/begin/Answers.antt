@@ -3,7 +3,7 @@ use Rattle.std.specs.Prelude.{codes}
 use Rattle.std.specs.Io.KnownBytes.{append_known}
 use Rattle.std.proofs.lemmas.Result.{err_from_is_err_and}
 use Rattle.group_state.specs.Place.{GroupPlace}
-use Rattle.friday_shell.specs.Session.{opening}
+use Rattle.friday_shell.specs.Session.{opening_session}
 use Rattle.debug_command.proofs.WholeSessions.{opens, opens_failed, opens_memory}
 use Rattle.debug_command.proofs.converse.begin.Goals as goal
 
@@ -28,6 +28,6 @@ returns-in_err-write_whole-clause-said g c =
 pub returns-clause-said : goal.returns-clause-said
 returns-clause-said g c =
     let text : c.bytes.result.now ≡ codes "at 0\n" = c.bytes.ensures ∙ c.in_ok-session.ensures.text in
-    let state : c.in_ok-session.session ≡ opening c.args.parts.items = c.in_ok-session.ensures.session ∙ ap (λ (p : GroupPlace). opening p.start) c.in_ok-group.ensures in
+    let state : c.in_ok-session.session ≡ opening_session c.args.parts.items = c.in_ok-session.ensures.session ∙ ap (λ (p : GroupPlace). opening_session p.start) c.in_ok-group.ensures in
     rw c.new.ensures.items (opens c.args.parts.items (g.K.Sink.taken c.args.out.now) (g.K.Sink.taken c.write_whole.new.out) c.in_ok-session.session state
     (c.in_ok-write_whole.ensures.ok ∙ ap (append_known (g.K.Sink.taken c.args.out.now)) text))

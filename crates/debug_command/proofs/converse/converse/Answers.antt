@@ -1,5 +1,5 @@
 use Rattle.std.proofs.Common.{◌∙◌, ap}
-use Rattle.command_run.specs.Call.{said_after}
+use Rattle.command_run.specs.Call.{failed_says_after}
 use Rattle.debug_command.specs.Conversation.{terminal_at}
 use Rattle.debug_command.proofs.SessionEnds.{conversed_done, conversed_large, conversed_memory, conversed_read, conversed_write}
 use Rattle.debug_command.proofs.converse.converse.Goals as goal
@@ -21,7 +21,7 @@ returns-in-Err-TooLarge g c =
     let e = rw c.in-Err-TooLarge.field-0-is at c.in-Err-TooLarge.ensures in
     let s = c.say_refused.ensures in
     conversed_large c.args.parts.items (terminal c.args.io.now) (terminal c.say_refused.new.out) (terminal c.hold.new.io) c.say_refused.result e.said s.heard e.reads s.status s.text s.read_fault
-    (s.counted ∙ ap (λ n. said_after n c.say_refused.result) e.counted)
+    (s.counted ∙ ap (λ n. failed_says_after n c.say_refused.result) e.counted)
 
 pub returns-in-Err-ReadFault : goal.returns-in-Err-ReadFault
 returns-in-Err-ReadFault g c =

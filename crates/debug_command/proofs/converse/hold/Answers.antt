@@ -2,7 +2,7 @@ use Rattle.std.proofs.Common.{◌∙◌, ℕ, ap, sym}
 use Rattle.std.proofs.lemmas.Result.{err_from_is_err_and}
 use Rattle.fri_outside.specs.Terminal.{Hearing}
 use Rattle.debug_command.specs.Conversation.{terminal_at}
-use Rattle.debug_command.specs.Talk.{talk_of, why_of}
+use Rattle.debug_command.specs.Talk.{session_talk_of, why_session_ended}
 use Rattle.debug_command.proofs.WholeSessions.{held, held_unopened, none_counted, opens_read}
 use Rattle.debug_command.proofs.converse.hold.Goals as goal
 
@@ -22,4 +22,4 @@ returns-in_err-talk-clause-reads g c =
 pub returns-clause-said : goal.returns-clause-said
 returns-clause-said g c =
     let terminal = terminal_at g.T.Sink.hearing g.T.Sink.taken g.T.Sink.faults in
-    held c.args.parts.items (terminal c.args.io.now) (terminal c.begin.new.out) (terminal c.listen.new.io) (talk_of c.in_ok-talk.talk) (why_of c.listen.result) c.begin.ensures.heard c.in_ok-talk.ensures.said c.listen.ensures.said
+    held c.args.parts.items (terminal c.args.io.now) (terminal c.begin.new.out) (terminal c.listen.new.io) (session_talk_of c.in_ok-talk.talk) (why_session_ended c.listen.result) c.begin.ensures.heard c.in_ok-talk.ensures.said c.listen.ensures.said

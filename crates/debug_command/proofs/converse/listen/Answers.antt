@@ -5,14 +5,14 @@ use Rattle.fri_text.specs.Line.{lines_of}
 use Rattle.fri_outside.specs.Terminal.{Hearing}
 use Rattle.debug_command.specs.Conversation.{terminal_at}
 use Rattle.debug_command.specs.Limits.{most_input}
-use Rattle.debug_command.specs.Talk.{Spoke, heard_of, listened_after, spoken_after, talk_of}
+use Rattle.debug_command.specs.Talk.{SpokeLines, heard_of, listened_after, failed_says_of_session, session_talk_of}
 use Rattle.debug_command.proofs.WholeSessions.{listens_all, listens_broken, listens_error, listens_more, listens_none, none_counted, spoke_read}
 use Rattle.debug_command.proofs.converse.listen.Goals as goal
 
 pub hearing-init : goal.hearing-init
 hearing-init g c = record {
   within = omega (arith, c.requires);
-  stands = listens_none (terminal_at g.T.Sink.hearing g.T.Sink.taken g.T.Sink.faults c.args.io.now) (talk_of c.args.talk);
+  stands = listens_none (terminal_at g.T.Sink.hearing g.T.Sink.taken g.T.Sink.faults c.args.io.now) (session_talk_of c.args.talk);
   counted = refl;
   reads = refl;
 }
@@ -25,7 +25,7 @@ returns-in_err-next-clause-said g c =
     let size = length (take room c.hearing.piece) in
     let short : size ≤ 4096 = omega (arith, length-take room c.hearing.piece, c.min-room.ensures) in
     let within : c.hearing.talk.count + size ≤ most_input + 1 = omega (arith, length-take room c.hearing.piece, c.min-room.ensures, c.hearing.invariant.within) in
-    rw (p.1, p.2) (listens_broken (terminal c.args.io.now) (terminal c.hearing.io) (talk_of c.args.talk) (talk_of c.hearing.talk) c.hearing.invariant.stands (terminal c.hear.new.io) size c.in_err-next.field-0.0 short within c.in_err-next.ensures.said)
+    rw (p.1, p.2) (listens_broken (terminal c.args.io.now) (terminal c.hearing.io) (session_talk_of c.args.talk) (session_talk_of c.hearing.talk) c.hearing.invariant.stands (terminal c.hear.new.io) size c.in_err-next.field-0.0 short within c.in_err-next.ensures.said)
 
 pub returns-in_err-next-clause-reads : goal.returns-in_err-next-clause-reads
 returns-in_err-next-clause-reads g c =
@@ -35,7 +35,7 @@ returns-in_err-next-clause-reads g c =
 pub returns-in_err-next-clause-counted : goal.returns-in_err-next-clause-counted
 returns-in_err-next-clause-counted g c =
     let p = err_from_is_err_and c.from_residual.result c.from_residual.ensures.1 in
-    rw (p.1, p.2) (c.in_err-next.ensures.counted ∙ ap (λ (n : ℕ). spoken_after {T = ℕ} n (Err c.in_err-next.field-0.0)) c.hearing.invariant.counted)
+    rw (p.1, p.2) (c.in_err-next.ensures.counted ∙ ap (λ (n : ℕ). failed_says_of_session {T = ℕ} n (Err c.in_err-next.field-0.0)) c.hearing.invariant.counted)
 
 pub returns-in_err-answer-clause-said : goal.returns-in_err-answer-clause-said
 returns-in_err-answer-clause-said g c =
@@ -47,9 +47,9 @@ returns-in_err-answer-clause-said g c =
     let new = g.T.Sink.taken c.answer.new.out in
     let size = length (take c.min-room.result c.hearing.piece) in
     let short : size ≤ 4096 = omega (arith, length-take c.min-room.result c.hearing.piece, c.min-room.ensures) in
-    rw (p.1, p.2) (listens_error (terminal c.args.io.now) (terminal c.hearing.io) (talk_of c.args.talk) (talk_of c.hearing.talk) c.hearing.invariant.stands
+    rw (p.1, p.2) (listens_error (terminal c.args.io.now) (terminal c.hearing.io) (session_talk_of c.args.talk) (session_talk_of c.hearing.talk) c.hearing.invariant.stands
     (terminal c.hear.new.io) (heard_of (next, c.in_ok-next.more)) size short c.if-not-more.true c.in_ok-next.ensures.said (terminal c.answer.new.out) why c.answer.ensures.heard
-    (subst (λ (l : List ℕ). Spoke next.session (take 1 (lines_of l)) old new (Err why)) c.as_slice.ensures.value c.in_err-answer.ensures.said))
+    (subst (λ (l : List ℕ). SpokeLines next.session (take 1 (lines_of l)) old new (Err why)) c.as_slice.ensures.value c.in_err-answer.ensures.said))
 
 pub returns-in_err-answer-clause-reads : goal.returns-in_err-answer-clause-reads
 returns-in_err-answer-clause-reads g c =
@@ -61,7 +61,7 @@ returns-in_err-answer-clause-reads g c =
 pub returns-in_err-answer-clause-counted : goal.returns-in_err-answer-clause-counted
 returns-in_err-answer-clause-counted g c =
     let p = err_from_is_err_and c.from_residual-in_err-answer.result c.from_residual-in_err-answer.ensures.1 in
-    rw (p.1, p.2) (c.in_err-answer.ensures.counted ∙ ap (λ (n : ℕ). spoken_after {T = ℕ} n (Err c.in_err-answer.field-0.0)) (c.in_ok-next.ensures.counted ∙ c.hearing.invariant.counted))
+    rw (p.1, p.2) (c.in_err-answer.ensures.counted ∙ ap (λ (n : ℕ). failed_says_of_session {T = ℕ} n (Err c.in_err-answer.field-0.0)) (c.in_ok-next.ensures.counted ∙ c.hearing.invariant.counted))
 
 pub returns-then-not-more-clause-said : goal.returns-then-not-more-clause-said
 returns-then-not-more-clause-said g c =
@@ -71,9 +71,9 @@ returns-then-not-more-clause-said g c =
     let new = g.T.Sink.taken c.answer.new.out in
     let size = length (take c.min-room.result c.hearing.piece) in
     let short : size ≤ 4096 = omega (arith, length-take c.min-room.result c.hearing.piece, c.min-room.ensures) in
-    listens_all (terminal c.args.io.now) (terminal c.hearing.io) (talk_of c.args.talk) (talk_of c.hearing.talk) c.hearing.invariant.stands
+    listens_all (terminal c.args.io.now) (terminal c.hearing.io) (session_talk_of c.args.talk) (session_talk_of c.hearing.talk) c.hearing.invariant.stands
     (terminal c.hear.new.io) (heard_of (next, c.in_ok-next.more)) size short c.if-not-more.true c.in_ok-next.ensures.said (terminal c.answer.new.out) c.in_ok-answer.field-0 c.answer.ensures.heard
-    (subst (λ (l : List ℕ). Spoke next.session (take 1 (lines_of l)) old new (Ok c.in_ok-answer.field-0)) c.as_slice.ensures.value c.in_ok-answer.ensures.said)
+    (subst (λ (l : List ℕ). SpokeLines next.session (take 1 (lines_of l)) old new (Ok c.in_ok-answer.field-0)) c.as_slice.ensures.value c.in_ok-answer.ensures.said)
 
 pub returns-then-not-more-clause-reads : goal.returns-then-not-more-clause-reads
 returns-then-not-more-clause-reads g c = ap (λ (h : Hearing). h.faults) c.answer.ensures.heard ∙ c.in_ok-next.ensures.reads ∙ c.hearing.invariant.reads
@@ -89,7 +89,7 @@ hearing-preserved g c =
     let short : size ≤ 4096 = omega (arith, length-take c.min-room.result c.hearing.piece, c.min-room.ensures) in
     record {
       within = c.in_ok-next.ensures.within;
-      stands = listens_more (terminal c.args.io.now) (terminal c.hearing.io) (talk_of c.args.talk) (talk_of c.hearing.talk) c.hearing.invariant.stands
+      stands = listens_more (terminal c.args.io.now) (terminal c.hearing.io) (session_talk_of c.args.talk) (session_talk_of c.hearing.talk) c.hearing.invariant.stands
           (terminal c.hear.new.io) (heard_of (next, c.in_ok-next.more)) size short c.in_ok-next.ensures.said;
       counted = c.in_ok-next.ensures.counted ∙ c.hearing.invariant.counted;
       reads = c.in_ok-next.ensures.reads ∙ c.hearing.invariant.reads;

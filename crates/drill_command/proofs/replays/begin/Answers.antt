@@ -2,7 +2,7 @@ use Rattle.std.proofs.Common.{◌≡◌, ◌∙◌, List, Some, ap, sym}
 use Rattle.std.specs.Prelude.{option_copied}
 use Rattle.call_log.specs.Head.{Head}
 use Rattle.wasm_types.specs.Modules.{module_of}
-use Rattle.group_record.specs.Run.{Step}
+use Rattle.group_record.specs.Run.{RunStep}
 use Rattle.drill_command.specs.Seen.{HoldLogs}
 use Rattle.drill_command.proofs.LogReplays.{begins_as, never_headless, opened_as, replay_is}
 use Rattle.drill_command.proofs.replays.begin.Goals as goal
@@ -28,7 +28,7 @@ pub returns-in_ok-begin-in-Ok-start : goal.returns-in_ok-begin-in-Ok-start
 returns-in_ok-begin-in-Ok-start c = (
   c.in-Ok-start.process,
   begins_as (module_of c.args.«module».now) c.args.p c.in-Ok-start.process c.requires.«module» c.in-Ok-start.ensures.ok,
-  λ (steps : List Step) (holds : HoldLogs steps c.args.files.now).
+  λ (steps : List RunStep) (holds : HoldLogs steps c.args.files.now).
       c.in_ok-begin-in-Ok-start.ensures
       ∙ replay_is steps c.args.p c.in-Ok-start.process c.in-Ok.log.head c.in-Ok.log.left
       (opened_as c.exact_logs.ensures steps c.args.files.now holds c.args.p c.requires.process c.args.log.now c.in-Some.bytes.now c.requires.log

@@ -1,5 +1,5 @@
 use Rattle.std.proofs.Common.{List}
-use Rattle.group_record.specs.Run.{Step}
+use Rattle.group_record.specs.Run.{RunStep}
 use Rattle.drill_command.specs.Seen.{HoldLogs}
 use Rattle.drill_command.proofs.LogReplays.{parts_are, replays_are}
 use Rattle.drill_command.proofs.replays.begin_all.Goals as goal
@@ -16,7 +16,7 @@ returns-clause-parts c =
     r0.1 r1.1 r2.1 r3.1 (r0.2 steps holds) (r1.2 steps holds) (r2.2 steps holds) (r3.2 steps holds) c.in_ok-vec.field-0.items c.in_ok-vec.ensures.items
 
 pub returns-clause-replays : goal.returns-clause-replays
-returns-clause-replays c = λ (steps : List Step) (holds : HoldLogs steps c.args.files.now).
+returns-clause-replays c = λ (steps : List RunStep) (holds : HoldLogs steps c.args.files.now).
     let r0 = c.in_ok-n0.ensures in
     let r1 = c.in_ok-n1.ensures in
     let r2 = c.in_ok-n2.ensures in

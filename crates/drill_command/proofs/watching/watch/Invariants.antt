@@ -1,5 +1,5 @@
 use Rattle.std.proofs.Common.{◌≡◌, ◌-◌, length}
-use Rattle.group_state.specs.Place.{events}
+use Rattle.group_state.specs.Place.{events_of_replays}
 use Rattle.watch_expr.specs.Expression.{expression_of}
 use Rattle.drill_command.specs.Drill.{drill_watch}
 use Rattle.drill_command.proofs.PositionWalk.{WalkedTo}
@@ -9,4 +9,4 @@ abbrev pub invariant-positions : goal.invariant-positions
 invariant-positions l = WalkedTo l.fn.group l.here l.firings l.last × (expression_of l.watchpoint ≡ drill_watch)
 
 abbrev pub decreases-positions : goal.decreases-positions
-decreases-positions l = length (events l.fn.group.start) - l.here.at
+decreases-positions l = length (events_of_replays l.fn.group.start) - l.here.at

@@ -1,5 +1,5 @@
 use Rattle.std.proofs.Common.{◌≤◌, ◌+◌, ◌-◌, ◌*◌, codes, drop, length, map}
-use Rattle.watch_expr.specs.Lexing.{texts}
+use Rattle.watch_expr.specs.Lexing.{token_texts}
 use Rattle.embed_cmds.specs.Reading.{program_in, statement}
 use Rattle.embed_cmds.specs.Tree.{statement_of}
 use Rattle.embed_cmds.proofs.ReadSeparated.{Reached}
@@ -28,9 +28,9 @@ decreases-read_statements l = 7 * l.levels + 6
 
 abbrev pub invariant-read_statements-loop-stmts : goal.invariant-read_statements-loop-stmts
 invariant-read_statements-loop-stmts l = record {
-  reached : Reached (codes ";") (statement (program_in l.levels l.names) l.names) (drop l.from (texts l.tokens)) (map statement_of l.stmts.items) (drop l.at (texts l.tokens));
+  reached : Reached (codes ";") (statement (program_in l.levels l.names) l.names) (drop l.from (token_texts l.tokens)) (map statement_of l.stmts.items) (drop l.at (token_texts l.tokens));
   onward : l.from ≤ l.at;
 }
 
 abbrev pub decreases-read_statements-loop-stmts : goal.decreases-read_statements-loop-stmts
-decreases-read_statements-loop-stmts l = length (texts l.tokens) - l.at
+decreases-read_statements-loop-stmts l = length (token_texts l.tokens) - l.at

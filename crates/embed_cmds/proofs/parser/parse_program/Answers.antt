@@ -1,6 +1,6 @@
 use Rattle.std.proofs.Common.{sym, ◌∙◌, arith, drop}
 use Rattle.std.proofs.lemmas.Result.{err_from_is_err_and}
-use Rattle.watch_expr.specs.Lexing.{texts}
+use Rattle.watch_expr.specs.Lexing.{token_texts}
 use Rattle.embed_cmds.specs.Tree.{statements}
 use Rattle.embed_cmds.proofs.ReadPrograms.{read_all, read_less, stopped}
 use Rattle.embed_cmds.proofs.ReadTokens.{column_here}
@@ -16,7 +16,7 @@ pub returns-then-next-count : goal.returns-then-next-count
 returns-then-next-count c =
     let line = c.args.tokens.now in
     let next = c.in_ok-stmts.next in
-    (drop next (texts line), read_less c.args.names.now line c.args.from c.count.result c.saturating_sub-levels.result next (statements c.in_ok-stmts.stmts.items) c.count.ensures c.saturating_sub-levels.ensures c.in_ok-stmts.ensures.read (omega arith), c.column.ensures ∙ sym (column_here line next))
+    (drop next (token_texts line), read_less c.args.names.now line c.args.from c.count.result c.saturating_sub-levels.result next (statements c.in_ok-stmts.stmts.items) c.count.ensures c.saturating_sub-levels.ensures c.in_ok-stmts.ensures.read (omega arith), c.column.ensures ∙ sym (column_here line next))
 
 pub returns-then-faults : goal.returns-then-faults
 returns-then-faults c =

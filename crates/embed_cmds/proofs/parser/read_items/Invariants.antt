@@ -1,5 +1,5 @@
 use Rattle.std.proofs.Common.{◌≤◌, ◌-◌, codes, drop, length, map}
-use Rattle.watch_expr.specs.Lexing.{texts}
+use Rattle.watch_expr.specs.Lexing.{token_texts}
 use Rattle.embed_cmds.specs.Reading.{item}
 use Rattle.embed_cmds.specs.Tree.{item_of}
 use Rattle.embed_cmds.proofs.ReadSeparated.{Reached}
@@ -7,9 +7,9 @@ use Rattle.embed_cmds.proofs.parser.read_items.Given as goal
 
 abbrev pub invariant-loop-items : goal.invariant-loop-items
 invariant-loop-items l = record {
-  reached : Reached (codes ",") (item l.names) (drop l.from (texts l.tokens)) (map item_of l.items.items) (drop l.at (texts l.tokens));
+  reached : Reached (codes ",") (item l.names) (drop l.from (token_texts l.tokens)) (map item_of l.items.items) (drop l.at (token_texts l.tokens));
   onward : l.from ≤ l.at;
 }
 
 abbrev pub decreases-loop-items : goal.decreases-loop-items
-decreases-loop-items l = length (texts l.tokens) - l.at
+decreases-loop-items l = length (token_texts l.tokens) - l.at

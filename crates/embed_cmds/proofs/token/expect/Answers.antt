@@ -1,15 +1,15 @@
 use Rattle.std.proofs.Common.{Ok, drop, sym, ap, ◌∙◌}
-use Rattle.watch_expr.specs.Lexing.{texts}
-use Rattle.embed_cmds.specs.Reading.{Left}
+use Rattle.watch_expr.specs.Lexing.{token_texts}
+use Rattle.embed_cmds.specs.Reading.{LeftTokens}
 use Rattle.embed_cmds.proofs.ReadTokens.{column_here, drop_one, goes, stays}
 use Rattle.embed_cmds.proofs.token.expect.Goals as goal
 
 pub returns-then-stands-clause-goes : goal.returns-then-stands-clause-goes
 returns-then-stands-clause-goes c =
-    let left = drop c.args.at (texts c.args.tokens.now) in
-    goes c.args.text.now left (sym c.stands.ensures.text ∙ c.if-stands.true) ∙ ap (λ (ts : Left). Ok ts) (drop_one (texts c.args.tokens.now) c.args.at)
+    let left = drop c.args.at (token_texts c.args.tokens.now) in
+    goes c.args.text.now left (sym c.stands.ensures.text ∙ c.if-stands.true) ∙ ap (λ (ts : LeftTokens). Ok ts) (drop_one (token_texts c.args.tokens.now) c.args.at)
 
 pub returns-else-stands-clause-goes : goal.returns-else-stands-clause-goes
 returns-else-stands-clause-goes c =
-    let left = drop c.args.at (texts c.args.tokens.now) in
+    let left = drop c.args.at (token_texts c.args.tokens.now) in
     (left, stays c.args.text.now left (sym c.stands.ensures.text ∙ c.if-stands.false), c.column.ensures ∙ sym (column_here c.args.tokens.now c.args.at))

@@ -1,5 +1,5 @@
 use Rattle.std.proofs.Common.{sym}
-use Rattle.watch_expr.specs.Lexing.{texts}
+use Rattle.watch_expr.specs.Lexing.{token_texts}
 use Rattle.embed_cmds.specs.Reading.{keyword_of}
 use Rattle.embed_cmds.proofs.ReadTokens.{not_taken, taken}
 use Rattle.embed_cmds.proofs.token.read_keyword.Goals as goal
@@ -10,4 +10,4 @@ returns-in_default-clause-read c =
 
 pub returns-clause-read : goal.returns-clause-read
 returns-clause-read c =
-    taken keyword_of (texts c.args.tokens.now) c.args.at c.in-Some.keyword (sym c.in-Some.ensures.keyword)
+    taken keyword_of (token_texts c.args.tokens.now) c.args.at c.in-Some.keyword (sym c.in-Some.ensures.keyword)

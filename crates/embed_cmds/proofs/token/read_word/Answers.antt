@@ -1,5 +1,5 @@
 use Rattle.std.proofs.Common.{List, ℕ, Some, sym, ap, ◌∙◌}
-use Rattle.watch_expr.specs.Lexing.{texts}
+use Rattle.watch_expr.specs.Lexing.{token_texts}
 use Rattle.embed_cmds.specs.Reading.{word_of}
 use Rattle.embed_cmds.proofs.ReadTokens.{not_taken, taken}
 use Rattle.embed_cmds.proofs.token.read_word.Goals as goal
@@ -10,4 +10,4 @@ returns-in_default-clause-read c =
 
 pub returns-clause-read : goal.returns-clause-read
 returns-clause-read c =
-    taken word_of (texts c.args.tokens.now) c.args.at c.in_ok-word.word (sym c.in-Some.ensures.word ∙ ap (λ (w : List ℕ). Some w) (sym c.in_ok-word.ensures))
+    taken word_of (token_texts c.args.tokens.now) c.args.at c.in_ok-word.word (sym c.in-Some.ensures.word ∙ ap (λ (w : List ℕ). Some w) (sym c.in_ok-word.ensures))

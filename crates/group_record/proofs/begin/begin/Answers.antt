@@ -6,7 +6,7 @@ use Rattle.std.proofs.lemmas.Result.{err_from_is_err_and}
 use Rattle.schedule_text.specs.declared.process.ProcessLine.{ProcessLine}
 use Rattle.wasm_types.specs.Modules.{module_of}
 use Rattle.group_record.specs.Answer.{first_states, first_states_from, group_of, names_of}
-use Rattle.group_record.specs.Begun.{AreStarted, BeginsAll, heads}
+use Rattle.group_record.specs.Begun.{AreStarted, BeginsAll, heads_of_logs}
 use Rattle.group_record.specs.declared.member.Member.{Member}
 use Rattle.group_record.proofs.FirstRecorder.{files_begun, have_heads, logs_fail, members_fail, nothing_made, recorder_begun}
 use Rattle.group_record.proofs.begin.begin.Goals as goal
@@ -31,7 +31,7 @@ returns-in_err-begin_logs-clause-begins g c =
     let all = subst (λ (lines : List ProcessLine). BeginsAll (λ (v : Vec Member Global). v.items) (map (λ (line : ProcessLine). line.name) lines) (first_states_from (length lines) 0 ms) (Ok c.in_ok-members.members)) c.processes.ensures.value c.in_ok-members.ensures in
     let same : c.deref.result.now ≡ c.in_ok-members.members.items = c.deref.ensures.value ∙ c.in_ok-recorder.ensures.members in
     let started = subst (λ (members : List Member). AreStarted (names_of schedule) all.0 members) (sym same) all.2 in
-    rw (p.1, p.2) (logs_fail schedule (first_states schedule ms) all.0 (heads (group_of schedule all.0)) c.in_err-begin_logs.field-0.0 (g.F.Files.told c.args.files.now) (g.F.Files.told c.begin_logs.new.files) all.1
+    rw (p.1, p.2) (logs_fail schedule (first_states schedule ms) all.0 (heads_of_logs (group_of schedule all.0)) c.in_err-begin_logs.field-0.0 (g.F.Files.told c.args.files.now) (g.F.Files.told c.begin_logs.new.files) all.1
     (c.in_err-begin_logs.ensures.logs (group_of schedule all.0) (have_heads schedule all.0 c.deref.result.now c.processes.ensures.in_range started)))
 
 pub returns-clause-begins : goal.returns-clause-begins

@@ -3,7 +3,7 @@ use Rattle.std.proofs.lemmas.Result.{err_from_is_err_and}
 use Rattle.fri_outside.specs.Several.{with_files}
 use Rattle.fri_outside.specs.declared.files.WriteError.TheVariants as writing
 use Rattle.process_files.specs.Parts.{AreMadeInPart}
-use Rattle.group_record.specs.Run.{size}
+use Rattle.group_record.specs.Run.{processes_in_group}
 use Rattle.group_record.proofs.ImageFiles.{asked_fails, image_fails, image_is, image_made, name_here, named_all, within_kept}
 use Rattle.group_record.proofs.SharedLemmas.{at_place, failed_write}
 use Rattle.group_record.proofs.images.write_images.Goals as goal
@@ -14,7 +14,7 @@ returns-in_err-memory-clause-images g c = λ group done keeps named.
     let k = c.loop-p.p in
     let before = g.F.Files.told c.args.files.now in
     let now = g.F.Files.told c.loop-p.files in
-    let within : k < size group = omega (arith, c.loop-p-test.true, named_all c.args.processes.now group.names named) in
+    let within : k < processes_in_group group = omega (arith, c.loop-p-test.true, named_all c.args.processes.now group.names named) in
     let name = name_here c.args.processes.now k c.index-processes-p.result c.as_slice-name.result.now group.names c.loop-p-test.true c.index-processes-p.is c.as_slice-name.ensures named in
     rw (p.1, p.2) (asked_fails c.args.asked group done writing.NoMemory before now c.if-not-asked.false keeps.room
     (image_fails group done.steps k c.as_slice-name.result.now before now now within name (c.loop-p.invariant.made group done keeps named) (inl refl)))
@@ -27,7 +27,7 @@ returns-in_err-write_image-clause-images g c = λ group done keeps named.
     let now = g.F.Files.told c.loop-p.files in
     let after = g.F.Files.told c.write_image.new.files in
     let asked : c.args.asked ≡ true = c.if-not-asked.false in
-    let within : k < size group = omega (arith, c.loop-p-test.true, named_all c.args.processes.now group.names named) in
+    let within : k < processes_in_group group = omega (arith, c.loop-p-test.true, named_all c.args.processes.now group.names named) in
     let at = at_place c.args.recorder.now.members.items k c.index.result.now (omega (arith, c.loop-p-test.true, c.requires.members)) c.index.ensures in
     let name = name_here c.args.processes.now k c.index-processes-p.result c.as_slice-name.result.now group.names c.loop-p-test.true c.index-processes-p.is c.as_slice-name.ensures named in
     let image = image_is group done c.args.recorder.now k c.index.result.now c.in-Some.process c.as_slice-name.result.now c.as_slice.result.now c.of.result.now keeps at c.in-Some.is
@@ -45,7 +45,7 @@ loop-p-preserved g c = record {
       let now = g.F.Files.told c.loop-p.files in
       let after = g.F.Files.told c.write_image.new.files in
       let asked : c.args.asked ≡ true = c.if-not-asked.false in
-      let within : k < size group = omega (arith, c.loop-p-test.true, named_all c.args.processes.now group.names named) in
+      let within : k < processes_in_group group = omega (arith, c.loop-p-test.true, named_all c.args.processes.now group.names named) in
       let at = at_place c.args.recorder.now.members.items k c.index.result.now (omega (arith, c.loop-p-test.true, c.requires.members)) c.index.ensures in
       let name = name_here c.args.processes.now k c.index-processes-p.result c.as_slice-name.result.now group.names c.loop-p-test.true c.index-processes-p.is c.as_slice-name.ensures named in
       let image = image_is group done c.args.recorder.now k c.index.result.now c.in-Some.process c.as_slice-name.result.now c.as_slice.result.now c.of.result.now keeps at c.in-Some.is

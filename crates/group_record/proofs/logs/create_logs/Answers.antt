@@ -1,7 +1,7 @@
 use Rattle.std.proofs.Common.{◌≡◌, ◌∙◌, ◌<◌, arith}
 use Rattle.std.proofs.lemmas.Result.{err_from_is_err_and}
 use Rattle.group_record.specs.Logs.{log_name}
-use Rattle.group_record.specs.Run.{name_of_process, size}
+use Rattle.group_record.specs.Run.{name_of_process, processes_in_group}
 use Rattle.group_record.proofs.LogHeads.{all_made, create_goes_on, create_stops}
 use Rattle.group_record.proofs.SharedLemmas.{at_place, failed_write}
 use Rattle.group_record.proofs.logs.create_logs.Goals as goal
@@ -10,7 +10,7 @@ pub returns-in_err-create-clause-files : goal.returns-in_err-create-clause-files
 returns-in_err-create-clause-files g c = λ group have.
     let p = err_from_is_err_and c.from_residual.result c.from_residual.ensures.1 in
     let k = c.loop-member.member-index in
-    let within : k < size group = omega (arith, c.loop-member-test.true, have.count) in
+    let within : k < processes_in_group group = omega (arith, c.loop-member-test.true, have.count) in
     let at = at_place c.args.members.now k c.member-item.result c.loop-member-test.true c.member-item.is in
     let named : c.deref.result.now ≡ log_name (name_of_process group k) = c.deref.ensures ∙ have.logs k c.member-item.result at in
     rw (p.1, p.2) (create_stops c.keeps_files.ensures group k c.deref.result.now (g.F.Files.told c.args.files.now) (g.F.Files.told c.loop-member.files) (g.F.Files.told c.create.new.self) c.in_err-create.field-0.0 within named (c.loop-member.invariant.made group have) c.in_err-create.ensures.err)
@@ -19,7 +19,7 @@ pub loop-member-preserved : goal.loop-member-preserved
 loop-member-preserved g c = record {
   made = λ group have.
       let k = c.loop-member.member-index in
-      let within : k < size group = omega (arith, c.loop-member-test.true, have.count) in
+      let within : k < processes_in_group group = omega (arith, c.loop-member-test.true, have.count) in
       let at = at_place c.args.members.now k c.member-item.result c.loop-member-test.true c.member-item.is in
       let named : c.deref.result.now ≡ log_name (name_of_process group k) = c.deref.ensures ∙ have.logs k c.member-item.result at in
       create_goes_on c.keeps_files.ensures group k c.deref.result.now (g.F.Files.told c.args.files.now) (g.F.Files.told c.loop-member.files) (g.F.Files.told c.create.new.self) within named (c.loop-member.invariant.made group have) c.in_ok-create.ensures.ok;

@@ -2,7 +2,7 @@ use Rattle.std.proofs.Common.{◌≡◌, ◌<◌, ◌+◌, ◌++◌, ◌∙◌, 
 use Rattle.std.proofs.lemmas.List.{length-map}
 use Rattle.schedule_text.specs.declared.process.ProcessLine.{ProcessLine}
 use Rattle.group_record.specs.Answer.{summary_lines}
-use Rattle.group_record.specs.Run.{size}
+use Rattle.group_record.specs.Run.{processes_in_group}
 use Rattle.group_record.specs.declared.summary.SummaryLine.{SummaryLine}
 use Rattle.group_record.proofs.SharedLemmas.{at_place}
 use Rattle.group_record.proofs.FirstProcesses.{name_at}
@@ -14,7 +14,7 @@ loop-p-preserved c = λ group done keeps named.
     let p = c.loop-p.p in
     let lines = c.args.processes.now in
     let count : length group.names ≡ length lines = ap length named ∙ length-map lines (λ (line : ProcessLine). line.name) in
-    let within : p < size group = omega (arith, c.loop-p-test.true, count) in
+    let within : p < processes_in_group group = omega (arith, c.loop-p-test.true, count) in
     let at = at_place c.args.recorder.now.members.items p c.index.result.now (omega (arith, c.loop-p-test.true, c.requires.members)) c.index.ensures in
     let name : c.as_slice-name.result.now ≡ slice_index_or group.names p [] =
     c.as_slice-name.ensures ∙ sym (ap (λ (line : ProcessLine). line.name) c.index-processes-p.is) ∙ sym (name_at lines p c.index-processes-p.result [] (at_place lines p c.index-processes-p.result c.loop-p-test.true c.index-processes-p.is))

@@ -2,7 +2,7 @@ use Rattle.std.proofs.Common.{ap, refl, sym, subst, ◌∙◌, ◌++◌, List, �
 use Rattle.lib_calls.specs.Entry.{entry_of}
 use Rattle.guest_process.specs.declared.verdict.Verdict.TheVariants.{Diverged}
 use Rattle.guest_process.specs.Replay.{left_over}
-use Rattle.proc_replay.specs.Course.{Tells}
+use Rattle.proc_replay.specs.Course.{TellsVerdict}
 use Rattle.proc_replay.specs.Replaying.{Replaying, turn}
 use Rattle.group_state.proofs.ReplayTurns.{ends, prints_all, prints_first, prints_more}
 use Rattle.group_state.proofs.part.print_events.Goals as goal
@@ -25,14 +25,14 @@ pub returns-in-LogEnd-clause-out : goal.returns-in-LogEnd-clause-out
 returns-in-LogEnd-clause-out c =
     let r = c.turns.part in
     let is = rw c.in-LogEnd.is at c.in_ok-next.ensures.turn in
-    let tells : Tells (turn r) r.left.bytes (left_over r.left.bytes) = subst (λ t. Tells t r.left.bytes (left_over r.left.bytes)) is refl in
+    let tells : TellsVerdict (turn r) r.left.bytes (left_over r.left.bytes) = subst (λ t. TellsVerdict t r.left.bytes (left_over r.left.bytes)) is refl in
     prints_all c.replays.ensures.turn _ _ _ _ _ c.turns.invariant tells
 
 pub returns-in-LogEnd-clause-ends : goal.returns-in-LogEnd-clause-ends
 returns-in-LogEnd-clause-ends c =
     let r = c.turns.part in
     let is = rw c.in-LogEnd.is at c.in_ok-next.ensures.turn in
-    let tells : Tells (turn r) r.left.bytes (left_over r.left.bytes) = subst (λ t. Tells t r.left.bytes (left_over r.left.bytes)) is refl in
+    let tells : TellsVerdict (turn r) r.left.bytes (left_over r.left.bytes) = subst (λ t. TellsVerdict t r.left.bytes (left_over r.left.bytes)) is refl in
     ends c.replays.ensures.turn _ _ _ _ c.turns.invariant.follows c.in_ok-next.ensures.after tells
 
 pub returns-in-Diverged-clause-out : goal.returns-in-Diverged-clause-out
@@ -40,7 +40,7 @@ returns-in-Diverged-clause-out c =
     let r = c.turns.part in
     let v = Diverged c.in-Diverged.field-0 c.in-Diverged.field-1 in
     let is = rw c.in-Diverged.is at c.in_ok-next.ensures.turn in
-    let tells : Tells (turn r) r.left.bytes v = subst (λ t. Tells t r.left.bytes v) is refl in
+    let tells : TellsVerdict (turn r) r.left.bytes v = subst (λ t. TellsVerdict t r.left.bytes v) is refl in
     prints_all c.replays.ensures.turn _ _ _ _ _ c.turns.invariant tells
 
 pub returns-in-Diverged-clause-ends : goal.returns-in-Diverged-clause-ends
@@ -48,5 +48,5 @@ returns-in-Diverged-clause-ends c =
     let r = c.turns.part in
     let v = Diverged c.in-Diverged.field-0 c.in-Diverged.field-1 in
     let is = rw c.in-Diverged.is at c.in_ok-next.ensures.turn in
-    let tells : Tells (turn r) r.left.bytes v = subst (λ t. Tells t r.left.bytes v) is refl in
+    let tells : TellsVerdict (turn r) r.left.bytes v = subst (λ t. TellsVerdict t r.left.bytes v) is refl in
     ends c.replays.ensures.turn _ _ _ _ c.turns.invariant.follows c.in_ok-next.ensures.after tells

@@ -3,7 +3,7 @@ use Rattle.lib_calls.specs.Entry.{entry_of}
 use Rattle.call_log.specs.Head.{Head}
 use Rattle.guest_process.specs.declared.verdict.Verdict.TheVariants.{Diverged}
 use Rattle.guest_process.specs.Replay.{left_over}
-use Rattle.proc_replay.specs.Course.{Tells}
+use Rattle.proc_replay.specs.Course.{TellsVerdict}
 use Rattle.proc_replay.specs.Replaying.{Replaying, turn}
 use Rattle.group_state.proofs.ReplayTurns.{ends, next_new, next_room, tallies_all, tallies_first, tallies_more}
 use Rattle.group_state.proofs.part.tally_events.Goals as goal
@@ -36,14 +36,14 @@ pub returns-in-LogEnd-clause-tally : goal.returns-in-LogEnd-clause-tally
 returns-in-LogEnd-clause-tally c =
     let r = c.turns.part in
     let is = rw c.in-LogEnd.is at c.in_ok-next.ensures.turn in
-    let tells : Tells (turn r) r.left.bytes (left_over r.left.bytes) = subst (λ t. Tells t r.left.bytes (left_over r.left.bytes)) is refl in
+    let tells : TellsVerdict (turn r) r.left.bytes (left_over r.left.bytes) = subst (λ t. TellsVerdict t r.left.bytes (left_over r.left.bytes)) is refl in
     tallies_all c.replays.ensures.turn _ _ _ _ _ _ c.turns.invariant tells
 
 pub returns-in-LogEnd-clause-ends : goal.returns-in-LogEnd-clause-ends
 returns-in-LogEnd-clause-ends c =
     let r = c.turns.part in
     let is = rw c.in-LogEnd.is at c.in_ok-next.ensures.turn in
-    let tells : Tells (turn r) r.left.bytes (left_over r.left.bytes) = subst (λ t. Tells t r.left.bytes (left_over r.left.bytes)) is refl in
+    let tells : TellsVerdict (turn r) r.left.bytes (left_over r.left.bytes) = subst (λ t. TellsVerdict t r.left.bytes (left_over r.left.bytes)) is refl in
     ends c.replays.ensures.turn _ _ _ _ c.turns.invariant.follows c.in_ok-next.ensures.after tells
 
 pub returns-in-Diverged-clause-tally : goal.returns-in-Diverged-clause-tally
@@ -51,7 +51,7 @@ returns-in-Diverged-clause-tally c =
     let r = c.turns.part in
     let v = Diverged c.in-Diverged.field-0 c.in-Diverged.field-1 in
     let is = rw c.in-Diverged.is at c.in_ok-next.ensures.turn in
-    let tells : Tells (turn r) r.left.bytes v = subst (λ t. Tells t r.left.bytes v) is refl in
+    let tells : TellsVerdict (turn r) r.left.bytes v = subst (λ t. TellsVerdict t r.left.bytes v) is refl in
     tallies_all c.replays.ensures.turn _ _ _ _ _ _ c.turns.invariant tells
 
 pub returns-in-Diverged-clause-ends : goal.returns-in-Diverged-clause-ends
@@ -59,5 +59,5 @@ returns-in-Diverged-clause-ends c =
     let r = c.turns.part in
     let v = Diverged c.in-Diverged.field-0 c.in-Diverged.field-1 in
     let is = rw c.in-Diverged.is at c.in_ok-next.ensures.turn in
-    let tells : Tells (turn r) r.left.bytes v = subst (λ t. Tells t r.left.bytes v) is refl in
+    let tells : TellsVerdict (turn r) r.left.bytes v = subst (λ t. TellsVerdict t r.left.bytes v) is refl in
     ends c.replays.ensures.turn _ _ _ _ c.turns.invariant.follows c.in_ok-next.ensures.after tells

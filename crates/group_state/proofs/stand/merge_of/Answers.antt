@@ -1,6 +1,6 @@
 use Rattle.std.proofs.Common.{◌<◌, ◌≤◌, ◌∙◌, length, map, sym, ap, arith, take_all}
 use Rattle.std.proofs.lemmas.List.{length-set}
-use Rattle.group_state.specs.Place.{head}
+use Rattle.group_state.specs.Place.{head_of_replay}
 use Rattle.group_state.proofs.GroupSteps.{headed}
 use Rattle.group_state.proofs.stand.merge_of.Goals as goal
 
@@ -21,4 +21,4 @@ returns c =
     let parts = c.args.parts.now in
     let node = c.loop-node.node in
     let done : length parts ≤ node = c.loop-node-test.false in
-    sym (take_all node c.loop-node.merge (omega (arith, i.size, done))) ∙ i.heads ∙ ap (map head) (take_all node parts done)
+    sym (take_all node c.loop-node.merge (omega (arith, i.size, done))) ∙ i.heads ∙ ap (map head_of_replay) (take_all node parts done)

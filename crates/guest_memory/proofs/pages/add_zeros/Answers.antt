@@ -1,6 +1,6 @@
 use Rattle.std.proofs.Common.{◌≡◌, ◌∙◌, ◌++◌, ◌*◌, arith, ap, length, rules, List, ℕ}
 use Rattle.guest_memory.specs.Memory.{no_stamps, zero_bytes}
-use Rattle.guest_memory.specs.Pages.{flat, stamps_of}
+use Rattle.guest_memory.specs.Pages.{bytes_of_pages, stamps_of}
 use Rattle.guest_memory.proofs.FlatPages.{zeros-more, zeros-flat, zeros-stamps, flat-append, whole-append}
 use Rattle.guest_memory.proofs.PageStamps.{stamps-append}
 use Rattle.guest_memory.proofs.pages.add_zeros.Goals as goal
@@ -17,7 +17,7 @@ unfolding zero_bytes
 returns-clause-bytes c =
     let n : 4096 * length c.loop-i.more.items ≡ 65536 * c.args.count = omega (arith, c.loop-i.invariant.1) in
     rw (c.in_ok-append.ensures.items, ← n)
-    (flat-append c.args.pages.now.items c.loop-i.more.items ∙ ap (λ (l : List ℕ). flat c.args.pages.now.items ++ l) (zeros-flat 4096 c.loop-i.more.items c.loop-i.invariant.0))
+    (flat-append c.args.pages.now.items c.loop-i.more.items ∙ ap (λ (l : List ℕ). bytes_of_pages c.args.pages.now.items ++ l) (zeros-flat 4096 c.loop-i.more.items c.loop-i.invariant.0))
 
 pub returns-clause-stamps : goal.returns-clause-stamps
 unfolding no_stamps

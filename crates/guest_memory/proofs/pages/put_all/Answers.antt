@@ -1,5 +1,5 @@
 use Rattle.std.proofs.Common.{rules, ◌≡◌, ◌<◌, ◌≤◌, ◌+◌, ◌*◌, ◌-◌, ◌/◌, ◌%◌, arith, refl, length}
-use Rattle.guest_memory.specs.Pages.{flat}
+use Rattle.guest_memory.specs.Pages.{bytes_of_pages}
 use Rattle.guest_memory.proofs.FlatPages.{flat-length}
 use Rattle.guest_memory.proofs.PageWrites.{puts-more, puts-none}
 use Rattle.guest_memory.proofs.pages.put_all.Goals as goal
@@ -9,13 +9,13 @@ loop-done-init c = record { done = omega arith; len = refl; puts = puts-none c.a
 
 pub bounds-pages-addr : goal.bounds-pages-addr
 bounds-pages-addr c =
-    let all : length (flat c.args.pages.now) ≡ 4096 * length c.args.pages.now = flat-length _ c.requires.whole in
+    let all : length (bytes_of_pages c.args.pages.now) ≡ 4096 * length c.args.pages.now = flat-length _ c.requires.whole in
     omega (arith, all, c.loop-done.invariant.len)
 
 pub loop-done-preserved : goal.loop-done-preserved
 loop-done-preserved c =
     let i = c.loop-done.invariant in
-    let all : length (flat c.args.pages.now) ≡ 4096 * length c.args.pages.now = flat-length _ c.requires.whole in
+    let all : length (bytes_of_pages c.args.pages.now) ≡ 4096 * length c.args.pages.now = flat-length _ c.requires.whole in
     let room : (c.args.addr + c.loop-done.done) / 4096 < length c.loop-done.pages = omega (arith, all, i.len) in
     let most : c.loop-done.done + c.min-count.result ≤ length c.args.piece.now = omega arith in
     let some : 0 < c.min-count.result = omega arith in

@@ -6,7 +6,7 @@ use Rattle.wasm_step.specs.Strand.{Strand}
 use Rattle.guest_process.specs.declared.parts.Parts.{Parts}
 use Rattle.guest_process.specs.declared.end.End.TheVariants.{Running}
 use Rattle.guest_process.specs.Seen.{IsOfModule}
-use Rattle.guest_process.specs.Start.{waits}
+use Rattle.guest_process.specs.Start.{waits_at_begin}
 use Rattle.guest_process.proofs.FirstState.{is_process}
 use Rattle.guest_process.proofs.process.begin.Goals as goal
 
@@ -16,7 +16,7 @@ invariant_of-result c =
     let s = c.in_ok-strand.strand in
     let same_module = ap {A = Module} {B = Strand} (λ m. record { «module» = m; thread = s.thread; call = s.call }) c.in_ok-strand.ensures.same_module in
     let call = ap {B = Strand} (λ o. record { «module» = m; thread = s.thread; call = o }) c.in_ok-strand.ensures.call in
-    let waiting = c.beginning.ensures ∙ ap waits (same_module ∙ call) in
+    let waiting = c.beginning.ensures ∙ ap waits_at_begin (same_module ∙ call) in
     let crew = c.in-Ok.ensures.ok ∙ ap (λ crew. with_live crew c.beginning.result) c.new-crew.ensures ∙ ap (with_live empty) waiting in
     let valid = subst (λ r. IsValid (module_of r)) c.module.ensures.same c.module.ensures.valid in
     let p : Parts = record {

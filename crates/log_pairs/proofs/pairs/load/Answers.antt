@@ -2,7 +2,7 @@ use Rattle.std.proofs.Common.{◌≡◌, ◌∙◌, ◌≤◌, None, Err, Ok, ap
 use Rattle.std.proofs.lemmas.Result.{err_from_is_err_and}
 use Rattle.wasm_types.specs.Modules.{module_of as shown}
 use Rattle.call_log.specs.Limits.{most_log}
-use Rattle.log_pairs.specs.Pairs.{clash}
+use Rattle.log_pairs.specs.Pairs.{clash_of_logs}
 use Rattle.log_pairs.specs.Seen.{pair_of}
 use Rattle.command_run.specs.CountLaws.{counts_later, counts_none, counts_still}
 use Rattle.log_pairs.proofs.LoadedPairs.{is_loaded, pair_read, read_as}
@@ -23,9 +23,9 @@ returns-in_err-begin_log-clause-counts g c =
 pub returns-clause-answer : goal.returns-clause-answer
 returns-clause-answer g c folder told ls are =
     let log = c.in_ok-begin_log.field-0 in
-    let unclashed : c.clash.result ≡ None = search rules in
+    let unclashed : c.clash_of_logs.result ≡ None = search rules in
     let few : length c.deref.result.now ≤ most_log = omega (arith, c.in_ok-log.ensures.within, c.deref.ensures.len) in
-    let none : clash ls log.head ≡ None = ap (clash ls) (sym c.head-head.ensures) ∙ sym (c.clash.ensures.answer ls are) ∙ unclashed in (
+    let none : clash_of_logs ls log.head ≡ None = ap (clash_of_logs ls) (sym c.head-head.ensures) ∙ sym (c.clash_of_logs.ensures.answer ls are) ∙ unclashed in (
       read_as (pair_of c.args.pair) (shown c.in_ok-module.module) (log.head, log.left),
       (
         pair_read folder ls (pair_of c.args.pair) (shown c.in_ok-module.module) c.deref.result.now (log.head, log.left)
@@ -41,11 +41,11 @@ pub returns-clause-fits : goal.returns-clause-fits
 returns-clause-fits g c ls are =
     let log = c.in_ok-begin_log.field-0 in
     let few : length c.deref.result.now ≤ most_log = omega (arith, c.in_ok-log.ensures.within, c.deref.ensures.len) in
-    let unclashed : c.clash.result ≡ None = search rules in (
+    let unclashed : c.clash_of_logs.result ≡ None = search rules in (
       read_as (pair_of c.args.pair) (shown c.in_ok-module.module) (log.head, log.left),
       (
         is_loaded _ (pair_of c.args.pair) c.deref.result.now (log.head, log.left) c.head-head.result refl c.deref.ensures.value c.in_ok-begin_log.ensures.answer c.in_ok-begin_log.ensures.head c.head-head.ensures refl refl c.in_ok-name.ensures
             c.in_ok-begin_log.ensures.shorter few,
-        ap (clash ls) (sym c.head-head.ensures) ∙ sym (c.clash.ensures.answer ls are) ∙ unclashed,
+        ap (clash_of_logs ls) (sym c.head-head.ensures) ∙ sym (c.clash_of_logs.ensures.answer ls are) ∙ unclashed,
       ),
     )

@@ -2,7 +2,7 @@ use Rattle.std.proofs.Common.{◌∙◌, ◌+◌, List, Option, drop, map, refl,
 use Rattle.std.proofs.lemmas.List.{drop_all, drop_more}
 use Rattle.std.proofs.lemmas.Result.{err_from_is_err_and}
 use Rattle.log_pairs.specs.declared.pairs.Loaded.{Loaded}
-use Rattle.log_pairs.specs.Seen.{AreLoaded, pair_of}
+use Rattle.log_pairs.specs.Seen.{AreLoadedPairs, pair_of}
 use Rattle.log_pairs.proofs.OpenedReplays.{unread_stops}
 use Rattle.log_pairs.proofs.LoadedPairs.{AreRead, all_read, none_read, one_read, reading_stops}
 use Rattle.fri_outside.specs.Outside.{Folder}
@@ -28,7 +28,7 @@ returns-in_err-loaded-clause-answer g c =
     let i = c.loop-pair.pair-index in
     let p = err_from_is_err_and c.from_residual.result c.from_residual.ensures.1 in
     rw (p.1, p.2) (unread_stops (map pair_of pairs) (g.F.Files.told c.args.files.now) c.in_err-loaded.field-0.0 (reading_stops (g.F.Files.told c.args.files.now) pairs (drop i pairs) (drop (i + 1) pairs) _ c.loop-pair.all.items c.in_err-loaded.field-0.0 read.0 (drop_more pairs i _ c.loop-pair-test.true)
-    (λ folder is ls are. c.in_err-loaded.ensures.answer folder (read.1 ∙ is) ls (subst (λ (xs : List Loaded). AreLoaded xs ls) (sym c.deref.ensures.value) are))))
+    (λ folder is ls are. c.in_err-loaded.ensures.answer folder (read.1 ∙ is) ls (subst (λ (xs : List Loaded). AreLoadedPairs xs ls) (sym c.deref.ensures.value) are))))
 
 pub loop-pair-preserved : goal.loop-pair-preserved
 loop-pair-preserved g c =
@@ -38,8 +38,8 @@ loop-pair-preserved g c =
     let i = c.loop-pair.pair-index in
     let items = c.loop-pair.all.items in (
       one_read told pairs (drop i pairs) (drop (i + 1) pairs) _ items c.push.new.self.items c.in_ok-loaded.loaded read.0 (drop_more pairs i _ c.loop-pair-test.true)
-          (λ folder is ls are. c.in_ok-loaded.ensures.answer folder (read.1 ∙ is) ls (subst (λ (xs : List Loaded). AreLoaded xs ls) (sym c.deref.ensures.value) are))
-          (λ ls are. c.in_ok-loaded.ensures.fits ls (subst (λ (xs : List Loaded). AreLoaded xs ls) (sym c.deref.ensures.value) are))
+          (λ folder is ls are. c.in_ok-loaded.ensures.answer folder (read.1 ∙ is) ls (subst (λ (xs : List Loaded). AreLoadedPairs xs ls) (sym c.deref.ensures.value) are))
+          (λ ls are. c.in_ok-loaded.ensures.fits ls (subst (λ (xs : List Loaded). AreLoadedPairs xs ls) (sym c.deref.ensures.value) are))
           c.in_ok-push.ensures.items,
       c.load.ensures.same ∙ read.1,
       counts_later _ _ _ _ read.2 (counts_none _ _ _ c.in_ok-loaded.ensures.counts),

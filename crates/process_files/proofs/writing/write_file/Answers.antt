@@ -1,6 +1,6 @@
 use Rattle.std.proofs.Common.{◌≡◌, ◌⊎◌, ◌++◌, ℕ, [], ◌∷◌, ◌∙◌, take, ap, sym}
 use Rattle.std.proofs.lemmas.Result.{err_from_is_err_and}
-use Rattle.fri_outside.specs.Outside.{with_file, with_piece}
+use Rattle.fri_outside.specs.Outside.{with_file, with_piece_in_folder}
 use Rattle.process_files.specs.Parts.{AreMadeInPart}
 use Rattle.process_files.proofs.OneFile.{append_part, create_part, on_err}
 use Rattle.process_files.proofs.writing.write_file.Goals as goal
@@ -17,6 +17,6 @@ returns-clause-err g c =
     let after = g.F.Files.told c.append.new.self in
     let name = c.args.name.now ++ c.args.ending.now in
     let file = c.deref-2.result.now in
-    on_err ((after ≡ now) ⊎ ((n : ℕ) × (after ≡ with_piece file (take n c.args.bytes.now) now))) (AreMadeInPart ((name, c.args.bytes.now) ∷ []) before after) c.append.result
+    on_err ((after ≡ now) ⊎ ((n : ℕ) × (after ≡ with_piece_in_folder file (take n c.args.bytes.now) now))) (AreMadeInPart ((name, c.args.bytes.now) ∷ []) before after) c.append.result
     (append_part c.keeps_files.ensures name file c.args.bytes.now before now after (c.deref-2.ensures ∙ c.in_ok-file.ensures) (c.in_ok-create.ensures.ok ∙ ap (λ n. with_file n [] before) (c.deref.ensures ∙ sym c.deref-2.ensures)))
     c.append.ensures.err

@@ -1,7 +1,7 @@
 use Rattle.std.proofs.Common.{◌≡◌, ◌∙◌, List, ℕ, MatchResult, Ok, subst, sym}
 use Rattle.std.specs.Prelude.{IsUtf8}
 use Rattle.wasm_types.specs.Modules.{module_of as shown}
-use Rattle.command_run.specs.Call.{StopsAs}
+use Rattle.command_run.specs.Call.{StopsAsCause}
 use Rattle.command_run.specs.Inputs.{module_in}
 use Rattle.record_command.proofs.ModuleNames.{module_utf8}
 use Rattle.record_command.proofs.inputs.take_module_of.Goals as goal
@@ -10,4 +10,4 @@ pub returns-clause-answer : goal.returns-clause-answer
 returns-clause-answer g c = λ folder told.
     let text : IsUtf8 c.as_slice.result.now = subst (λ (b : List ℕ). IsUtf8 b) (sym c.as_slice.ensures) (module_utf8 c.args.line.now.«module» c.requires.line.file) in
     let file : c.deref.result.now ≡ c.args.line.now.«module» = c.deref.ensures ∙ c.in_ok-file.ensures.ok text ∙ c.as_slice.ensures in
-    subst (λ (n : List ℕ). MatchResult c.take.result (λ m. module_in folder n ≡ Ok (shown m)) (StopsAs (module_in folder n))) file (c.take.ensures.answer folder told)
+    subst (λ (n : List ℕ). MatchResult c.take.result (λ m. module_in folder n ≡ Ok (shown m)) (StopsAsCause (module_in folder n))) file (c.take.ensures.answer folder told)

@@ -2,7 +2,7 @@ use Rattle.std.proofs.Common.{◌≡◌, ◌∙◌, List, Ok, map, subst}
 use Rattle.std.proofs.lemmas.Result.{err_from_is_err_and}
 use Rattle.wasm_types.specs.Modules.{module_of as shown}
 use Rattle.schedule_text.specs.declared.process.ProcessLine.{ProcessLine}
-use Rattle.command_run.specs.Call.{StopsAs}
+use Rattle.command_run.specs.Call.{StopsAsCause}
 use Rattle.record_command.specs.Expected.{modules_of}
 use Rattle.record_command.proofs.GatheredOutcome.{modules_stop, schedule_stops}
 use Rattle.record_command.proofs.recording.gather.Goals as goal
@@ -16,7 +16,7 @@ pub returns-in_err-modules-clause-answer : goal.returns-in_err-modules-clause-an
 returns-in_err-modules-clause-answer g c = λ folder told.
     let p = err_from_is_err_and c.from_residual-in_err-modules.result c.from_residual-in_err-modules.ensures.1 in
     rw (p.1, p.2) (λ images. modules_stop folder images c.args.schedule_file.now c.in_ok-schedule.schedule c.in_err-modules.field-0.0 (c.in_ok-schedule.ensures.answer folder told)
-    (subst (λ (lines : List ProcessLine). StopsAs (modules_of folder lines) c.in_err-modules.field-0.0) c.processes.ensures.value (c.in_err-modules.ensures.answer folder (c.take_schedule.ensures.same ∙ told))))
+    (subst (λ (lines : List ProcessLine). StopsAsCause (modules_of folder lines) c.in_err-modules.field-0.0) c.processes.ensures.value (c.in_err-modules.ensures.answer folder (c.take_schedule.ensures.same ∙ told))))
 
 pub returns-clause-answer : goal.returns-clause-answer
 returns-clause-answer g c = λ folder told. record {

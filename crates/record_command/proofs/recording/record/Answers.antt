@@ -2,7 +2,7 @@ use Rattle.std.proofs.Common.{List, map, subst, sym}
 use Rattle.std.proofs.lemmas.Result.{err_from_is_err_and}
 use Rattle.wasm_types.specs.Modules.{module_of as shown}
 use Rattle.record_command.specs.Expected.{record_outcome}
-use Rattle.record_command.specs.Seen.{Gathers}
+use Rattle.record_command.specs.Seen.{GathersFromFolder}
 use Rattle.record_command.proofs.GatheredOutcome.{group_makes}
 use Rattle.command_run.specs.OutcomeLaws.{refused_makes, refused_tells}
 use Rattle.record_command.proofs.FolderRecordings.{moment_before, moment_then, recording_left}
@@ -29,7 +29,7 @@ returns-in_err-inputs-clause-recorded g c = λ end.
 pub returns-clause-makes : goal.returns-clause-makes
 returns-clause-makes g c =
     group_makes (g.F.Files.told c.args.files.now) (g.F.Files.told c.gather.new.files) (g.F.Files.told c.record_group.new.files) c.args.images c.args.schedule_file.now c.in_ok-inputs.inputs.schedule (map shown c.deref.result.now) c.record_group.result
-    (λ folder told. subst (λ (ms : List _). Gathers folder c.args.schedule_file.now c.in_ok-inputs.inputs.schedule (map shown ms)) (sym c.deref.ensures.value) (c.in_ok-inputs.ensures.answer folder told)) c.gather.ensures.same c.record_group.ensures.makes
+    (λ folder told. subst (λ (ms : List _). GathersFromFolder folder c.args.schedule_file.now c.in_ok-inputs.inputs.schedule (map shown ms)) (sym c.deref.ensures.value) (c.in_ok-inputs.ensures.answer folder told)) c.gather.ensures.same c.record_group.ensures.makes
 
 pub returns-clause-recorded : goal.returns-clause-recorded
 returns-clause-recorded g c = λ end.
@@ -39,4 +39,4 @@ returns-clause-recorded g c = λ end.
 pub returns-clause-moment : goal.returns-clause-moment
 returns-clause-moment g c =
     moment_then c.recordings_agree.ensures (g.F.Files.told c.args.files.now) (g.F.Files.told c.gather.new.files) (g.F.Files.told c.record_group.new.files) c.args.images c.args.schedule_file.now c.in_ok-inputs.inputs.schedule (map shown c.deref.result.now)
-    (λ folder told. subst (λ (ms : List _). Gathers folder c.args.schedule_file.now c.in_ok-inputs.inputs.schedule (map shown ms)) (sym c.deref.ensures.value) (c.in_ok-inputs.ensures.answer folder told)) c.gather.ensures.same c.record_group.ensures.stopped
+    (λ folder told. subst (λ (ms : List _). GathersFromFolder folder c.args.schedule_file.now c.in_ok-inputs.inputs.schedule (map shown ms)) (sym c.deref.ensures.value) (c.in_ok-inputs.ensures.answer folder told)) c.gather.ensures.same c.record_group.ensures.stopped

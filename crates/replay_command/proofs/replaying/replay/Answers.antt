@@ -2,7 +2,7 @@ use Rattle.std.proofs.Common.{List, Ok, Err, map, subst, sym}
 use Rattle.std.proofs.lemmas.Result.{err_from_is_err_and}
 use Rattle.command_run.specs.declared.refusal.StopCause.TheVariants as refusal
 use Rattle.command_run.specs.CountLaws.{counts_still}
-use Rattle.command_run.specs.FileLaws.{all_made, some_made}
+use Rattle.command_run.specs.FileLaws.{all_files_made, some_files_made}
 use Rattle.command_run.specs.OutcomeLaws.{refused_makes, refused_tells}
 use Rattle.log_pairs.specs.declared.pairs.Loaded.{Loaded}
 use Rattle.log_pairs.specs.Seen.{WereLoaded, pair_of}
@@ -48,7 +48,7 @@ returns-in_err-write_asked-clause-makes g c =
     rw (p.1, p.2)
     (replay_makes c.args.images (map pair_of c.args.pairs.now) (g.F.Files.told c.args.files.now) (g.F.Files.told c.write_asked.new.files) c.in_ok-parts.parts.items (Err c.in_err-write_asked.field-0.0)
     (c.in_ok-parts.ensures.answer (map pair_of c.args.pairs.now) (g.F.Files.told c.args.files.now) (subst (λ (all : List Loaded). WereLoaded (map pair_of c.args.pairs.now) (g.F.Files.told c.args.files.now) all) (sym c.deref.ensures.value) c.in_ok-all.ensures.answer))
-    (some_made c.in_err-write_asked.field-0.0 _ _ _ (images_begun c.args.images _ _ _ _ _ c.in_err-write_asked.field-0.0 c.deref-2.ensures.value c.load_all.ensures.same c.in_err-write_asked.ensures.made)))
+    (some_files_made c.in_err-write_asked.field-0.0 _ _ _ (images_begun c.args.images _ _ _ _ _ c.in_err-write_asked.field-0.0 c.deref-2.ensures.value c.load_all.ensures.same c.in_err-write_asked.ensures.made)))
 
 pub returns-in_err-report-clause-makes : goal.returns-in_err-report-clause-makes
 returns-in_err-report-clause-makes g c =
@@ -56,7 +56,7 @@ returns-in_err-report-clause-makes g c =
     rw (p.1, p.2)
     (replay_makes c.args.images (map pair_of c.args.pairs.now) (g.F.Files.told c.args.files.now) (g.F.Files.told c.write_asked.new.files) c.in_ok-parts.parts.items (Err refusal.NoMemory)
     (c.in_ok-parts.ensures.answer (map pair_of c.args.pairs.now) (g.F.Files.told c.args.files.now) (subst (λ (all : List Loaded). WereLoaded (map pair_of c.args.pairs.now) (g.F.Files.told c.args.files.now) all) (sym c.deref.ensures.value) c.in_ok-all.ensures.answer))
-    (all_made c.keeps_files.ensures _ _ _ (images_made c.args.images _ _ _ _ _ c.deref-2.ensures.value c.load_all.ensures.same c.in_ok-write_asked.ensures.made)))
+    (all_files_made c.keeps_files.ensures _ _ _ (images_made c.args.images _ _ _ _ _ c.deref-2.ensures.value c.load_all.ensures.same c.in_ok-write_asked.ensures.made)))
 
 pub returns-in_err-print_report-clause-makes : goal.returns-in_err-print_report-clause-makes
 returns-in_err-print_report-clause-makes g c =
@@ -64,7 +64,7 @@ returns-in_err-print_report-clause-makes g c =
     rw (p.1, p.2)
     (replay_makes c.args.images (map pair_of c.args.pairs.now) (g.F.Files.told c.args.files.now) (g.F.Files.told c.write_asked.new.files) c.in_ok-parts.parts.items (Err refusal.NoMemory)
     (c.in_ok-parts.ensures.answer (map pair_of c.args.pairs.now) (g.F.Files.told c.args.files.now) (subst (λ (all : List Loaded). WereLoaded (map pair_of c.args.pairs.now) (g.F.Files.told c.args.files.now) all) (sym c.deref.ensures.value) c.in_ok-all.ensures.answer))
-    (all_made c.keeps_files.ensures _ _ _ (images_made c.args.images _ _ _ _ _ c.deref-2.ensures.value c.load_all.ensures.same c.in_ok-write_asked.ensures.made)))
+    (all_files_made c.keeps_files.ensures _ _ _ (images_made c.args.images _ _ _ _ _ c.deref-2.ensures.value c.load_all.ensures.same c.in_ok-write_asked.ensures.made)))
 
 pub returns-clause-tells : goal.returns-clause-tells
 returns-clause-tells g c =

@@ -1,5 +1,5 @@
 use Rattle.std.proofs.Common.{◌-◌, length}
-use Rattle.group_state.specs.Place.{events}
+use Rattle.group_state.specs.Place.{events_of_replays}
 use Rattle.schedule_back.proofs.GroupWalk.{WalkedTo}
 use Rattle.schedule_back.proofs.draft.walk.Given as goal
 
@@ -7,4 +7,4 @@ abbrev pub invariant-events : goal.invariant-events
 invariant-events l = WalkedTo l.fn.group l.here l.fn.draft l.longer
 
 abbrev pub decreases-events : goal.decreases-events
-decreases-events l = length (events l.fn.group.start) - l.here.at
+decreases-events l = length (events_of_replays l.fn.group.start) - l.here.at

@@ -2,7 +2,7 @@ use Rattle.std.proofs.Common.{◌≡◌, ◌∙◌, List, Err, map, subst, sym}
 use Rattle.std.proofs.lemmas.Result.{err_from_is_err_and}
 use Rattle.command_run.specs.CountLaws.{counts_of_part, counts_still}
 use Rattle.log_pairs.specs.declared.pairs.Loaded.{Loaded}
-use Rattle.log_pairs.specs.Seen.{AreLoaded, WereLoaded, pair_of}
+use Rattle.log_pairs.specs.Seen.{AreLoadedPairs, WereLoaded, pair_of}
 use Rattle.schedule_command.proofs.MadeSchedule.{made_back}
 use Rattle.schedule_command.proofs.NoFileMade.{not_diverged, not_read, performed, was_made}
 use Rattle.schedule_command.proofs.making.schedule.Goals as goal
@@ -34,7 +34,7 @@ returns-clause-performed g c =
     let told = g.F.Files.told c.args.files.now in
     let loaded = subst (λ (all : List Loaded). WereLoaded pairs told all) (sym c.deref.ensures.value) c.in_ok-all.ensures.answer in
     let some = c.in_ok-all.ensures.loaded in
-    let are = subst (λ (all : List Loaded). AreLoaded all some.0) (sym c.deref-2.ensures.value) some.1 in
+    let are = subst (λ (all : List Loaded). AreLoadedPairs all some.0) (sym c.deref-2.ensures.value) some.1 in
     let same : c.deref-2.result.now ≡ c.deref.result.now = c.deref-2.ensures.value ∙ sym c.deref.ensures.value in
     performed pairs told (g.F.Files.told c.load_all.new.files) (g.F.Files.counts c.args.files.now) (g.F.Files.counts c.load_all.new.files) c.make.result
     (was_made pairs told c.deref-2.result.now c.in_ok-parts.parts.items c.make.result (subst (WereLoaded pairs told) (sym same) loaded) (c.in_ok-parts.ensures.answer pairs told loaded) c.make.ensures.answer)
@@ -52,4 +52,4 @@ returns-clause-converse g c = λ folder is.
     let read = loaded folder is in
     made_back c.exact_logs.ensures c.rewritten_is_read.ensures c.reads_modules.ensures c.written_is_read.ensures.read c.states_fit.ensures.started c.records_back.ensures folder pairs read.0 c.in_ok-parts.parts.items c.make.result
     read.1.0 (c.in_ok-parts.ensures.answer pairs told loaded folder is) c.in_ok-parts.ensures.parts c.in_ok-parts.ensures.at_heads c.make.ensures.bytes
-    (c.make.ensures.answer read.0 (subst (λ (all : List Loaded). AreLoaded all read.0) (sym same) read.1.1))
+    (c.make.ensures.answer read.0 (subst (λ (all : List Loaded). AreLoadedPairs all read.0) (sym same) read.1.1))

@@ -1,7 +1,7 @@
 use Rattle.std.proofs.Common.{◌≡◌, Bool, length, None, Some, Ok, sym, ap, subst, ◌∙◌, arith}
 use Rattle.std.proofs.lemmas.Result.{err_from_is_err_and}
 use Rattle.schedule_text.specs.Outcome.{IsScheduleError}
-use Rattle.schedule_text.specs.Reading.{TakesLine, with_line, schedule_of}
+use Rattle.schedule_text.specs.Reading.{TakesLine, with_schedule_line, schedule_of}
 use Rattle.schedule_text.proofs.OutcomeLemmas.{read_begins, read_on, read_bad, read_ends}
 use Rattle.schedule_text.proofs.read.read_lines.Goals as goal
 
@@ -13,13 +13,13 @@ loop-line-init c = record {
 
 pub returns-then-not-branch : goal.returns-then-not-branch
 returns-then-not-branch c =
-    let found = with_line c.loop-line.draft c.in-Some.line.now in
+    let found = with_schedule_line c.loop-line.draft c.in-Some.line.now in
     let refused : found ≡ None = subst (λ (b : Bool). TakesLine (Ok b) c.take_line.new.self found) c.if-not-branch.true c.in_ok-take_line.ensures in
     read_bad (schedule_of c.args.bytes.now) c.loop-line.lines.left c.in-Some.line.now c.next_line.new.from.left c.loop-line.number c.loop-line.draft c.loop-line.invariant.so_far c.in-Some.ensures.lines refused
 
 pub loop-line-preserved : goal.loop-line-preserved
 loop-line-preserved c =
-    let found = with_line c.loop-line.draft c.in-Some.line.now in
+    let found = with_schedule_line c.loop-line.draft c.in-Some.line.now in
     let allowed : found ≡ Some c.take_line.new.self = subst (λ (b : Bool). TakesLine (Ok b) c.take_line.new.self found) c.if-not-branch.false c.in_ok-take_line.ensures in
     record {
       so_far = read_on (schedule_of c.args.bytes.now) c.loop-line.lines.left c.in-Some.line.now c.next_line.new.from.left c.loop-line.number c.loop-line.draft c.take_line.new.self c.loop-line.invariant.so_far c.in-Some.ensures.lines allowed;

@@ -1,13 +1,13 @@
 use Rattle.std.proofs.Common.{◌≡◌, ◌∙◌, ◌-◌, ◌++◌, List, ℕ, codes, map, suc, ap, sym, refl, arith}
 use Rattle.proc_replay.specs.Replaying.{Replaying}
 use Rattle.group_state.specs.Place.{GroupPlace}
-use Rattle.group_state.specs.Touch.{ticks}
+use Rattle.group_state.specs.Touch.{watch_ticks}
 use Rattle.shell_points.specs.declared.point.Point.{Point as Held}
 use Rattle.shell_points.specs.Firing.{firing_lines, place_at}
 use Rattle.shell_points.specs.Returning.{return_from}
 use Rattle.shell_points.specs.Seen.{point, return_of}
 use Rattle.shell_points.proofs.LastFiring.{begins_so, goes_to, later_last}
-use Rattle.shell_points.specs.Watching.{watched}
+use Rattle.shell_points.specs.Watching.{watched_expressions}
 use Rattle.shell_points.proofs.PointReads.{moved_on, read_before, read_now, ticked_from_start}
 use Rattle.shell_points.proofs.back.last_firing.Goals as goal
 
@@ -18,7 +18,7 @@ positions-init g c = record {
   read = c.in_ok-watching.ensures;
   last = begins_so c.args.group.start (map {A = Held} point c.args.points.now) c.args.group.at c.push_str.new.self c.requires.begins
       (c.in_ok-push_str.ensures.ok ∙ ap (λ (t : List ℕ). t ++ codes "start\n") c.new-text.ensures);
-  ticks = omega (arith, ap (ticks c.args.group.start (watched (map {A = Held} point c.args.points.now)) 0) c.requires.begins);
+  ticks = omega (arith, ap (watch_ticks c.args.group.start (watched_expressions (map {A = Held} point c.args.points.now)) 0) c.requires.begins);
 }
 
 pub after_event-requires-clause-moved : goal.after_event-requires-clause-moved
@@ -65,5 +65,5 @@ positions-preserved g c =
       read = read_now start old.at ps c.in_ok-now.now next went c.in_ok-now.ensures.now;
       last = later_last start ps next.at c.position-in-positions.result (return_of c.positions.last) (return_of c.later-last.result) c.in_ok-text.text c.position-in-positions.ensures.position
           (c.in_ok-text.ensures ∙ ap (λ (s : List Replaying). firing_lines s ps next.at) same) (i.last ∙ ap (λ (n : ℕ). return_from (place_at start n) ps) (sym at)) c.later-last.ensures;
-      ticks = ticked_from_start start (watched ps) old.at next c.args.steps.now c.positions.steps c.after_event.new.steps went i.ticks c.in_ok-now.ensures.ticks;
+      ticks = ticked_from_start start (watched_expressions ps) old.at next c.args.steps.now c.positions.steps c.after_event.new.steps went i.ticks c.in_ok-now.ensures.ticks;
     }

@@ -1,7 +1,7 @@
 use Rattle.std.proofs.Common.{◌≡◌, ◌-◌, false, map, sym, ◌∙◌}
 use Rattle.shell_points.specs.declared.point.Point.{Point as Held}
-use Rattle.shell_points.specs.Firing.{has_due}
-use Rattle.shell_points.specs.Reading.{readings}
+use Rattle.shell_points.specs.Firing.{has_due_point}
+use Rattle.shell_points.specs.Reading.{point_readings}
 use Rattle.shell_points.specs.Seen.{point}
 use Rattle.shell_points.proofs.PointReads.{nothing_said, where_none}
 use Rattle.shell_points.proofs.back.text_here.Goals as goal
@@ -11,5 +11,5 @@ returns-in-None c =
     let start = c.args.group.now.start in
     let at = c.args.group.now.at in
     let ps = map {A = Held} point c.args.points.now in
-    let none : has_due start ps at ≡ false = where_none c.args.before (has_due start ps at ≡ false) (λ before. before.items ≡ readings start (at - 1) ps) c.in-None.is c.requires.before in
+    let none : has_due_point start ps at ≡ false = where_none c.args.before (has_due_point start ps at ≡ false) (λ before. before.items ≡ point_readings start (at - 1) ps) c.in-None.is c.requires.before in
     c.new.ensures ∙ sym (nothing_said start at ps none)

@@ -1,6 +1,6 @@
 use Rattle.std.proofs.Common.{◌≡◌, ◌∙◌, ◌-◌, ◌≤◌, ℕ, List, length, map, suc, ap, arith}
 use Rattle.proc_replay.specs.Replaying.{Replaying}
-use Rattle.group_state.specs.Place.{GroupPlace, events}
+use Rattle.group_state.specs.Place.{GroupPlace, events_of_replays}
 use Rattle.shell_points.specs.declared.point.Point.{Point as Held}
 use Rattle.shell_points.specs.Firing.{place_at}
 use Rattle.shell_points.specs.Returning.{return_from}
@@ -18,10 +18,10 @@ returns-clause-returns g c =
     let same : c.in_ok-group.group.start ≡ first.start = ap (λ (p : GroupPlace). p.start) begun in
     let walked : c.in_ok-group-2.group.start ≡ first.start = c.in_ok-group-2.ensures.start ∙ same in
     let front : count ≡ first.at - 1 = c.saturating_sub-count.ensures ∙ ap (λ (n : ℕ). n - 1) c.position.ensures.position in
-    let within : count ≤ length (events first.start) = omega (arith, front, c.position.ensures.within) in
+    let within : count ≤ length (events_of_replays first.start) = omega (arith, front, c.position.ensures.within) in
     let last : r ≡ return_from (place_at first.start (suc count)) ps = c.in_ok-group-2.ensures.last ∙ ap (λ (s : List Replaying). return_from (place_at s (suc count)) ps) same in
-    let below : r.at ≤ length (events c.in_ok-group-2.group.start) =
-    omega (arith, last_within first.start ps count (length (events first.start)) r within last, ap (λ (s : List Replaying). length (events s)) walked) in
+    let below : r.at ≤ length (events_of_replays c.in_ok-group-2.group.start) =
+    omega (arith, last_within first.start ps count (length (events_of_replays first.start)) r within last, ap (λ (s : List Replaying). length (events_of_replays s)) walked) in
     let came : c.in_ok-group-3.group ≡ place_at first.start r.at =
     gone_to c.in_ok-group-2.group c.in_ok-group-3.group r.at c.in_ok-group-3.field-0-1 below c.in_ok-group-3.ensures ∙ ap (λ (s : List Replaying). place_at s r.at) walked in
     returns_there first c.in_ok-group-3.group ps count r c.push_position.new.text front last came c.in_ok-push_position.ensures

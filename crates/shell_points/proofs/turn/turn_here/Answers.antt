@@ -1,9 +1,9 @@
 use Rattle.std.proofs.Common.{◌≡◌, ◌-◌, false, map, sym, ◌∙◌}
 use Rattle.shell_points.specs.declared.point.Point.{Point as Held}
-use Rattle.shell_points.specs.Firing.{has_due}
-use Rattle.shell_points.specs.Reading.{readings}
+use Rattle.shell_points.specs.Firing.{has_due_point}
+use Rattle.shell_points.specs.Reading.{point_readings}
 use Rattle.shell_points.specs.Seen.{point}
-use Rattle.shell_points.specs.Walking.{quiet}
+use Rattle.shell_points.specs.Walking.{quiet_program}
 use Rattle.shell_points.proofs.PointReads.{nothing_done, where_none}
 use Rattle.shell_points.proofs.turn.turn_here.Goals as goal
 
@@ -12,5 +12,5 @@ returns-in-None c =
     let start = c.args.group.now.start in
     let at = c.args.group.now.at in
     let ps = map {A = Held} point c.args.points.now in
-    let none : has_due start ps at ≡ false = where_none c.args.before (has_due start ps at ≡ false) (λ before. before.items ≡ readings start (at - 1) ps) c.in-None.is c.requires.before in
-    (λ i. record { variables = c.args.variables; text = c.new-text.ensures i; stopped = false }) ∙ sym (nothing_done start at ps (quiet c.args.variables) none)
+    let none : has_due_point start ps at ≡ false = where_none c.args.before (has_due_point start ps at ≡ false) (λ before. before.items ≡ point_readings start (at - 1) ps) c.in-None.is c.requires.before in
+    (λ i. record { variables = c.args.variables; text = c.new-text.ensures i; stopped = false }) ∙ sym (nothing_done start at ps (quiet_program c.args.variables) none)

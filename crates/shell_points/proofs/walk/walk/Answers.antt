@@ -2,15 +2,15 @@ use Rattle.std.proofs.Common.{rules, ◌≡◌, ◌+◌, ◌-◌, ◌<◌, ◌�
 use Rattle.std.specs.Prelude.{IfOk, is_some}
 use Rattle.std.proofs.lemmas.List.{append-nil}
 use Rattle.proc_replay.specs.Replaying.{Replaying}
-use Rattle.group_state.specs.Place.{GroupPlace, events}
-use Rattle.group_state.specs.Touch.{ticks}
+use Rattle.group_state.specs.Place.{GroupPlace, events_of_replays}
+use Rattle.group_state.specs.Touch.{watch_ticks}
 use Rattle.shell_points.specs.declared.point.Point.{Point as Held}
 use Rattle.shell_points.specs.Firing.{place_at}
-use Rattle.shell_points.specs.Seen.{Walks, point, run_so_far}
+use Rattle.shell_points.specs.Seen.{PointsWalk, point, run_so_far}
 use Rattle.group_texts.specs.Texts.{position_line}
-use Rattle.shell_points.specs.Walking.{lines_in, most_lines, quiet, treat_all, walk_ended, walk_from, walk_on, walk_over}
+use Rattle.shell_points.specs.Walking.{lines_in, most_lines, quiet_program, treat_points, walk_ended, walk_from, walk_on, walk_over}
 use Rattle.shell_points.proofs.PointWalks.{arrives, lines_append, moves_on, pauses_here, rests_here, stays, step, stops_here}
-use Rattle.shell_points.specs.Watching.{watched}
+use Rattle.shell_points.specs.Watching.{watched_expressions}
 use Rattle.shell_points.proofs.PointReads.{moved_on, read_before, read_now, ticked, ticks_none}
 use Rattle.shell_points.proofs.walk.walk.Goals as goal
 
@@ -30,7 +30,7 @@ positions-init g c = record {
   read = c.in_ok-watching.ensures;
   said = search rules;
   ahead = search rules;
-  ticks = omega (arith, ticks_none c.args.group.start (watched (map {A = Held} point c.args.points.now)) c.args.group.at);
+  ticks = omega (arith, ticks_none c.args.group.start (watched_expressions (map {A = Held} point c.args.points.now)) c.args.group.at);
 }
 
 pub after_event-requires-clause-moved : goal.after_event-requires-clause-moved
@@ -76,8 +76,8 @@ returns-then-is_none-clause-ticks g c =
     let ps = map {A = Held} point c.args.points.now in
     let none : is_some c.in_ok-group.event ≡ false = c.is_none.ensures ∙ ap not c.if-is_none.true in
     let stay = stays old new c.in_ok-group.event none c.in_ok-group.ensures in
-    one_of c.arrive.result (λ done. done.group ≡ new) (λ done. c.positions.steps ≡ c.args.steps.now + ticks first.start (watched ps) first.at (done.group.at - first.at))
-    (λ done same. i.ticks ∙ ap (λ (p : GroupPlace). c.args.steps.now + ticks first.start (watched ps) first.at (p.at - first.at)) (sym (same ∙ stay.0)))
+    one_of c.arrive.result (λ done. done.group ≡ new) (λ done. c.positions.steps ≡ c.args.steps.now + watch_ticks first.start (watched_expressions ps) first.at (done.group.at - first.at))
+    (λ done same. i.ticks ∙ ap (λ (p : GroupPlace). c.args.steps.now + watch_ticks first.start (watched_expressions ps) first.at (p.at - first.at)) (sym (same ∙ stay.0)))
     c.arrive.ensures.group
 
 pub returns-then-turn-clause-ticks : goal.returns-then-turn-clause-ticks
@@ -90,10 +90,10 @@ returns-then-turn-clause-ticks g c =
     let some : is_some c.in_ok-group.event ≡ true = c.is_none.ensures ∙ ap not c.if-is_none.false in
     let went = moves_on old new c.in_ok-group.event some c.in_ok-group.ensures in
     let here : new ≡ place_at first.start (suc old.at) = went.0 ∙ ap (λ (s : List Replaying). place_at s (suc old.at)) i.start in
-    let is : c.after_event.new.steps ≡ c.args.steps.now + ticks first.start (watched ps) first.at (new.at - first.at) =
-    ticked first.start (watched ps) first.at old.at new c.args.steps.now c.positions.steps c.after_event.new.steps i.after here i.ticks c.in_ok-now.ensures.ticks in
-    one_of c.arrive-then-turn.result (λ done. done.group ≡ new) (λ done. c.after_event.new.steps ≡ c.args.steps.now + ticks first.start (watched ps) first.at (done.group.at - first.at))
-    (λ done same. is ∙ ap (λ (p : GroupPlace). c.args.steps.now + ticks first.start (watched ps) first.at (p.at - first.at)) (sym same))
+    let is : c.after_event.new.steps ≡ c.args.steps.now + watch_ticks first.start (watched_expressions ps) first.at (new.at - first.at) =
+    ticked first.start (watched_expressions ps) first.at old.at new c.args.steps.now c.positions.steps c.after_event.new.steps i.after here i.ticks c.in_ok-now.ensures.ticks in
+    one_of c.arrive-then-turn.result (λ done. done.group ≡ new) (λ done. c.after_event.new.steps ≡ c.args.steps.now + watch_ticks first.start (watched_expressions ps) first.at (done.group.at - first.at))
+    (λ done same. is ∙ ap (λ (p : GroupPlace). c.args.steps.now + watch_ticks first.start (watched_expressions ps) first.at (p.at - first.at)) (sym same))
     c.arrive-then-turn.ensures.group
 
 pub returns-then-said-ge-MOST_LINES-clause-ticks : goal.returns-then-said-ge-MOST_LINES-clause-ticks
@@ -106,10 +106,10 @@ returns-then-said-ge-MOST_LINES-clause-ticks g c =
     let some : is_some c.in_ok-group.event ≡ true = c.is_none.ensures ∙ ap not c.if-is_none.false in
     let went = moves_on old new c.in_ok-group.event some c.in_ok-group.ensures in
     let here : new ≡ place_at first.start (suc old.at) = went.0 ∙ ap (λ (s : List Replaying). place_at s (suc old.at)) i.start in
-    let is : c.after_event.new.steps ≡ c.args.steps.now + ticks first.start (watched ps) first.at (new.at - first.at) =
-    ticked first.start (watched ps) first.at old.at new c.args.steps.now c.positions.steps c.after_event.new.steps i.after here i.ticks c.in_ok-now.ensures.ticks in
-    one_of c.arrive-then-said-ge-MOST_LINES.result (λ done. done.group ≡ new) (λ done. c.after_event.new.steps ≡ c.args.steps.now + ticks first.start (watched ps) first.at (done.group.at - first.at))
-    (λ done same. is ∙ ap (λ (p : GroupPlace). c.args.steps.now + ticks first.start (watched ps) first.at (p.at - first.at)) (sym same))
+    let is : c.after_event.new.steps ≡ c.args.steps.now + watch_ticks first.start (watched_expressions ps) first.at (new.at - first.at) =
+    ticked first.start (watched_expressions ps) first.at old.at new c.args.steps.now c.positions.steps c.after_event.new.steps i.after here i.ticks c.in_ok-now.ensures.ticks in
+    one_of c.arrive-then-said-ge-MOST_LINES.result (λ done. done.group ≡ new) (λ done. c.after_event.new.steps ≡ c.args.steps.now + watch_ticks first.start (watched_expressions ps) first.at (done.group.at - first.at))
+    (λ done same. is ∙ ap (λ (p : GroupPlace). c.args.steps.now + watch_ticks first.start (watched_expressions ps) first.at (p.at - first.at)) (sym same))
     c.arrive-then-said-ge-MOST_LINES.ensures.group
 
 -- where a walk ended, what was said and the position reached are its text
@@ -124,13 +124,13 @@ returns-then-is_none-clause-walks g c =
     let ps = map {A = Held} point c.args.points.now in
     let none : is_some c.in_ok-group.event ≡ false = c.is_none.ensures ∙ ap not c.if-is_none.true in
     let stay = stays old new c.in_ok-group.event none c.in_ok-group.ensures in
-    let all = ap (λ (s : List Replaying). length (events s)) i.start in
-    let end : length (events first.start) - old.at ≡ 0 = omega (arith, stay.1, all) in
+    let all = ap (λ (s : List Replaying). length (events_of_replays s)) i.start in
+    let end : length (events_of_replays first.start) - old.at ≡ 0 = omega (arith, stay.1, all) in
     let is : walk_from first ps c.args.variables ≡ walk_ended old.at variables (text ++ codes "end\n") =
     sym i.ahead ∙ ap (λ (left : ℕ). walk_over first.start ps old.at left variables text) end in
     let here : new ≡ place_at first.start old.at = stay.0 ∙ ap (λ (s : List Replaying). place_at s old.at) i.start in
     all_three c.arrive.result (λ done. done.group ≡ new) (λ done. done.variables ≡ variables) (λ done. done.text ≡ (text ++ codes "end\n") ++ position_line new)
-    (λ done. Walks first ps c.args.variables done)
+    (λ done. PointsWalk first ps c.args.variables done)
     (λ done same kept says. arrives first ps c.args.variables variables old.at (text ++ codes "end\n") is new done here same kept says)
     c.arrive.ensures.group c.arrive.ensures.variables c.arrive.ensures.text
 
@@ -146,16 +146,16 @@ returns-then-turn-clause-walks g c =
     let some : is_some c.in_ok-group.event ≡ true = c.is_none.ensures ∙ ap not c.if-is_none.false in
     let went = moves_on old new c.in_ok-group.event some c.in_ok-group.ensures in
     let here : new ≡ place_at first.start (suc old.at) = went.0 ∙ ap (λ (s : List Replaying). place_at s (suc old.at)) i.start in
-    let before : old.at < length (events first.start) = omega (arith, went.1, ap (λ (s : List Replaying). length (events s)) i.start) in
-    let did : treat_all first.start (suc old.at) (quiet c.positions.walked.variables) ps ≡ run_so_far turn =
-    sym (c.in_ok-turn.ensures ∙ ap (λ (p : GroupPlace). treat_all p.start p.at (quiet c.positions.walked.variables) ps) here) in
-    let rest = walk_over first.start ps (suc old.at) (length (events first.start) - suc old.at) in
+    let before : old.at < length (events_of_replays first.start) = omega (arith, went.1, ap (λ (s : List Replaying). length (events_of_replays s)) i.start) in
+    let did : treat_points first.start (suc old.at) (quiet_program c.positions.walked.variables) ps ≡ run_so_far turn =
+    sym (c.in_ok-turn.ensures ∙ ap (λ (p : GroupPlace). treat_points p.start p.at (quiet_program c.positions.walked.variables) ps) here) in
+    let rest = walk_over first.start ps (suc old.at) (length (events_of_replays first.start) - suc old.at) in
     let is : walk_from first ps c.args.variables ≡ walk_ended (suc old.at) turn.variables (text ++ turn.text) =
-    sym i.ahead ∙ step first.start ps old.at (length (events first.start)) c.positions.walked.variables text before ∙ ap (walk_on rest (suc old.at) text) did
+    sym i.ahead ∙ step first.start ps old.at (length (events_of_replays first.start)) c.positions.walked.variables text before ∙ ap (walk_on rest (suc old.at) text) did
     ∙ stops_here rest (suc old.at) text (run_so_far turn) c.if-turn.true in
     let said : c.push_bytes.new.self ≡ text ++ turn.text = c.in_ok-push_bytes.ensures.ok ∙ ap (λ (b : List ℕ). text ++ b) c.bytes.ensures in
     all_three c.arrive-then-turn.result (λ done. done.group ≡ new) (λ done. done.variables ≡ turn.variables) (λ done. done.text ≡ (c.push_bytes.new.self ++ []) ++ position_line new)
-    (λ done. Walks first ps c.args.variables done)
+    (λ done. PointsWalk first ps c.args.variables done)
     (λ done same kept says. arrives first ps c.args.variables turn.variables (suc old.at) (text ++ turn.text) is new done here same kept
     (says ∙ ap (λ (t : List ℕ). t ++ position_line new) (append-nil c.push_bytes.new.self ∙ said)))
     c.arrive-then-turn.ensures.group c.arrive-then-turn.ensures.variables c.arrive-then-turn.ensures.text
@@ -172,18 +172,18 @@ returns-then-said-ge-MOST_LINES-clause-walks g c =
     let some : is_some c.in_ok-group.event ≡ true = c.is_none.ensures ∙ ap not c.if-is_none.false in
     let went = moves_on old new c.in_ok-group.event some c.in_ok-group.ensures in
     let here : new ≡ place_at first.start (suc old.at) = went.0 ∙ ap (λ (s : List Replaying). place_at s (suc old.at)) i.start in
-    let before : old.at < length (events first.start) = omega (arith, went.1, ap (λ (s : List Replaying). length (events s)) i.start) in
-    let did : treat_all first.start (suc old.at) (quiet c.positions.walked.variables) ps ≡ run_so_far turn =
-    sym (c.in_ok-turn.ensures ∙ ap (λ (p : GroupPlace). treat_all p.start p.at (quiet c.positions.walked.variables) ps) here) in
+    let before : old.at < length (events_of_replays first.start) = omega (arith, went.1, ap (λ (s : List Replaying). length (events_of_replays s)) i.start) in
+    let did : treat_points first.start (suc old.at) (quiet_program c.positions.walked.variables) ps ≡ run_so_far turn =
+    sym (c.in_ok-turn.ensures ∙ ap (λ (p : GroupPlace). treat_points p.start p.at (quiet_program c.positions.walked.variables) ps) here) in
     let many : most_lines ≤ lines_in (text ++ turn.text) = omega (arith, lines_append text turn.text, i.said, c.lines_in-said.ensures, c.if-said-ge-MOST_LINES.true) in
-    let rest = walk_over first.start ps (suc old.at) (length (events first.start) - suc old.at) in
+    let rest = walk_over first.start ps (suc old.at) (length (events_of_replays first.start) - suc old.at) in
     let is : walk_from first ps c.args.variables ≡ walk_ended (suc old.at) turn.variables ((text ++ turn.text) ++ codes "paused\n") =
-    sym i.ahead ∙ step first.start ps old.at (length (events first.start)) c.positions.walked.variables text before ∙ ap (walk_on rest (suc old.at) text) did
+    sym i.ahead ∙ step first.start ps old.at (length (events_of_replays first.start)) c.positions.walked.variables text before ∙ ap (walk_on rest (suc old.at) text) did
     ∙ pauses_here rest (suc old.at) text (run_so_far turn) c.if-turn.false many in
     let said : c.push_bytes.new.self ≡ text ++ turn.text = c.in_ok-push_bytes.ensures.ok ∙ ap (λ (b : List ℕ). text ++ b) c.bytes.ensures in
     all_three c.arrive-then-said-ge-MOST_LINES.result (λ done. done.group ≡ new) (λ done. done.variables ≡ turn.variables)
     (λ done. done.text ≡ (c.push_bytes.new.self ++ codes "paused\n") ++ position_line new)
-    (λ done. Walks first ps c.args.variables done)
+    (λ done. PointsWalk first ps c.args.variables done)
     (λ done same kept says. arrives first ps c.args.variables turn.variables (suc old.at) ((text ++ turn.text) ++ codes "paused\n") is new done here same kept
     (says ∙ ap (λ (t : List ℕ). (t ++ codes "paused\n") ++ position_line new) said))
     c.arrive-then-said-ge-MOST_LINES.ensures.group c.arrive-then-said-ge-MOST_LINES.ensures.variables c.arrive-then-said-ge-MOST_LINES.ensures.text
@@ -198,7 +198,7 @@ positions-smaller g c =
     let went = moves_on old new c.in_ok-group.event some c.in_ok-group.ensures in
     let here : new ≡ place_at first.start (suc old.at) = went.0 ∙ ap (λ (s : List Replaying). place_at s (suc old.at)) i.start in
     let at : new.at ≡ suc old.at = ap (λ (p : GroupPlace). p.at) here in
-    let before : old.at < length (events first.start) = omega (arith, went.1, ap (λ (s : List Replaying). length (events s)) i.start) in
+    let before : old.at < length (events_of_replays first.start) = omega (arith, went.1, ap (λ (s : List Replaying). length (events_of_replays s)) i.start) in
     omega (arith, at, before)
 
 pub positions-preserved : goal.positions-preserved
@@ -215,14 +215,14 @@ positions-preserved g c =
     let here : new ≡ place_at first.start (suc old.at) = went.0 ∙ ap (λ (s : List Replaying). place_at s (suc old.at)) i.start in
     let same : new.start ≡ first.start = ap (λ (p : GroupPlace). p.start) here in
     let at : new.at ≡ suc old.at = ap (λ (p : GroupPlace). p.at) here in
-    let before : old.at < length (events first.start) = omega (arith, went.1, ap (λ (s : List Replaying). length (events s)) i.start) in
-    let did : treat_all first.start (suc old.at) (quiet c.positions.walked.variables) ps ≡ run_so_far turn =
-    sym (c.in_ok-turn.ensures ∙ ap (λ (p : GroupPlace). treat_all p.start p.at (quiet c.positions.walked.variables) ps) here) in
+    let before : old.at < length (events_of_replays first.start) = omega (arith, went.1, ap (λ (s : List Replaying). length (events_of_replays s)) i.start) in
+    let did : treat_points first.start (suc old.at) (quiet_program c.positions.walked.variables) ps ≡ run_so_far turn =
+    sym (c.in_ok-turn.ensures ∙ ap (λ (p : GroupPlace). treat_points p.start p.at (quiet_program c.positions.walked.variables) ps) here) in
     let said : c.push_bytes.new.self ≡ text ++ turn.text = c.in_ok-push_bytes.ensures.ok ∙ ap (λ (b : List ℕ). text ++ b) c.bytes.ensures in
     let few : lines_in (text ++ turn.text) < most_lines = omega (arith, lines_append text turn.text, i.said, c.lines_in-said.ensures, c.if-said-ge-MOST_LINES.false) in
-    let rest = walk_over first.start ps (suc old.at) (length (events first.start) - suc old.at) in
+    let rest = walk_over first.start ps (suc old.at) (length (events_of_replays first.start) - suc old.at) in
     let is : walk_from first ps c.args.variables ≡ rest turn.variables (text ++ turn.text) =
-    sym i.ahead ∙ step first.start ps old.at (length (events first.start)) c.positions.walked.variables text before ∙ ap (walk_on rest (suc old.at) text) did
+    sym i.ahead ∙ step first.start ps old.at (length (events_of_replays first.start)) c.positions.walked.variables text before ∙ ap (walk_on rest (suc old.at) text) did
     ∙ rests_here rest (suc old.at) text (run_so_far turn) c.if-turn.false few in
     record {
       start = same;
@@ -230,7 +230,7 @@ positions-preserved g c =
       after = omega (arith, at, i.after);
       read = read_now first.start old.at ps c.in_ok-now.now new here c.in_ok-now.ensures.now;
       said = omega (arith, lines_append text turn.text, i.said, c.lines_in-said.ensures, ap lines_in said);
-      ahead = ap (λ (t : List ℕ). walk_over first.start ps new.at (length (events first.start) - new.at) turn.variables t) said
-          ∙ ap (λ (n : ℕ). walk_over first.start ps n (length (events first.start) - n) turn.variables (text ++ turn.text)) at ∙ sym is;
-      ticks = ticked first.start (watched ps) first.at old.at new c.args.steps.now c.positions.steps c.after_event.new.steps i.after here i.ticks c.in_ok-now.ensures.ticks;
+      ahead = ap (λ (t : List ℕ). walk_over first.start ps new.at (length (events_of_replays first.start) - new.at) turn.variables t) said
+          ∙ ap (λ (n : ℕ). walk_over first.start ps n (length (events_of_replays first.start) - n) turn.variables (text ++ turn.text)) at ∙ sym is;
+      ticks = ticked first.start (watched_expressions ps) first.at old.at new c.args.steps.now c.positions.steps c.after_event.new.steps i.after here i.ticks c.in_ok-now.ensures.ticks;
     }

@@ -1,24 +1,24 @@
 use Rattle.std.proofs.Common.{◌≡◌, ◌+◌, ◌-◌, ◌≤◌, length, map}
-use Rattle.group_state.specs.Place.{events}
-use Rattle.group_state.specs.Touch.{ticks}
+use Rattle.group_state.specs.Place.{events_of_replays}
+use Rattle.group_state.specs.Touch.{watch_ticks}
 use Rattle.shell_points.specs.declared.point.Point.{Point as Held}
 use Rattle.shell_points.specs.Seen.{point}
 use Rattle.shell_points.specs.Walking.{lines_in, walk_from, walk_over}
-use Rattle.shell_points.specs.Watching.{IsWatching, watched}
+use Rattle.shell_points.specs.Watching.{IsWatching, watched_expressions}
 use Rattle.shell_points.proofs.walk.walk.Given as goal
 
 -- the walk from here on, after what it made and said so far, is the whole
 abbrev pub invariant-positions : goal.invariant-positions
 invariant-positions g l = record {
   start : l.walked.group.start ≡ l.fn.group.start;
-  within : l.walked.group.at ≤ length (events l.fn.group.start);
+  within : l.walked.group.at ≤ length (events_of_replays l.fn.group.start);
   after : l.fn.group.at ≤ l.walked.group.at;
   read : IsWatching l.fn.group.start l.walked.group.at (map {A = Held} point l.points) l.watching;
   said : l.said ≡ lines_in l.walked.text;
-  ahead : walk_over l.fn.group.start (map {A = Held} point l.points) l.walked.group.at (length (events l.fn.group.start) - l.walked.group.at) l.walked.variables l.walked.text
+  ahead : walk_over l.fn.group.start (map {A = Held} point l.points) l.walked.group.at (length (events_of_replays l.fn.group.start) - l.walked.group.at) l.walked.variables l.walked.text
       ≡ walk_from l.fn.group (map {A = Held} point l.points) l.fn.variables;
-  ticks : l.steps ≡ l.fn.steps + ticks l.fn.group.start (watched (map {A = Held} point l.points)) l.fn.group.at (l.walked.group.at - l.fn.group.at);
+  watch_ticks : l.steps ≡ l.fn.steps + watch_ticks l.fn.group.start (watched_expressions (map {A = Held} point l.points)) l.fn.group.at (l.walked.group.at - l.fn.group.at);
 }
 
 abbrev pub decreases-positions : goal.decreases-positions
-decreases-positions g l = length (events l.fn.group.start) - l.walked.group.at
+decreases-positions g l = length (events_of_replays l.fn.group.start) - l.walked.group.at

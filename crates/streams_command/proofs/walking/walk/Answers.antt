@@ -3,7 +3,7 @@ use Rattle.std.proofs.lemmas.List.{length-map}
 use Rattle.lib_calls.specs.Entry.{entry_of}
 use Rattle.proc_replay.specs.Replaying.{Replaying}
 use Rattle.group_state.specs.declared.event.GroupEvent.{GroupEvent}
-use Rattle.group_state.specs.Moves.{Moves}
+use Rattle.group_state.specs.Moves.{GroupMoves}
 use Rattle.group_state.specs.Place.{group_count}
 use Rattle.streams_command.specs.Seen.{IsToldOf}
 use Rattle.streams_command.specs.Streams.{traffic_of_event}
@@ -12,14 +12,14 @@ use Rattle.streams_command.proofs.walking.walk.Goals as goal
 
 pub returns-in_default : goal.returns-in_default
 returns-in_default c =
-    let moves = subst (λ (e : Option GroupEvent). Moves c.events.here c.in_ok-next.next e) c.in_default.is c.in_ok-next.ensures in
+    let moves = subst (λ (e : Option GroupEvent). GroupMoves c.events.here c.in_ok-next.next e) c.in_default.is c.in_ok-next.ensures in
     all_walked c.args.parts.items c.events.here c.in_ok-next.next c.events.told c.events.invariant moves
 
 pub index-requires : goal.index-requires
 index-requires c =
     let start = c.args.parts.items in
     let event = c.in-Some.event in
-    let moves = subst (λ (e : Option GroupEvent). Moves c.events.here c.in_ok-next.next e) c.in-Some.is c.in_ok-next.ensures in
+    let moves = subst (λ (e : Option GroupEvent). GroupMoves c.events.here c.in_ok-next.next e) c.in-Some.is c.in_ok-next.ensures in
     let next = is_next c.ordered.ensures.order c.stepwise.ensures c.unsent_is_free.ensures start c.events.here c.in_ok-next.next event c.events.told c.requires c.position.ensures.fits
     (omega (arith, c.position.type_inv, c.position.ensures.position)) c.events.invariant moves in
     let are : c.in_ok-processes.processes.items ≡ map (λ r. r.head.process) start = c.in_ok-processes.ensures ∙ ap (map (λ (r : Replaying). r.head.process)) c.deref-2.ensures.value in
@@ -29,7 +29,7 @@ pub tell-requires-clause-new : goal.tell-requires-clause-new
 tell-requires-clause-new c =
     let start = c.args.parts.items in
     let event = c.in-Some.event in
-    let moves = subst (λ (e : Option GroupEvent). Moves c.events.here c.in_ok-next.next e) c.in-Some.is c.in_ok-next.ensures in
+    let moves = subst (λ (e : Option GroupEvent). GroupMoves c.events.here c.in_ok-next.next e) c.in-Some.is c.in_ok-next.ensures in
     let next = is_next c.ordered.ensures.order c.stepwise.ensures c.unsent_is_free.ensures start c.events.here c.in_ok-next.next event c.events.told c.requires c.position.ensures.fits
     (omega (arith, c.position.type_inv, c.position.ensures.position)) c.events.invariant moves in
     let are = c.in_ok-processes.ensures ∙ ap (map (λ (r : Replaying). r.head.process)) c.deref-2.ensures.value in
@@ -39,7 +39,7 @@ pub tell-requires-clause-odd : goal.tell-requires-clause-odd
 tell-requires-clause-odd c =
     let start = c.args.parts.items in
     let event = c.in-Some.event in
-    let moves = subst (λ (e : Option GroupEvent). Moves c.events.here c.in_ok-next.next e) c.in-Some.is c.in_ok-next.ensures in
+    let moves = subst (λ (e : Option GroupEvent). GroupMoves c.events.here c.in_ok-next.next e) c.in-Some.is c.in_ok-next.ensures in
     let next = is_next c.ordered.ensures.order c.stepwise.ensures c.unsent_is_free.ensures start c.events.here c.in_ok-next.next event c.events.told c.requires c.position.ensures.fits
     (omega (arith, c.position.type_inv, c.position.ensures.position)) c.events.invariant moves in
     next.odd
@@ -48,7 +48,7 @@ pub tell-requires-clause-foreign : goal.tell-requires-clause-foreign
 tell-requires-clause-foreign c =
     let start = c.args.parts.items in
     let event = c.in-Some.event in
-    let moves = subst (λ (e : Option GroupEvent). Moves c.events.here c.in_ok-next.next e) c.in-Some.is c.in_ok-next.ensures in
+    let moves = subst (λ (e : Option GroupEvent). GroupMoves c.events.here c.in_ok-next.next e) c.in-Some.is c.in_ok-next.ensures in
     let next = is_next c.ordered.ensures.order c.stepwise.ensures c.unsent_is_free.ensures start c.events.here c.in_ok-next.next event c.events.told c.requires c.position.ensures.fits
     (omega (arith, c.position.type_inv, c.position.ensures.position)) c.events.invariant moves in
     next.foreign
@@ -57,7 +57,7 @@ pub events-preserved : goal.events-preserved
 events-preserved c =
     let start = c.args.parts.items in
     let event = c.in-Some.event in
-    let moves = subst (λ (e : Option GroupEvent). Moves c.events.here c.in_ok-next.next e) c.in-Some.is c.in_ok-next.ensures in
+    let moves = subst (λ (e : Option GroupEvent). GroupMoves c.events.here c.in_ok-next.next e) c.in-Some.is c.in_ok-next.ensures in
     let next = is_next c.ordered.ensures.order c.stepwise.ensures c.unsent_is_free.ensures start c.events.here c.in_ok-next.next event c.events.told c.requires c.position.ensures.fits
     (omega (arith, c.position.type_inv, c.position.ensures.position)) c.events.invariant moves in
     let are = c.in_ok-processes.ensures ∙ ap (map (λ (r : Replaying). r.head.process)) c.deref-2.ensures.value in

@@ -2,12 +2,12 @@ use Rattle.std.proofs.Common.{◌≡◌, Some, sym, ap, ◌∙◌, refl, arith}
 use Rattle.wasm_types.specs.Code.{tree, trees}
 use Rattle.wasm_stack.specs.Answer.{after_of, way_of}
 use Rattle.wasm_step.specs.Paused.{halt_of}
-use Rattle.wasm_step.specs.Burst.{burst, settle, spent}
-use Rattle.wasm_stack.specs.Limits.{Within}
+use Rattle.wasm_step.specs.Burst.{burst, settle, spent_burst}
+use Rattle.wasm_stack.specs.Limits.{ThreadWithin}
 use Rattle.wasm_stack.specs.After.{Goes}
-use Rattle.wasm_step.specs.Reduce.{instr_row, reduce}
+use Rattle.wasm_step.specs.Reduce.{instr_row, reduce_instruction}
 use Rattle.wasm_stack.specs.Control.{leave_frame}
-use Rattle.wasm_stack.specs.Thread.{Thread, depth}
+use Rattle.wasm_stack.specs.Thread.{Thread, levels_left}
 use Rattle.wasm_step.proofs.EndsWithinLimits.{ended_within}
 use Rattle.wasm_step.proofs.LevelEnds.{depth_within, fewer_left}
 use Rattle.wasm_step.proofs.InPlace.{limited_within}
@@ -47,7 +47,7 @@ returns-in_default-return_from c =
 pub steps-smaller-in-Goes-way : goal.steps-smaller-in-Goes-way
 steps-smaller-in-Goes-way c =
     let within = c.in_ok-way.ensures.within (c.in-Some.is ∙ ap (λ (w : Way). Some w) c.in-Goes-way.is) in
-    fewer_left c.steps.left (depth c.row.new.thread) (depth c.steps.thread) c.steps-test.true (depth_within c.row.new.thread within)
+    fewer_left c.steps.left (levels_left c.row.new.thread) (levels_left c.steps.thread) c.steps-test.true (depth_within c.row.new.thread within)
 
 pub steps-preserved-in-Goes-way : goal.steps-preserved-in-Goes-way
 steps-preserved-in-Goes-way c =
@@ -70,15 +70,15 @@ returns-in_default-3 c =
     ∙ c.steps.invariant.same
 
 module _ (c : goal.After-todo-todo-in-steps) where
-  goes : Goes c.step.new.thread ≡ (reduce (tree c.instr-item.result) c.go_to.new.self c.row.new.store).after
+  goes : Goes c.step.new.thread ≡ (reduce_instruction (tree c.instr-item.result) c.go_to.new.self c.row.new.store).after
   goes = ap (λ n. after_of n c.step.new.thread) (sym c.in-Going-2.is) ∙ c.in_ok-halted-2.ensures.after
 
-  within : Within c.step.new.thread
+  within : ThreadWithin c.step.new.thread
   within = limited_within (instr_row (tree c.instr-item.result) c.go_to.new.self c.row.new.store).after c.step.new.thread (sym goes)
 
 pub steps-smaller : goal.steps-smaller
 steps-smaller c =
-    fewer_left c.steps.left (depth c.step.new.thread) (depth c.steps.thread) c.steps-test.true (depth_within c.step.new.thread (within c))
+    fewer_left c.steps.left (levels_left c.step.new.thread) (levels_left c.steps.thread) c.steps-test.true (depth_within c.step.new.thread (within c))
 
 pub steps-preserved : goal.steps-preserved
 steps-preserved c =
@@ -95,5 +95,5 @@ returns c =
     let g = c.steps.store in
     let none : c.steps.left ≡ 0 = omega (arith, c.steps-test.false) in
     let stop = halt_of (after_of c.spend.result c.spend.new.thread) in
-    let stops = c.spend.ensures ∙ ap (λ (t : Thread). spent (settle t)) c.go_to-2.ensures in
+    let stops = c.spend.ensures ∙ ap (λ (t : Thread). spent_burst (settle t)) c.go_to-2.ensures in
     sym (ap (λ k. burst k t g) none ∙ burst_spent t g stop stops) ∙ c.steps.invariant.same

@@ -2,7 +2,7 @@ use Rattle.std.proofs.Common.{◌≡◌, suc, refl, sym, ap, ◌∙◌, subst}
 use Rattle.wasm_types.specs.Code.{Trees, tree}
 use Rattle.wasm_stack.specs.declared.halt.Next.{Next}
 use Rattle.wasm_stack.specs.Answer.{after_of}
-use Rattle.wasm_step.specs.Burst.{Done, at_next, settle}
+use Rattle.wasm_step.specs.Burst.{Done, at_next_instruction, settle}
 use Rattle.wasm_step.specs.Paused.{settled_of}
 use Rattle.wasm_stack.specs.After.{Sticks}
 use Rattle.wasm_step.proofs.LevelRuns.{standing, settle_halts, burst_done, stopped_step, first_on}
@@ -22,7 +22,7 @@ returns-in_default-fetch-clause-ran c = λ k.
     let t = c.args.thread.now in
     let u = c.settle.new.thread in
     let ready = subst (λ (n : Next). settled_of (after_of n u) ≡ settle t) c.in-Going.is c.settle.ensures in
-    let done = sym ready ∙ ap (λ (todo : Trees). at_next todo u (Done Sticks)) c.in_default-fetch.ensures.none.0 in
+    let done = sym ready ∙ ap (λ (todo : Trees). at_next_instruction todo u (Done Sticks)) c.in_default-fetch.ensures.none.0 in
     sym (burst_done (suc k) t c.args.store.now Sticks done)
 
 pub returns-clause-ran : goal.returns-clause-ran

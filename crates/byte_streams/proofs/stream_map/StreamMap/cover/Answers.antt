@@ -1,5 +1,5 @@
 use Rattle.std.proofs.Common.{None, Some, ap, sym, ◌∙◌, rules}
-use Rattle.byte_streams.specs.Keeping.{stands_among}
+use Rattle.byte_streams.specs.Keeping.{piece_stands_among}
 use Rattle.byte_streams.specs.Seen.{piece_of}
 use Rattle.byte_streams.proofs.PieceChanges.{taken_there}
 use Rattle.byte_streams.proofs.TreeMaps.{by_stream_exact, get-seen, insert-seen}
@@ -7,13 +7,13 @@ use Rattle.byte_streams.proofs.stream_map.StreamMap.cover.Goals as goal
 
 pub returns-in_default-clause-stands : goal.returns-in_default-clause-stands
 returns-in_default-clause-stands c =
-    ap (stands_among (piece_of c.args.chunk.now))
+    ap (piece_stands_among (piece_of c.args.chunk.now))
     (sym (get-seen by_stream_exact c.self.inside.streams.entries c.args.self.now _ None c.self.view_is c.in_default.ensures.value))
 
 pub returns-clause-stands : goal.returns-clause-stands
 returns-clause-stands c =
     c.cover.ensures.stands
-    ∙ ap (stands_among (piece_of c.args.chunk.now))
+    ∙ ap (piece_stands_among (piece_of c.args.chunk.now))
     (sym (get-seen by_stream_exact c.self.inside.streams.entries c.args.self.now _ (Some c.in-Some.stream.now) c.self.view_is c.in-Some.ensures.value))
 
 pub returns-clause-streams : goal.returns-clause-streams

@@ -1,7 +1,7 @@
 use Rattle.std.proofs.Common.{None, Some, ap, ◌∙◌, rules}
 use Rattle.std.specs.BTreeMap.{BTreeMap}
 use Rattle.std.specs.FinMap as map
-use Rattle.byte_streams.specs.Keys.{Contents, StreamKey}
+use Rattle.byte_streams.specs.Keys.{StreamContents, StreamKey}
 use Rattle.byte_streams.specs.Seen.{piece_of}
 use Rattle.byte_streams.proofs.PieceChanges.{begun, counts_there, sent_there}
 use Rattle.byte_streams.proofs.TreeMaps.{by_stream_exact, get-seen, insert-seen}
@@ -31,6 +31,6 @@ returns-clause-counts c =
 pub returns-clause-streams : goal.returns-clause-streams
 returns-clause-streams c =
     begun (c.args.from, (c.args.to, c.args.chunk.now.stream)) (piece_of c.args.chunk.now) c.args.self.now c.begin.new.self _ c.begin.result
-    (ap (λ (m : BTreeMap StreamKey Contents). map.from_entries m.entries) c.get_mut.follows.holds-at-none ∙ c.self.view_is)
+    (ap (λ (m : BTreeMap StreamKey StreamContents). map.from_entries m.entries) c.get_mut.follows.holds-at-none ∙ c.self.view_is)
     (get-seen by_stream_exact c.self.inside.streams.entries c.args.self.now _ None c.self.view_is c.in_default.ensures.value)
     c.begin.ensures.streams

@@ -3,7 +3,7 @@ use Rattle.std.specs.Prelude.{IfNone}
 use Rattle.lib_calls.specs.declared.entry.Entry.{Entry}
 use Rattle.lib_calls.specs.Entry.{entry_of}
 use Rattle.call_log.specs.Entry.{encoding}
-use Rattle.call_log.specs.Log.{Log, Unread, entries_of, entry_at, rest_of}
+use Rattle.call_log.specs.Log.{Log, Unread, entries_of, entry_at, rest_of_log}
 use Rattle.call_log.proofs.EntryLemmas.{entry_at-begins, entry_at-none}
 use Rattle.call_log.proofs.AllEntries.{Stops, entries_of-next, rest_of-next, shorter, entries_of-end, rest_of-end}
 use Rattle.call_log.proofs.view.LogView.next_entry.Goals as goal
@@ -43,7 +43,7 @@ returns-clause-entries c =
 pub returns-clause-rest : goal.returns-clause-rest
 returns-clause-rest c =
     let left : Unread = record { version = c.self.inside.head.version; last = c.self.inside.last; bytes = c.self.inside.rest.now } in
-    sym (ap (λ (log : Log). rest_of log.left) c.self.view_is) ∙ rest_of-next c.exact_readers.ensures left (entry_of c.in_ok-entry.entry) c.in_ok-entry.rest.now c.in_ok-entry.ensures.shaped c.in_ok-entry.ensures.spelled
+    sym (ap (λ (log : Log). rest_of_log log.left) c.self.view_is) ∙ rest_of-next c.exact_readers.ensures left (entry_of c.in_ok-entry.entry) c.in_ok-entry.rest.now c.in_ok-entry.ensures.shaped c.in_ok-entry.ensures.spelled
 
 pub returns-clause-shorter : goal.returns-clause-shorter
 returns-clause-shorter c =

@@ -4,13 +4,13 @@ use Rattle.std.specs.Global.{Vec}
 use Rattle.embed_cmds.proofs.MentionOrder.{front_stays}
 use Rattle.embed_cmds.specs.Faulty.{set_names}
 use Rattle.embed_cmds.specs.Kept.{variable, variables_of}
-use Rattle.embed_cmds.specs.Tree.{body}
+use Rattle.embed_cmds.specs.Tree.{program_body}
 use Rattle.embed_cmds.specs.Variables.{Variable, mention_all}
 use Rattle.embed_cmds.proofs.variables.Vars.mention_all.Goals as goal
 
 pub returns-then-not-done-clause-ok : goal.returns-then-not-done-clause-ok
 returns-then-not-done-clause-ok c =
-    let all : List Variable = mention_all c.args.self.now (set_names (body c.args.p.now)) in
+    let all : List Variable = mention_all c.args.self.now (set_names (program_body c.args.p.now)) in
     let done : c.mention_program.new.self ≡ all = c.in_ok-mention_program.ensures.ok in
     let over : nat_le c.names.result c.args.most ≡ false = search rules in (
       ap (λ (n : ℕ). nat_le n c.args.most) (c.names.ensures ∙ ap length done),
@@ -18,6 +18,6 @@ returns-then-not-done-clause-ok c =
           ∙ sym (take-map {X = Vec ℕ × Option ℤ} variable c.names-before.result c.self.inside.values.entries)
           ∙ ap (λ (n : ℕ). take n (variables_of c.self.inside.values.entries)) c.names-before.ensures
           ∙ ap (take (length c.args.self.now)) (c.self.view_is ∙ done)
-          ∙ front_stays c.args.self.now (set_names (body c.args.p.now))
+          ∙ front_stays c.args.self.now (set_names (program_body c.args.p.now))
           ∙ sym (ap (λ (b : Bool). if b then all else c.args.self.now) over),
     )

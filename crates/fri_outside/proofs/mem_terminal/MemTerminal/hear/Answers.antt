@@ -1,6 +1,6 @@
 use Rattle.std.proofs.Common.{◌≡◌, ◌∷◌, ◌++◌, ℕ, List, [], length, subst, sym, ap, ◌∙◌}
 use Rattle.std.specs.Prelude.{Ok}
-use Rattle.fri_outside.specs.Memory.{Hears, TerminalInMemory}
+use Rattle.fri_outside.specs.Memory.{HearsInMemory, TerminalInMemory}
 use Rattle.fri_outside.specs.declared.mem_terminal.Mark.{Mark}
 use Rattle.fri_outside.proofs.GivenTimes.{hears_noted, told}
 use Rattle.fri_outside.proofs.mem_terminal.MemTerminal.hear.Goals as goal
@@ -18,6 +18,6 @@ returns-clause-heard c =
     ∙ ap (λ (h : ℕ). old.marks.items ++ mark (length old.out.bytes) h ∷ []) c.count-heard.ensures in
     let before : TerminalInMemory = record { input = old.input; out = old.out; asked = told old.out.bytes old.input.given old.marks.items; faults = old.faults } in
     let new : List Mark → TerminalInMemory = λ l. record { input = c.read.new.self; out = old.out; asked = told old.out.bytes c.read.new.self.given l; faults = old.faults } in
-    subst (λ (t : TerminalInMemory). Hears t (new noted) (Ok n) c.read.new.buf) c.self.view_is
-    (subst (λ (l : List Mark). Hears before (new l) (Ok n) c.read.new.buf) (sym marks)
+    subst (λ (t : TerminalInMemory). HearsInMemory t (new noted) (Ok n) c.read.new.buf) c.self.view_is
+    (subst (λ (l : List Mark). HearsInMemory before (new l) (Ok n) c.read.new.buf) (sym marks)
     (hears_noted old.out old.faults old.input c.read.new.self old.marks.items n c.read.new.buf c.self.invariant c.in_ok-count.ensures.bytes c.in_ok-count.ensures.end c.in_ok-count.ensures.bound c.in_ok-count.ensures.given))

@@ -1,5 +1,5 @@
 use Rattle.std.proofs.Common.{subst}
-use Rattle.fri_outside.specs.Memory.{Says, TerminalInMemory}
+use Rattle.fri_outside.specs.Memory.{SaysInMemory, TerminalInMemory}
 use Rattle.fri_outside.proofs.GivenTimes.{says_kept, told}
 use Rattle.fri_outside.proofs.mem_terminal.MemTerminal.say.Goals as goal
 
@@ -8,6 +8,6 @@ returns c =
     let old = c.self.inside in
     let new : TerminalInMemory = record { input = old.input; out = c.write.new.self; asked = told c.write.new.self.bytes old.input.given old.marks.items; faults = old.faults } in
     record {
-      said = subst (λ (t : TerminalInMemory). Says t new c.args.piece.now c.write.result) c.self.view_is
+      said = subst (λ (t : TerminalInMemory). SaysInMemory t new c.args.piece.now c.write.result) c.self.view_is
           (says_kept old.out c.write.new.self old.faults old.input old.marks.items c.args.piece.now c.write.result c.self.invariant c.write.ensures.whole c.write.ensures.bytes c.write.ensures.counted);
     }

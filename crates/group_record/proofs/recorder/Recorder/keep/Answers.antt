@@ -2,7 +2,7 @@ use Rattle.std.proofs.Common.{◌≡◌, ◌∙◌, inr, ap, refl, sym, subst}
 use Rattle.std.specs.Prelude.{slice_set}
 use Rattle.std.proofs.lemmas.Result.{err_from_is_err_and}
 use Rattle.lib_calls.specs.declared.entry.Entry.{Entry}
-use Rattle.group_record.specs.Members.{CanKeep, member_after}
+use Rattle.group_record.specs.Members.{CanKeepEntry, member_after}
 use Rattle.group_record.specs.declared.member.Member.{Member}
 use Rattle.group_world.specs.World.{after_event}
 use Rattle.lib_calls.specs.Entry.{entry_of}
@@ -15,7 +15,7 @@ use Rattle.group_record.proofs.recorder.Recorder.keep.Goals as goal
 pub keep-requires-clause-event : goal.keep-requires-clause-event
 keep-requires-clause-event g c =
     let m = c.index_mut.result.now in
-    subst (λ (e : Entry). CanKeep m e) (sym c.view-entry.ensures) (c.requires.event m (at_place c.args.self.now.members.items c.args.p m c.requires.process c.index_mut.ensures.value))
+    subst (λ (e : Entry). CanKeepEntry m e) (sym c.view-entry.ensures) (c.requires.event m (at_place c.args.self.now.members.items c.args.p m c.requires.process c.index_mut.ensures.value))
 
 pub returns-in_err-keep-clause-writes : goal.returns-in_err-keep-clause-writes
 returns-in_err-keep-clause-writes g c = λ m at.

@@ -1,6 +1,6 @@
 use Rattle.std.proofs.Common.{◌∙◌, refl, sym}
 use Rattle.std.proofs.lemmas.Result.{err_from_is_err_and}
-use Rattle.group_record.specs.Recorded.{acts, after_act}
+use Rattle.group_record.specs.Recorded.{item_acts, after_act}
 use Rattle.group_record.specs.Run.{after_item}
 use Rattle.group_record.proofs.RecorderCounts.{counted_other, few_other}
 use Rattle.group_record.proofs.GroupRunStops.{item_leads}
@@ -28,8 +28,8 @@ returns-in_ok-act-in_default g c = record {
   comes = λ group done before keeps files.
       item_comes c.by_counting.ensures.counted group done before (g.F.Files.told c.args.files.now) c.args.self.now c.act.new.self c.args.number c.args.item.now keeps files c.requires.in_range
       (is_other c.args.item.now c.in_default.not-Run).0 c.in_ok-act-in_default.ensures;
-  total = counted_other (acts c.args.self.now.members.items c.args.self.now.world c.args.item.now) (after_act c.args.self.now.members.items c.args.self.now.world c.args.item.now) c.args.self.now c.act.new.self c.args.item.now
+  total = counted_other (item_acts c.args.self.now.members.items c.args.self.now.world c.args.item.now) (after_act c.args.self.now.members.items c.args.self.now.world c.args.item.now) c.args.self.now c.act.new.self c.args.item.now
       (is_other c.args.item.now c.in_default.not-Run).1 c.in_ok-act-in_default.ensures;
-  prints = acted_prints (acts c.args.self.now.members.items c.args.self.now.world c.args.item.now) (after_act c.args.self.now.members.items c.args.self.now.world c.args.item.now) c.args.self.now c.act.new.self c.in_ok-act-in_default.ensures;
+  prints = acted_prints (item_acts c.args.self.now.members.items c.args.self.now.world c.args.item.now) (after_act c.args.self.now.members.items c.args.self.now.world c.args.item.now) c.args.self.now c.act.new.self c.in_ok-act-in_default.ensures;
   counted = refl;
 }

@@ -1,6 +1,6 @@
 use Rattle.std.proofs.Common.{◌∙◌, ◌+◌, drop, arith}
 use Rattle.std.proofs.lemmas.Result.{err_from_is_err_and}
-use Rattle.group_record.specs.Run.{GroupStart, Progress, after_item, after_items}
+use Rattle.group_record.specs.Run.{GroupStart, RunProgress, after_item, after_items}
 use Rattle.group_record.proofs.RecorderCounts.{few_first, few_next}
 use Rattle.group_record.proofs.RecorderLoops.{count_next, has_come, item_next, item_stops, items_end, under_next}
 use Rattle.group_record.proofs.SharedLemmas.{failed_writes}
@@ -20,7 +20,7 @@ perform-requires-clause-few g c = few_first c.args.items.now c.loop-item.item-in
 pub loop-item-preserved : goal.loop-item-preserved
 loop-item-preserved g c =
     let l = c.loop-item in
-    let next : GroupStart → Progress → Progress = λ group. after_item group (l.number + 1) c.item-item.result in
+    let next : GroupStart → RunProgress → RunProgress = λ group. after_item group (l.number + 1) c.item-item.result in
     record {
       number = omega (arith, l.invariant.number);
       under = under_next next l.self c.perform.new.self (g.F.Files.told l.files) (g.F.Files.told c.perform.new.files) l.invariant.under c.in_ok-perform.ensures.comes;

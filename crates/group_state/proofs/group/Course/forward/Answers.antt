@@ -1,8 +1,8 @@
 use Rattle.std.proofs.Common.{◌∙◌, ◌+◌, length, map, take, subst, sym, ap, refl, arith, slice_set}
-use Rattle.group_order.specs.Heads.{AreNone}
+use Rattle.group_order.specs.Heads.{AreNoHeads}
 use Rattle.guest_memory.specs.Memory.{IsMemory}
 use Rattle.guest_process.specs.State.{State}
-use Rattle.group_state.specs.Place.{events, head}
+use Rattle.group_state.specs.Place.{events_of_replays, head_of_replay}
 use Rattle.group_state.proofs.GroupCopies.{length_parts}
 use Rattle.group_state.proofs.AheadInOrder.{ends}
 use Rattle.group_state.proofs.GroupSteps.{forwarded, given, is_event, stands_on}
@@ -19,7 +19,7 @@ returns-in_default-clause-moves c =
     let i = c.requires in
     record {
       gives = sym (ends c.merges.ensures c.rises.ensures c.states_fit.ensures.ranges c.replays.ensures.turn g.first.items i.fits g.here.at
-          (subst AreNone (i.heads ∙ ap (map head) i.here.parts) c.in_default.ensures.next));
+          (subst AreNoHeads (i.heads ∙ ap (map head_of_replay) i.here.parts) c.in_default.ensures.next));
       place = refl;
     }
 
@@ -57,9 +57,9 @@ add-requires c =
       arith,
       f.fits,
       ap length f.stand,
-      length_parts 0 g.first.items (take (g.here.at + 1) (events g.first.items)),
+      length_parts 0 g.first.items (take (g.here.at + 1) (events_of_replays g.first.items)),
       ap length i.moved.lists,
-      length_motions 0 g.first.items (take g.motions.reached (events g.first.items)),
+      length_motions 0 g.first.items (take g.motions.reached (events_of_replays g.first.items)),
     )
 
 pub returns-clause-sound : goal.returns-clause-sound
@@ -70,7 +70,7 @@ returns-clause-sound c =
     i.fits i.here.parts i.heads c.in-Some.ensures.next c.in_ok-turn.ensures in
     let sound = f.sound i.here.sound c.index-part.result.now c.index-part.ensures (subst IsMemory (c.memory.ensures ∙ ap (λ (S : State). S.store.memory) c.process.ensures) c.size.ensures.sound) in
     let moved = moved_on g.first.items g.motions c.add.new.self g.here.at (node_event c.in-Some.node f.entry) i.moved i.been f.next f.within
-    (omega (arith, f.fits, ap length f.stand, length_parts 0 g.first.items (take (g.here.at + 1) (events g.first.items)))) c.in_ok-add.ensures in
+    (omega (arith, f.fits, ap length f.stand, length_parts 0 g.first.items (take (g.here.at + 1) (events_of_replays g.first.items)))) c.in_ok-add.ensures in
     record {
       parts = i.parts;
       fits = i.fits;

@@ -1,7 +1,7 @@
 use Rattle.std.proofs.Common.{◌∙◌, List, length, map, ap, subst, arith}
 use Rattle.std.specs.Prelude.{IfSome}
 use Rattle.proc_replay.specs.Replaying.{Replaying}
-use Rattle.group_state.specs.Place.{head}
+use Rattle.group_state.specs.Place.{head_of_replay}
 use Rattle.group_state.specs.Stands.{IsStand}
 use Rattle.group_state.proofs.GroupCopies.{few_parts, kept_checkpoint}
 use Rattle.group_state.proofs.group.Course.go_near.Goals as goal
@@ -28,7 +28,7 @@ returns-clause-sound c =
       fits = i.fits;
       few = i.few;
       here = is;
-      heads = c.in_ok-merge.ensures ∙ ap (map head) c.deref-2.ensures.value;
+      heads = c.in_ok-merge.ensures ∙ ap (map head_of_replay) c.deref-2.ensures.value;
       kept = i.kept;
       moved = i.moved;
       been = omega (arith, low, c.min.ensures, c.reached.ensures);

@@ -1,5 +1,5 @@
 use Rattle.std.proofs.Common.{◌∙◌, ◌<◌, map, length, get_or, ap, refl, arith}
-use Rattle.group_state.specs.Place.{states}
+use Rattle.group_state.specs.Place.{states_of_nodes}
 use Rattle.group_state.proofs.AheadInOrder.{no_state_at, state_at, states_at}
 use Rattle.group_state.proofs.group.Course.replay.Goals as goal
 
@@ -9,7 +9,7 @@ returns-in_err-part c =
     let at = ap (map (λ r. r.state)) c.requires.here.parts
     ∙ states_at c.merges.ensures c.rises.ensures c.states_fit.ensures.ranges c.replays.ensures.turn g.first.items c.requires.fits g.here.at c.replays.ensures.course c.requires.parts.fresh in
     let past = c.in_err-part.ensures.lookup.3 in
-    (rw c.from_residual.ensures (no_state_at g.here.parts.items (states g.first.items g.here.at) c.args.node at (omega (arith, past, c.deref.ensures.len))))
+    (rw c.from_residual.ensures (no_state_at g.here.parts.items (states_of_nodes g.first.items g.here.at) c.args.node at (omega (arith, past, c.deref.ensures.len))))
 
 pub returns : goal.returns
 returns c =
@@ -19,4 +19,4 @@ returns c =
     let lookup = c.in_ok-part.ensures.lookup in
     let part = c.in_ok-part.part.now in
     let within : c.args.node < length g.here.parts.items = omega (arith, lookup.3.0, ap length c.deref.ensures.value) in
-    (state_at g.here.parts.items (states g.first.items g.here.at) c.args.node part part.state at within (lookup.1 ∙ ap (λ rs. get_or rs c.args.node part) c.deref.ensures.value) refl)
+    (state_at g.here.parts.items (states_of_nodes g.first.items g.here.at) c.args.node part part.state at within (lookup.1 ∙ ap (λ rs. get_or rs c.args.node part) c.deref.ensures.value) refl)

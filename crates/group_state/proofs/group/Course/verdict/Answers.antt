@@ -1,5 +1,5 @@
 use Rattle.std.proofs.Common.{◌<◌, ◌∙◌, length, get_or, take, ap, arith}
-use Rattle.group_state.specs.Place.{events}
+use Rattle.group_state.specs.Place.{events_of_replays}
 use Rattle.group_state.specs.Report.{verdict_on}
 use Rattle.group_state.proofs.VerdictsAtEnd.{none_said, said_at, told}
 use Rattle.group_state.proofs.group.Course.verdict.Goals as goal
@@ -8,7 +8,7 @@ pub returns-in_err-part : goal.returns-in_err-part
 returns-in_err-part c =
     let g = c.args.self.now in
     let past = c.in_err-part.ensures.lookup.3 in
-    let none = none_said g.first.items g.here.parts.items (take g.here.at (events g.first.items)) c.args.node c.requires.sound.here.parts (omega (arith, past, c.deref.ensures.len)) in
+    let none = none_said g.first.items g.here.parts.items (take g.here.at (events_of_replays g.first.items)) c.args.node c.requires.sound.here.parts (omega (arith, past, c.deref.ensures.len)) in
     (rw c.from_residual.ensures none)
 
 pub verdict-requires : goal.verdict-requires

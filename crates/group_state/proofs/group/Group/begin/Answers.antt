@@ -3,7 +3,7 @@ use Rattle.std.proofs.lemmas.List.Elements.{All-nil}
 use Rattle.proc_replay.specs.Replaying.{Replaying}
 use Rattle.group_state.specs.At.{IsSoundCourse}
 use Rattle.group_state.specs.Motions.{no_motions}
-use Rattle.group_state.specs.Place.{PartsFit, head}
+use Rattle.group_state.specs.Place.{PartsFit, head_of_replay}
 use Rattle.group_state.specs.Stands.{AreStands, IsStand}
 use Rattle.group_state.proofs.GroupCopies.{few_parts}
 use Rattle.group_state.proofs.AheadInOrder.{few_events}
@@ -23,7 +23,7 @@ invariant_of-result c =
       fits = subst PartsFit c.deref.ensures.value c.in_ok-here.ensures.fits;
       few = few_events c.replays.ensures.turn parts c.requires.within c.requires.few;
       here = subst (λ (start : List Replaying). IsStand start c.in_ok-here.here) c.deref.ensures.value c.in_ok-here.ensures.stand;
-      heads = c.in_ok-merge.ensures ∙ ap (map head) c.deref-2.ensures.value;
+      heads = c.in_ok-merge.ensures ∙ ap (map head_of_replay) c.deref-2.ensures.value;
       kept = subst (AreStands parts) (sym c.new.ensures) (All-nil (IsStand parts));
       moved = first_motions parts c.in_ok-motions.motions (c.in_ok-motions.ensures ∙ ap no_motions (c.len.ensures ∙ c.args.parts.ok.0));
       been = omega (arith, c.in_ok-here.ensures.at);

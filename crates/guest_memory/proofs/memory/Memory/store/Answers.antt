@@ -2,7 +2,7 @@ use Rattle.std.proofs.Common.{◌≡◌, ◌∙◌, length, arith, rules, refl, 
 use Rattle.std.proofs.lemmas.List.{with_items_is}
 use Rattle.guest_memory.specs.LittleEndian.{low_bytes}
 use Rattle.guest_memory.specs.Memory.{put_piece}
-use Rattle.guest_memory.specs.Pages.{flat, stamps_of}
+use Rattle.guest_memory.specs.Pages.{bytes_of_pages, stamps_of}
 use Rattle.guest_memory.proofs.NumberBytes.{length-low_bytes}
 use Rattle.guest_memory.proofs.FlatPages.{flat-length}
 use Rattle.guest_memory.proofs.PageRanges.{one-inside, one-outside}
@@ -31,7 +31,7 @@ returns-clause-ok c =
     (let items = with_items_is c.self.inside.pages c.put_number_in.new.pages (omega (arith, c.in_ok-put_number_in.ensures.len)) in
     rw items
     (ap (λ (b : List ℕ). record { bytes = b; max = c.self.inside.max; stamps = stamps_of c.put_number_in.new.pages; number = c.self.inside.number }) (rw (c.deref_mut.ensures.value) at c.in_ok-put_number_in.ensures.bytes)
-    ∙ ap (λ (s : List ℕ). record { bytes = put_piece (flat c.self.inside.pages.items) c.args.addr (low_bytes c.args.width c.args.value); max = c.self.inside.max; stamps = s; number = c.self.inside.number }) (rw (c.deref_mut.ensures.value) at c.in_ok-put_number_in.ensures.stamps)))
+    ∙ ap (λ (s : List ℕ). record { bytes = put_piece (bytes_of_pages c.self.inside.pages.items) c.args.addr (low_bytes c.args.width c.args.value); max = c.self.inside.max; stamps = s; number = c.self.inside.number }) (rw (c.deref_mut.ensures.value) at c.in_ok-put_number_in.ensures.stamps)))
 
 pub returns-in_err-put_number_in-clause-err : goal.returns-in_err-put_number_in-clause-err
 returns-in_err-put_number_in-clause-err c =

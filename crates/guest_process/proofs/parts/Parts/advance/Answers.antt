@@ -1,6 +1,6 @@
 use Rattle.std.proofs.Common.{ap, arith, subst, sym, ◌∙◌}
 use Rattle.lib_calls.specs.Entry.{entry_of}
-use Rattle.wasm_step.specs.Suits.{Suits}
+use Rattle.wasm_step.specs.Suits.{SuitsModule}
 use Rattle.guest_process.specs.Seen.{state_of}
 use Rattle.guest_process.proofs.EventCounts.{counts}
 use Rattle.guest_process.proofs.EventMarks.{numbered_suits}
@@ -15,4 +15,4 @@ pub returns-clause-state : goal.returns-clause-state
 returns-clause-state c = ap (λ store. record (state_of c.make_event.new.self) { store = store }) c.begin_event.ensures ∙ c.in_ok-make_event.ensures.state
 
 pub returns-clause-suits : goal.returns-clause-suits
-returns-clause-suits c = subst Suits (sym c.begin_event.ensures) (numbered_suits c.make_event.new.self.store _ c.in_ok-make_event.ensures.suits)
+returns-clause-suits c = subst SuitsModule (sym c.begin_event.ensures) (numbered_suits c.make_event.new.self.store _ c.in_ok-make_event.ensures.suits)

@@ -1,6 +1,6 @@
 use Rattle.std.proofs.Common.{◌≡◌, ◌-◌, ap, ◌∙◌}
 use Rattle.page_watch.specs.Firing.{change_of}
-use Rattle.page_watch.specs.Watched.{Stands}
+use Rattle.page_watch.specs.Watched.{WatchStands}
 use Rattle.watch_expr.specs.Reads.{no_variables}
 use Rattle.watch_expr.specs.Value.{value}
 use Rattle.page_watch.proofs.AskedWatches.{same_expression, stands_after}
@@ -17,7 +17,7 @@ returns-clause-fires g c =
     let v = c.args.v.now in
     let V = g.V.TouchView in
     let new = V.states v (V.at v) in
-    let stands : Stands c.ask.new.self new =
+    let stands : WatchStands c.ask.new.self new =
     stands_after c.reads_tell.ensures (V.states v) (V.at v) (V.marks v) c.position.ensures.tells c.requires.position c.args.self.now c.ask.new.self c.in_ok-ask.ensures.watch c.requires.stands in
     let old_is : c.value-old.result ≡ value (V.states v (V.at v - 1)) no_variables c.args.self.now.expression = c.value-old.ensures ∙ c.requires.stands.value in
     let new_is : c.value.result ≡ value new no_variables c.args.self.now.expression =

@@ -2,7 +2,7 @@ use Rattle.std.proofs.Common.{rules, ◌≡◌, ◌+◌, ℕ, false, map, sym, a
 use Rattle.std.specs.List.{list_any}
 use Rattle.shell_points.specs.declared.point.Point.{Point as Held}
 use Rattle.shell_points.specs.Seen.{point}
-use Rattle.shell_points.specs.Watching.{is_break, watched}
+use Rattle.shell_points.specs.Watching.{is_break, watched_expressions}
 use Rattle.shell_points.proofs.PointReads.{evaluations, none_due, reads_by, still}
 use Rattle.shell_points.proofs.watching.Watching.after_event.Goals as goal
 
@@ -40,7 +40,7 @@ returns-then-not-has_breaks-clause-ticks g c =
     let ps = map {A = Held} point c.args.points.now in
     let e = c.in_ok-watches.ensures in
     let before = c.requires.before in
-    e.steps ∙ ap (λ (n : ℕ). c.args.steps.now + n) (evaluations start at c.args.self.watches (watched ps) c.requires.moved before.expressions)
+    e.steps ∙ ap (λ (n : ℕ). c.args.steps.now + n) (evaluations start at c.args.self.watches (watched_expressions ps) c.requires.moved before.expressions)
 
 pub returns-clause-now : goal.returns-clause-now
 returns-clause-now g c =
@@ -64,4 +64,4 @@ returns-clause-ticks g c =
     let ps = map {A = Held} point c.args.points.now in
     let e = c.in_ok-watches.ensures in
     let before = c.requires.before in
-    e.steps ∙ ap (λ (n : ℕ). c.args.steps.now + n) (evaluations start at c.args.self.watches (watched ps) c.requires.moved before.expressions)
+    e.steps ∙ ap (λ (n : ℕ). c.args.steps.now + n) (evaluations start at c.args.self.watches (watched_expressions ps) c.requires.moved before.expressions)

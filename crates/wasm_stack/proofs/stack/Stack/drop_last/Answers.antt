@@ -1,6 +1,6 @@
 use Rattle.std.proofs.Common.{◌≡◌, ◌≤◌, ◌-◌, ◌∙◌, length, take, drop, ap, arith, length-drop}
 use Rattle.std.proofs.lemmas.List.{length-reverse}
-use Rattle.wasm_stack.specs.Thread.{Thread, without}
+use Rattle.wasm_stack.specs.Thread.{Thread, without_operands}
 use Rattle.wasm_stack.proofs.StackViews.{IsSound-operands, keeps_without, without_view}
 use Rattle.wasm_stack.proofs.stack.Stack.drop_last.Goals as goal
 
@@ -30,4 +30,4 @@ invariant_of-self c =
 
 pub returns : goal.returns
 returns c =
-    without_view c.self.inside c.args.n c.self.invariant (enough c) c.truncate.new.self (kept c) ∙ ap (without c.args.n) c.self.view_is
+    without_view c.self.inside c.args.n c.self.invariant (enough c) c.truncate.new.self (kept c) ∙ ap (without_operands c.args.n) c.self.view_is

@@ -1,5 +1,5 @@
 use Rattle.std.proofs.Common.{◌∙◌, sym, ap, arith}
-use Rattle.wasm_stack.specs.Thread.{without}
+use Rattle.wasm_stack.specs.Thread.{without_operands}
 use Rattle.wasm_stack.proofs.StackViews.{IsSound-operands, keeps_popped, popped_view, some_operand}
 use Rattle.wasm_stack.proofs.stack.Stack.drop_one.Goals as goal
 
@@ -14,4 +14,4 @@ invariant_of-self c =
 pub returns : goal.returns
 returns c =
     let s = c.self.inside in
-    sym (ap (without 1) (sym c.self.view_is ∙ popped_view s c.take_last-top.new.self c.take_last-top.result c.self.invariant (some_operand s c.args.self.now c.self.view_is c.requires) c.take_last-top.ensures.items))
+    sym (ap (without_operands 1) (sym c.self.view_is ∙ popped_view s c.take_last-top.new.self c.take_last-top.result c.self.invariant (some_operand s c.args.self.now c.self.view_is c.requires) c.take_last-top.ensures.items))

@@ -6,7 +6,7 @@ use Rattle.wasm_types.specs.Calls.{result_of}
 use Rattle.wasm_types.specs.Locals.{zeros}
 use Rattle.wasm_types.specs.Modules.{func_type}
 use Rattle.wasm_stack.specs.View.{thread_of}
-use Rattle.wasm_stack.specs.Thread.{Thread, arguments, called, called_with, without}
+use Rattle.wasm_stack.specs.Thread.{Thread, arguments, called_function, called_with, without_operands}
 use Rattle.wasm_stack.specs.declared.stack.StackFrame.{StackFrame}
 use Rattle.wasm_stack.proofs.EnteredFrames.{IsEntered, grown, height as height_of, entered_sound, entered_view, size_within, within_of}
 use Rattle.wasm_stack.proofs.stack.Stack.enter_within.Goals as goal
@@ -99,9 +99,9 @@ pub returns-clause-entered : goal.returns-clause-entered
 returns-clause-entered c =
     let type = func_type c.args.typing.now in
     let n : c.len-n.result ≡ length type.params = c.len-n.ensures ∙ c.args.typing.now.params.ok.0 in
-    let called_by = λ (k : ℕ) (t : Thread) (gives : Option ValType). called_with (arguments k (without c.args.above t)) k (without c.args.above t) c.args.index c.args.callee gives in
+    let called_by = λ (k : ℕ) (t : Thread) (gives : Option ValType). called_with (arguments k (without_operands c.args.above t)) k (without_operands c.args.above t) c.args.index c.args.callee gives in
     λ _.
-    ap (λ (t : Thread). called (without c.args.above t) c.args.index c.args.callee type) (sym c.self.view_is)
+    ap (λ (t : Thread). called_function (without_operands c.args.above t) c.args.index c.args.callee type) (sym c.self.view_is)
     ∙ ap (λ k. called_by k (thread_of c.self.inside) (result_of type)) (sym n)
     ∙ ap (λ g. called_by c.len-n.result (thread_of c.self.inside) g) (sym c.result_of-self-inside.ensures)
     ∙ entered_view _ _ _ _ _ _ _ _ _ c.min-self-inside.result c.self.invariant (frame c)
@@ -109,5 +109,5 @@ returns-clause-entered c =
 pub returns-clause-within : goal.returns-clause-within
 returns-clause-within c =
     within_of _ (invariant_of-self c)
-    (omega (arith, c.push_reserved.ensures.len, c.push_reserved.new.self.ok.0, c.len-else-capacity-locals_from.ensures, c.if-len-ge-FRAME_LIMIT.false))
+    (omega (arith, c.push_reserved.ensures.len, c.push_reserved.new.self.ok.0, c.len-else-capacity-locals_from.ensures, c.if-len-ge-MOST_FRAMES.false))
     (size c)

@@ -1,6 +1,6 @@
 use Rattle.std.proofs.Common.{◌≡◌, ◌+◌, ◌-◌, ◌≤◌, length, ap, sym, ◌∙◌, subst}
 use Rattle.std.specs.Prelude.{nat_lt, nat_le, ◌&&◌}
-use Rattle.wasm_stack.specs.Thread.{Thread, has_room, without}
+use Rattle.wasm_stack.specs.Thread.{Thread, has_room, without_operands}
 use Rattle.wasm_stack.proofs.StackViews.{room_without_view}
 use Rattle.wasm_stack.proofs.stack.Stack.has_room_without.Goals as goal
 
@@ -18,4 +18,4 @@ returns c =
     ∙ ap (λ k. nat_lt k 512 && nat_le (c.len-2.result - n + c.len-3.result + c.len-4.result + c.args.more) 16384) frames
     ∙ ap (λ k. nat_lt (length s.callers.items) 512 && nat_le (k + c.args.more) 16384) all
     ∙ room_without_view n c.args.more s c.self.invariant enough
-    ∙ ap (λ (t : Thread). has_room c.args.more (without n t)) c.self.view_is
+    ∙ ap (λ (t : Thread). has_room c.args.more (without_operands n t)) c.self.view_is

@@ -7,8 +7,8 @@ use Rattle.wasm_stack.proofs.WithinLimits.{within_is}
 use Rattle.wasm_stack.proofs.StackViews.{length_of_frames, size_view}
 use Rattle.wasm_stack.proofs.stack.Stack.is_within.Goals as goal
 
-pub returns-then-len-lt-FRAME_LIMIT : goal.returns-then-len-lt-FRAME_LIMIT
-returns-then-len-lt-FRAME_LIMIT c =
+pub returns-then-len-lt-MOST_FRAMES : goal.returns-then-len-lt-MOST_FRAMES
+returns-then-len-lt-MOST_FRAMES c =
     let s = c.self.inside in
     let frames = length_of_frames (reverse s.callers.items) (take s.here.labels_from s.labels.items) (take s.here.locals_from s.locals.items) (take s.here.bottom s.operands.items) ∙ length-reverse s.callers.items in
     sym (

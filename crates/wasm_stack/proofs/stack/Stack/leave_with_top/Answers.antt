@@ -1,7 +1,7 @@
 use Rattle.std.proofs.Common.{◌-◌, Some, sym, ap, ◌∙◌, arith}
 use Rattle.wasm_stack.specs.After.{Goes, on_top}
-use Rattle.wasm_stack.specs.Control.{resumed}
-use Rattle.wasm_stack.specs.Thread.{Thread, left}
+use Rattle.wasm_stack.specs.Control.{resumed_caller}
+use Rattle.wasm_stack.specs.Thread.{Thread, left_frame}
 use Rattle.wasm_stack.specs.View.{IsStack, thread_of}
 use Rattle.wasm_stack.specs.declared.stack.Stack.TheInside.{Inside}
 use Rattle.wasm_stack.proofs.StackViews.{IsLeft, IsSound-operands, floor_low, keeps_pushed, left_sound, left_view, pushed_view, some_operand, stack_top}
@@ -36,7 +36,7 @@ returns-in-Some-clause-left c =
     let top = stack_top s (c.len.result - 1) v (omega arith) (omega arith) c.index-v.ensures in
     let view = pushed_view (below c) c.push_reserved.new.self v (below_sound c) c.push_reserved.ensures.items in
     let leaves = left_view s c.truncate.new.self c.truncate-in-Some.new.self c.truncate-in-Some-2.new.self c.pop.new.self c.in-Some.held c.self.invariant (is_left c) in
-    ap (λ (t : Thread). on_top t.stack t (λ v t. resumed (left t) (Some v))) (sym c.self.view_is)
-    ∙ ap (λ o. on_top o (thread_of s) (λ v t. resumed (left t) (Some v))) top
-    ∙ ap (λ o. resumed o (Some v)) leaves
+    ap (λ (t : Thread). on_top t.stack t (λ v t. resumed_caller (left_frame t) (Some v))) (sym c.self.view_is)
+    ∙ ap (λ o. on_top o (thread_of s) (λ v t. resumed_caller (left_frame t) (Some v))) top
+    ∙ ap (λ o. resumed_caller o (Some v)) leaves
     ∙ ap Goes (sym view)

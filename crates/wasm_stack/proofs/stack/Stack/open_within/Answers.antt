@@ -2,7 +2,7 @@ use Rattle.std.proofs.Common.{◌-◌, ◌<◌, refl, sym, ap, ◌∙◌, subst,
 use Rattle.wasm_types.specs.Code.{tree, trees}
 use Rattle.wasm_stack.specs.declared.stack.StackFrame.{StackFrame}
 use Rattle.wasm_stack.specs.declared.stack.StackLevel.{StackLevel}
-use Rattle.wasm_stack.specs.Limits.{Within}
+use Rattle.wasm_stack.specs.Limits.{ThreadWithin}
 use Rattle.wasm_stack.specs.View.{entered_by, opened_by}
 use Rattle.wasm_stack.specs.Thread.{Thread, size_of_thread}
 use Rattle.wasm_stack.proofs.WithinLimits.{within_elsewhere, within_opened}
@@ -20,5 +20,5 @@ returns-clause-within c =
     let now : StackFrame = record s.here { todo = c.args.body; floor = c.len-self-inside.result } in
     let label : StackLevel = record { opener = c.args.opener; todo = c.args.todo; floor = s.here.floor } in
     let view = opened_view s now c.push_reserved.new.self label c.self.invariant (c.len-self-inside.ensures ∙ s.operands.ok.0) refl c.push_reserved.ensures.items (s.room - 1) in
-    subst (λ (t : Thread). Within t) (sym (view ∙ ap (λ (t : Thread). entered_by (tree c.args.opener.now) (trees c.args.body.now) (record t { todo = rest })) c.self.view_is))
+    subst (λ (t : Thread). ThreadWithin t) (sym (view ∙ ap (λ (t : Thread). entered_by (tree c.args.opener.now) (trees c.args.body.now) (record t { todo = rest })) c.self.view_is))
     (within_opened (record t { todo = rest }) o.gives (trees c.args.body.now) o.target o.carries o.loops (within_elsewhere t rest c.requires) fewer)

@@ -1,5 +1,5 @@
 use Rattle.std.proofs.Common.{◌≡◌, ◌<◌, sym, ap, ◌∙◌, subst, arith}
-use Rattle.wasm_stack.specs.Limits.{Within}
+use Rattle.wasm_stack.specs.Limits.{ThreadWithin}
 use Rattle.wasm_stack.specs.Thread.{Thread, size_of_thread, with_operand}
 use Rattle.wasm_stack.specs.View.{thread_of}
 use Rattle.wasm_stack.proofs.WithinLimits.{within_pushed}
@@ -24,4 +24,4 @@ returns-clause-within c =
     let s = c.self.inside in
     let whole = ap size_of_thread (sym c.self.view_is) ∙ size_view s c.self.invariant in
     let fewer : size_of_thread c.args.self.now < 16384 = omega (arith, whole, s.operands.ok.0, c.self.invariant.room.limit) in
-    subst (λ (t : Thread). Within t) (sym (view c)) (within_pushed c.args.self.now c.args.v c.requires fewer)
+    subst (λ (t : Thread). ThreadWithin t) (sym (view c)) (within_pushed c.args.self.now c.args.v c.requires fewer)

@@ -1,7 +1,7 @@
 use Rattle.std.proofs.Common.{◌≡◌, ◌≤◌, ◌-◌, ◌∙◌, Some, length, take, drop, sym, ap, arith}
 use Rattle.std.proofs.lemmas.List.{take_rest}
-use Rattle.wasm_stack.specs.Call.{sited, site_of}
-use Rattle.wasm_stack.specs.Thread.{arguments, without}
+use Rattle.wasm_stack.specs.Call.{call_sited, site_of}
+use Rattle.wasm_stack.specs.Thread.{arguments, without_operands}
 use Rattle.wasm_stack.proofs.StackViews.{IsSound-operands, keeps_without, without_view, arguments_view}
 use Rattle.wasm_stack.proofs.stack.Stack.take_site.Goals as goal
 
@@ -26,8 +26,8 @@ returns-clause-some c =
     let n = c.args.n in
     let rest = take_rest c.deref.result.now (c.len-height.result - n) in
     let read : drop (c.len-height.result - n) c.deref.result.now ≡ drop (length s.operands.items - n) s.operands.items = ap (λ o. drop (c.len-height.result - n) o) c.deref.ensures.value ∙ ap (λ k. drop (k - n) s.operands.items) (height c) in (
-      ap (λ t. sited c.args.func (arguments n t)) (sym c.self.view_is)
-          ∙ ap (sited c.args.func) (arguments_view s n c.self.invariant (enough c))
+      ap (λ t. call_sited c.args.func (arguments n t)) (sym c.self.view_is)
+          ∙ ap (call_sited c.args.func) (arguments_view s n c.self.invariant (enough c))
           ∙ ap Some (sym (c.site-site.ensures ∙ ap (site_of c.args.func) (rest ∙ read))),
-      without_view s n c.self.invariant (enough c) c.truncate.new.self (kept c) ∙ ap (without n) c.self.view_is,
+      without_view s n c.self.invariant (enough c) c.truncate.new.self (kept c) ∙ ap (without_operands n) c.self.view_is,
     )

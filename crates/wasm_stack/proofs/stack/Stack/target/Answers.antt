@@ -1,14 +1,14 @@
 use Rattle.std.proofs.Common.{◌≡◌, ◌-◌, ap, sym, ◌∙◌, arith}
 use Rattle.wasm_types.specs.Code.{tree, trees}
 use Rattle.wasm_types.specs.CodeLaws.{tree-loop}
-use Rattle.wasm_stack.specs.Thread.{Thread, Opened}
-use Rattle.wasm_stack.specs.View.{opened_by, innermost, frame_labels}
+use Rattle.wasm_stack.specs.Thread.{Thread, OpenedLevel}
+use Rattle.wasm_stack.specs.View.{opened_by, innermost_opened, frame_labels}
 use Rattle.wasm_stack.proofs.StackViews.{innermost_top, opens_none}
 use Rattle.wasm_stack.proofs.stack.Stack.target.Goals as goal
 use Rattle.wasm_stack.proofs.stack.Stack.target.Goals.{After-index}
 
 module _ (c : After-index) where
-  opened : innermost c.self.inside.here.gives (frame_labels c.self.inside.here c.self.inside.labels.items) ≡ opened_by (tree c.index.result.now.opener.now) (trees c.index.result.now.todo.now)
+  opened : innermost_opened c.self.inside.here.gives (frame_labels c.self.inside.here c.self.inside.labels.items) ≡ opened_by (tree c.index.result.now.opener.now) (trees c.index.result.now.todo.now)
   opened =
       let s = c.self.inside in
       let height = c.len-2.ensures ∙ s.labels.ok.0 in
@@ -21,8 +21,8 @@ returns-in-Loop c =
     ∙ ap (λ i. opened_by (tree i) (trees c.index.result.now.todo.now)) c.in-Loop.is
     ∙ ap (λ i. opened_by i (trees c.index.result.now.todo.now)) (tree-loop c.in-Loop.field-0 c.in-Loop.body)
     in (
-      ap (λ (t : Thread). t.loops) (sym c.self.view_is) ∙ ap (λ (o : Opened). o.loops) o,
-      ap (λ (t : Thread). t.target) (sym c.self.view_is) ∙ ap (λ (o : Opened). o.target) o ∙ ap trees (sym c.deref.ensures.value),
+      ap (λ (t : Thread). t.loops) (sym c.self.view_is) ∙ ap (λ (o : OpenedLevel). o.loops) o,
+      ap (λ (t : Thread). t.target) (sym c.self.view_is) ∙ ap (λ (o : OpenedLevel). o.target) o ∙ ap trees (sym c.deref.ensures.value),
     )
 
 pub returns-in_default : goal.returns-in_default
@@ -30,6 +30,6 @@ returns-in_default c =
     let o = opened (goal.at-returns-in_default c).After-index in
     let i = c.index.result.now.opener.now in
     let none = opens_none i (trees c.index.result.now.todo.now) (record { block = c.in_default.not-Block; loop = c.in_default.not-Loop; choice = c.in_default.not-If }) in (
-      ap (λ (t : Thread). t.loops) (sym c.self.view_is) ∙ ap (λ (o : Opened). o.loops) o ∙ none.0,
-      ap (λ (t : Thread). t.carries) (sym c.self.view_is) ∙ ap (λ (o : Opened). o.carries) o ∙ none.1,
+      ap (λ (t : Thread). t.loops) (sym c.self.view_is) ∙ ap (λ (o : OpenedLevel). o.loops) o ∙ none.0,
+      ap (λ (t : Thread). t.carries) (sym c.self.view_is) ∙ ap (λ (o : OpenedLevel). o.carries) o ∙ none.1,
     )

@@ -1,6 +1,6 @@
 use Rattle.std.proofs.Common.{◌≡◌, ℕ, Option, Some, sym, ap, ◌∙◌, subst}
 use Rattle.wasm_types.specs.Modules.{Module, module_of}
-use Rattle.wasm_step.specs.Fits.{StandsFit, Fits}
+use Rattle.wasm_step.specs.Fits.{StandsFit, ThreadFits}
 use Rattle.wasm_stack.specs.Control.{with_result}
 use Rattle.wasm_step.specs.Strand.{Strand, IsResult, library_result}
 use Rattle.wasm_stack.specs.Thread.{Thread}
@@ -13,4 +13,4 @@ invariant_of-result c =
     let typed = subst (λ (m : Module). IsResult (library_result m c.requires.func) c.args.value) (ap (λ (s : Strand). s.«module») (sym c.self.view_is)) c.requires.typed in
     let fits = subst (λ (call : Option ℕ). StandsFit m c.self.inside.stack.value call) stands c.self.invariant in
     let after = c.in_ok-give.ensures ∙ ap (λ (t : Thread). with_result c.args.value t) c.deref_mut.ensures.value in
-    subst (λ (t : Thread). Fits m t) (sym after) (fits c.args.value typed)
+    subst (λ (t : Thread). ThreadFits m t) (sym after) (fits c.args.value typed)

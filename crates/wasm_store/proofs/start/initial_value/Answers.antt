@@ -3,7 +3,7 @@ use Rattle.wasm_types.specs.declared.code.Instr.{Instr}
 use Rattle.wasm_types.specs.declared.code.Value.{Value}
 use Rattle.wasm_types.specs.Code.{trees}
 use Rattle.wasm_store.specs.Start.{initial_in}
-use Rattle.wasm_store.proofs.start.initial.Goals as goal
+use Rattle.wasm_store.proofs.start.initial_value.Goals as goal
 
 several : (is : List Instr) (otherwise : Value) → 2 ≤ length is → otherwise ≡ initial_in (trees is) otherwise
 several [] otherwise h = absurd (omega arith)

@@ -1,9 +1,9 @@
 use Rattle.std.proofs.Common.{◌≡◌, ◌<◌, ◌-◌, None, length, get_or, map, sym, arith}
 use Rattle.shell_points.specs.declared.point.Point.{Point as Held}
 use Rattle.shell_points.specs.Seen.{point, run_so_far}
-use Rattle.shell_points.specs.Walking.{quiet, treat_all}
+use Rattle.shell_points.specs.Walking.{quiet_program, treat_points}
 use Rattle.shell_points.proofs.PointWalks.{read_at, treated, treated_more}
-use Rattle.shell_points.proofs.turn.treat_all.Goals as goal
+use Rattle.shell_points.proofs.turn.treat_points.Goals as goal
 
 pub loop-n-preserved : goal.loop-n-preserved
 loop-n-preserved c =
@@ -16,6 +16,6 @@ loop-n-preserved c =
     let p = c.index-points-n.result in
     let within : n < length points = omega (arith, c.loop-n-test.true) in
     let here : get_or points n p ≡ p = sym c.index-points-n.is in
-    let did = treated start at (run_so_far c.loop-n.turn) (run_so_far c.treat.new.turn) (point p) (get_or before n None) (get_or now n None) c.requires.moved
-    (read_at start (at - 1) n points p before None c.requires.before within here) (read_at start at n points p now None c.requires.now within here) c.in_ok-treat.ensures in
-    treated_more start at n points p (run_so_far c.loop-n.turn) (run_so_far c.treat.new.turn) (treat_all start at (quiet c.args.variables) (map {A = Held} point points)) within here did c.loop-n.invariant
+    let did = treated start at (run_so_far c.loop-n.turn) (run_so_far c.treat_point.new.turn) (point p) (get_or before n None) (get_or now n None) c.requires.moved
+    (read_at start (at - 1) n points p before None c.requires.before within here) (read_at start at n points p now None c.requires.now within here) c.in_ok-treat_point.ensures in
+    treated_more start at n points p (run_so_far c.loop-n.turn) (run_so_far c.treat_point.new.turn) (treat_points start at (quiet_program c.args.variables) (map {A = Held} point points)) within here did c.loop-n.invariant
