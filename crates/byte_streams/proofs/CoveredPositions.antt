@@ -3,7 +3,7 @@ use Rattle.std.proofs.Common.{◌≡◌, ℕ, ◌+◌, ◌-◌, ◌<◌, ◌≤�
 use Rattle.std.specs.Prelude.{◌&&◌, ◌||◌, nat_le, nat_lt}
 use Rattle.std.proofs.lemmas.Bool.{cases_lt, le-leb, le-ltb, lt-leb, lt-ltb}
 use Rattle.std.proofs.lemmas.List.{get_or-append_right, get_or-drop, get_or-replicate, get_or-take, get_or_append_left, get_or_at, length-map, length-replicate, length-take, length-take-le, map-append, same_lists}
-use Rattle.byte_streams.specs.Keeping.{cover}
+use Rattle.byte_streams.specs.inside.Keeping.{cover}
 use Rattle.byte_streams.specs.Traffic.{numbers_below}
 
 pub length-below : (n : ℕ) → length (numbers_below n) ≡ n

@@ -5,7 +5,7 @@ use Rattle.std.specs.FinMap as map
 use Rattle.std.proofs.lemmas.Bool.{and_right, cond-true}
 use Rattle.byte_streams.specs.declared.mark.PayloadMark.TheVariants.{Counted, Plain, Strange}
 use Rattle.byte_streams.specs.Chunk.{StreamPiece, chunk_at}
-use Rattle.byte_streams.specs.Keeping.{cover, is_taken_of, is_front_of_sent, kept_contents_of, piece_stands_among, with_cover, with_taken}
+use Rattle.byte_streams.specs.inside.Keeping.{cover, is_taken_of, is_front_of_sent, kept_contents_of, piece_stands_among, with_cover, with_taken}
 use Rattle.byte_streams.specs.Keys.{StreamContents, stream_key_of}
 use Rattle.byte_streams.specs.Stands.{KeptTraffic, StandsFor, stream_contents}
 use Rattle.byte_streams.specs.Traffic.{Received, ReceivedPayload, StreamName, SendOrReceive, numbers_below, counted_send, covers_position, is_covered_position, is_front_of, is_listed_stream, is_stream, mark_of_receive, written_stream}

@@ -6,7 +6,7 @@ use Rattle.std.proofs.lemmas.Bool.{cond-true}
 use Rattle.std.proofs.lemmas.List.{append-nil, append_assoc, map-append, replicate_more}
 use Rattle.byte_streams.specs.declared.mark.PayloadMark.TheVariants.{Counted, Plain, Strange}
 use Rattle.byte_streams.specs.Chunk.{StreamPiece, chunk_at}
-use Rattle.byte_streams.specs.Keeping.{is_written_to, kept_contents_of, with_sent_piece, with_stream_sent}
+use Rattle.byte_streams.specs.inside.Keeping.{is_written_to, kept_contents_of, with_sent_piece, with_stream_sent}
 use Rattle.byte_streams.specs.Keys.{StreamContents, chunk_of, stream_key_of}
 use Rattle.byte_streams.specs.Stands.{KeptTraffic, StandsFor, stream_contents}
 use Rattle.byte_streams.specs.Traffic.{SentPayload, Sent, StreamName, SendOrReceive, WrittenPiece, numbers_below, send_that_counts, counted_send, continues_or_repeats, is_covered_position, is_listed_stream, is_to_stream, is_stream, latest_written, mark_of_send, stream_of, written_stream}

@@ -4,7 +4,7 @@ use Rattle.std.specs.Prelude.{◌==◌, ◌&&◌, if◌then◌else◌, option_ma
 use Rattle.std.specs.Cmp.{tied_then}
 use Rattle.std.specs.Ordering.{eq_by_cmp, is_eq, nat_cmp, ordering_then}
 use Rattle.std.proofs.lemmas.Bool.Decides.{nat_tests}
-use Rattle.byte_streams.specs.Keeping.{kept_contents_of, contents_or_empty}
+use Rattle.byte_streams.specs.inside.Keeping.{kept_contents_of, contents_or_empty}
 use Rattle.byte_streams.specs.Keys.{by_process_and_clock, by_stream, chunk_of, stream_key_of}
 use Rattle.byte_streams.specs.Stands.{KeptTraffic, StandsFor, stream_contents}
 use Rattle.byte_streams.specs.Traffic.{StreamName, SendOrReceive, numbers_below, counted_send, is_covered_position, is_listed_stream, is_stream, written_stream}

@@ -4,7 +4,7 @@ use Rattle.std.specs.Prelude.{◌||◌, if◌then◌else◌}
 use Rattle.std.specs.FinMap as map
 use Rattle.byte_streams.specs.Chunk.{StreamPiece}
 use Rattle.byte_streams.specs.Keys.{StreamContents, StreamKey, ContentsByStream}
-use Rattle.byte_streams.specs.Keeping.{empty_contents, is_written_to, contents_or_empty, with_cover, with_sent_piece, with_stream_sent, with_taken}
+use Rattle.byte_streams.specs.inside.Keeping.{empty_contents, is_written_to, contents_or_empty, with_cover, with_sent_piece, with_stream_sent, with_taken}
 use Rattle.byte_streams.specs.Traffic.{continues_or_repeats, piece_stands_in}
 use Rattle.byte_streams.proofs.TreeMaps.{by_stream_exact, insert_held}
 

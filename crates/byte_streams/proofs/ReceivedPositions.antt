@@ -4,7 +4,7 @@ use Rattle.std.specs.Prelude.{◌==◌, ◌&&◌, nat_eq, nat_le, if◌then◌el
 use Rattle.std.specs.List.{starts_with}
 use Rattle.std.proofs.lemmas.Bool.{and_parts, eqb-true, false_from_ne_true, ltb-true, or_cases}
 use Rattle.byte_streams.specs.Chunk.{StreamPiece, chunk_at}
-use Rattle.byte_streams.specs.Keeping.{is_front_of_sent, piece_stands_among}
+use Rattle.byte_streams.specs.inside.Keeping.{is_front_of_sent, piece_stands_among}
 use Rattle.byte_streams.specs.Keys.{StreamContents, chunk_of}
 use Rattle.byte_streams.specs.Stands.{stream_contents}
 use Rattle.byte_streams.specs.Traffic.{Received, ReceivedPayload, Sent, StreamName, SendOrReceive, WrittenPiece, added_stream_bytes, counted_send, covers_position, is_covered_position, is_front_of, is_listed_stream, is_stream, written_stream}

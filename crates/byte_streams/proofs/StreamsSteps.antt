@@ -5,7 +5,7 @@ use Rattle.std.specs.FinMap as map
 use Rattle.std.proofs.lemmas.Bool.{and_from, and_left, and_right, cond-false, cond-true}
 use Rattle.byte_streams.specs.declared.mark.PayloadMark.TheVariants.{Counted, Strange}
 use Rattle.byte_streams.specs.Chunk.{StreamPiece, chunk_at}
-use Rattle.byte_streams.specs.Keeping.{is_taken_of, is_front_of_sent, is_written_to, with_stream_sent, with_taken}
+use Rattle.byte_streams.specs.inside.Keeping.{is_taken_of, is_front_of_sent, is_written_to, with_stream_sent, with_taken}
 use Rattle.byte_streams.specs.Keys.{Chunks, ContentsByStream, by_process_and_clock, by_stream, chunk_of, stream_key_of}
 use Rattle.byte_streams.specs.Stands.{KeptTraffic, StandsFor}
 use Rattle.byte_streams.specs.Traffic.{Received, ReceivedPayload, SentPayload, Sent, SendOrReceive, mark_of_receive, mark_of_send, stream_of}

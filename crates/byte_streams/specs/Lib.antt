@@ -4,5 +4,5 @@ pub mod Traffic
 pub mod Keys
 pub mod Stands
 pub mod Lines
-pub mod Keeping
 pub mod Laws
+pub mod inside

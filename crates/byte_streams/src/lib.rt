@@ -4,7 +4,7 @@
 //! of a group, one after the other, and keeps of each stream what was written to it and which of its bytes were taken.
 //! Contracts see what it keeps (`KeptTraffic` of `specs/Stands`), and say that this stands for the sends and receives so far
 //! (`StandsFor`), over the definitions of `specs/Traffic`: which of them count, what was written, and what was read.
-//! Inside is how the code keeps that, step by step (`specs/Keeping`).
+//! Inside is how the code keeps that, step by step (`specs/inside/Keeping`).
 #![tactic(auto)]
 
 mod chunk;

@@ -1,7 +1,7 @@
 // The sends that count.
 ghost use Rattle.std.specs.Prelude.{◌≡◌, OnOk};
 ghost use Rattle.std.specs.FinMap as map;
-ghost use Rattle.byte_streams.specs.Keeping.{is_front_of_sent};
+ghost use Rattle.byte_streams.specs.inside.Keeping.{is_front_of_sent};
 ghost use Rattle.byte_streams.specs.Seen.{piece_of};
 
 use crate::chunk::Chunk;

@@ -1,7 +1,7 @@
 // The streams by their names.
 ghost use Rattle.std.specs.Prelude.{◌≡◌, [], IfOk, OnOk, option_map, if◌then◌else◌};
 ghost use Rattle.std.specs.FinMap as map;
-ghost use Rattle.byte_streams.specs.Keeping.{empty_contents, is_taken_of, is_written_to, with_sent_piece, with_stream_sent, with_taken};
+ghost use Rattle.byte_streams.specs.inside.Keeping.{empty_contents, is_taken_of, is_written_to, with_sent_piece, with_stream_sent, with_taken};
 ghost use Rattle.byte_streams.specs.Lines.{stream_line, stream_lines, read_of};
 ghost use Rattle.byte_streams.specs.Seen.{piece_of};
 ghost use Rattle.byte_streams.specs.Traffic.{continues_or_repeats};

@@ -65,14 +65,6 @@ abbrev pub clock_after : ℕ → List Entry → ℕ
 clock_after last [] = last
 clock_after last (e ∷ es) = clock_after e.clock es
 
--- the fields of an entry before its arguments
-unfoldable pub front_bytes : Version → ℕ → Entry → List ℕ
-front_bytes v last e = concat (clock_bytes v last e.clock ∷ number_bytes v w16 e.thread ∷ (e.call.kind ∷ e.signal ∷ []) ∷ [])
-
--- those after its arguments and before its tag
-unfoldable pub reply_bytes : Version → Entry → List ℕ
-reply_bytes v e = number_bytes v w64 e.reply ++ (string_if v (has_outgoing e.call.kind) e.outgoing ++ string_if v (has_incoming e.call.kind) e.incoming)
-
 -- no entry is at the front of the bytes, which are after an entry with the clock `last`
 abbrev pub BeginsNoEntry : Version → ℕ → List ℕ → Type 0
 BeginsNoEntry v last bytes = (e : Entry) (rest : List ℕ) → IsShaped e → bytes ≡ encoding v last e ++ rest → ⊥

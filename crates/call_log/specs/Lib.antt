@@ -7,3 +7,4 @@ pub mod Log
 pub mod Laws
 pub mod Walk
 pub mod Limits
+pub mod inside

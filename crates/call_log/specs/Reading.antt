@@ -1,9 +1,9 @@
 -- What the readers find at the front of some bytes, field by field. The laws of proofs/ say that this is
 -- exactly what the bytes spell.
-use Rattle.std.specs.Prelude.{◌≡◌, ℕ, ◌^◌, Bool, ◌&&◌, ◌==◌, nat_lt, nat_le, if◌then◌else◌, List, [], length, codes, Option, Some, None, option_and_then}
+use Rattle.std.specs.Prelude.{ℕ, ◌^◌, Bool, ◌&&◌, ◌==◌, nat_lt, nat_le, if◌then◌else◌, List, [], length, codes, Option, Some, None, option_and_then}
 use Rattle.std.specs.Str.{bytes_eq}
 use Rattle.std.specs.Int.{w16, w32, w64}
-use Rattle.fri_bytes.specs.Reading.{byte_at, piece_at, le_at, CursorState}
+use Rattle.fri_bytes.specs.Reading.{byte_at, piece_at, le_at}
 use Rattle.lamport_tag.specs.declared.Tag.{Tag}
 use Rattle.lib_calls.specs.declared.entry.Call.{Call}
 use Rattle.lib_calls.specs.Kinds.{argument_count, has_outgoing, has_incoming, has_tag}
@@ -18,11 +18,6 @@ infixl 10 ◌>>=◌
 -- a step, and the next one where it gave something
 abbrev pub ◌>>=◌ : {A B : Type 0} → Option A → (A → Option B) → Option B
 o >>= f = option_and_then f o
-
--- what a reader that may stop half way gives: the value at the front and what follows it
-abbrev pub GivesField : {A : Type 0} → Option A → CursorState → Option (A × List ℕ) → Type 0
-GivesField None new found = found ≡ None
-GivesField (Some x) new found = found ≡ Some (x, new.left)
 
 -- ---- an entry
 

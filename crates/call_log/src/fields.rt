@@ -2,7 +2,8 @@
 ghost use Rattle.std.specs.Prelude.{◌≡◌, option_map};
 ghost use Rattle.lib_calls.specs.Kinds.{argument_count as argument_count_of, has_incoming as has_incoming_of, has_outgoing as has_outgoing_of, has_tag as has_tag_of};
 ghost use Rattle.call_log.specs.Kind.{is_kind as is_kind_of};
-ghost use Rattle.call_log.specs.Reading.{GivesField, call_at, flagged_tag_at, number_if_at, string_at, string_if_at, tag_fields_at, tag_if_at};
+ghost use Rattle.call_log.specs.inside.Parts.{GivesField};
+ghost use Rattle.call_log.specs.Reading.{call_at, flagged_tag_at, number_if_at, string_at, string_if_at, tag_fields_at, tag_if_at};
 
 use crate::number::{read_u32, read_u64};
 use crate::version::Version;

@@ -1,7 +1,8 @@
 // The head of a log.
 ghost use Rattle.std.specs.Prelude.{◌≡◌, ◌++◌, IfSome, IfNone, option_map};
 ghost use Rattle.call_log.specs.Head.{BeginsNoHead, IsHead, head_bytes, head_of};
-ghost use Rattle.call_log.specs.Reading.{GivesField, name_at, read_head as head_read};
+ghost use Rattle.call_log.specs.inside.Parts.{GivesField};
+ghost use Rattle.call_log.specs.Reading.{name_at, read_head as head_read};
 
 use crate::version::Version;
 use fri_bytes::Cursor;

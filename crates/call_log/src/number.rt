@@ -2,7 +2,7 @@
 ghost use Rattle.std.specs.Prelude.{◌≡◌, ◌^◌, ◌<◌, ◌≤◌, ◌++◌, length, take, IfSome, OnErr, OnOk};
 ghost use Rattle.std.specs.Int.{w16, w32, w64};
 ghost use Rattle.fri_bytes.specs.Short.{short_at};
-ghost use Rattle.call_log.specs.Reading.{GivesField};
+ghost use Rattle.call_log.specs.inside.Parts.{GivesField};
 ghost use Rattle.call_log.specs.Version.{if_below, clock_at, clock_bytes, number_at, number_bytes};
 
 use crate::version::Version;

@@ -2,7 +2,8 @@
 ghost use Rattle.std.specs.Prelude.{◌≡◌, ◌^◌, ◌<◌, ◌≤◌, ◌++◌, ◌&&◌, nat_lt, length, map, take, Some, OnOk, OnErr};
 ghost use Rattle.std.specs.List.{concat};
 ghost use Rattle.lib_calls.specs.Entry.{IsStringIf, IsTagIf, entry_of, IsShaped};
-ghost use Rattle.call_log.specs.Entry.{argument_bytes, body_bytes, encoding, flagged_tag, front_bytes, number_if, reply_bytes, string_if, tag_if};
+ghost use Rattle.call_log.specs.Entry.{argument_bytes, body_bytes, encoding, flagged_tag, number_if, string_if, tag_if};
+ghost use Rattle.call_log.specs.inside.Parts.{front_bytes, reply_bytes};
 ghost use Rattle.call_log.specs.declared.version.Version.TheVariants.{Two};
 ghost use Rattle.call_log.specs.Version.{clock_gap};
 ghost use Rattle.call_log.specs.Head.{IsHead, head_bytes, head_of};
@@ -148,7 +149,7 @@ fn is_short(last: u64, entry: &EntryView<'_>) -> bool
 }
 
 // The same of version 2, where the clock and the thread take one byte each: most often they do.
-#[tactic(auto, unfolding(crate::specs::Entry::front_bytes, fri_bytes::specs::Short::short_bytes))]
+#[tactic(auto, unfolding(crate::specs::inside::Parts::front_bytes, fri_bytes::specs::Short::short_bytes))]
 #[inline(always)]
 fn put_short_front(out: &mut Vec<u8>, last: u64, entry: &EntryView<'_>) -> Result<(), AllocError>
     requires gap { clock_gap last entry.now.clock < 128 }
@@ -164,7 +165,7 @@ fn put_short_front(out: &mut Vec<u8>, last: u64, entry: &EntryView<'_>) -> Resul
 }
 
 // The same of any entry.
-#[tactic(auto, unfolding(crate::specs::Entry::front_bytes))]
+#[tactic(auto, unfolding(crate::specs::inside::Parts::front_bytes))]
 #[inline(always)]
 fn put_any_front(
     out: &mut Vec<u8>,
@@ -212,7 +213,7 @@ fn put_number_if(
 }
 
 // Adds the reply, and the bytes that went out and came in, or a part of that where memory runs out.
-#[tactic(auto, unfolding(crate::specs::Entry::reply_bytes))]
+#[tactic(auto, unfolding(crate::specs::inside::Parts::reply_bytes))]
 #[inline(always)]
 fn put_reply(out: &mut Vec<u8>, version: Version, entry: &EntryView<'_>) -> Result<(), AllocError>
     requires { IsShaped (entry_of entry.now) }

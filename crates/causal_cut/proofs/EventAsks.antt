@@ -16,7 +16,7 @@ use Rattle.proc_replay.specs.Replaying.{Replaying}
 use Rattle.group_state.specs.Laws.{SendsFirst}
 use Rattle.group_state.specs.Place.{AscendsByProcess, PartsFit, entry_clock, events_of_replays}
 use Rattle.causal_cut.specs.declared.asks.Ask.{Ask}
-use Rattle.causal_cut.specs.Asks.{ask_by, ask_for, ask_of, number_among, process_numbers}
+use Rattle.causal_cut.specs.inside.Asks.{ask_by, ask_for, ask_of, number_among, process_numbers}
 use Rattle.causal_cut.specs.Past.{count_asked, count_to, is_within_lengths}
 use Rattle.causal_cut.proofs.Families.{at}
 use Rattle.causal_cut.proofs.NodeEvents.{is_later, own_take}

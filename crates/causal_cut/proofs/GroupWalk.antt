@@ -16,7 +16,7 @@ use Rattle.group_state.specs.Moves.{GroupMoves, event_of}
 use Rattle.group_state.specs.Place.{AreParts, PartsFit, GroupPlace, entry_clock, events_of_replays}
 use Rattle.group_state.specs.declared.event.GroupEvent.{GroupEvent}
 use Rattle.causal_cut.specs.declared.asks.Ask.{Ask}
-use Rattle.causal_cut.specs.Asks.{AreAsks, AreClocks, AreCountedAsks, AreOrderedAsks, AreRisingClocks, AreOfNodes, IsMetAsk, PrecedesAsk, ask_of, process_numbers, with_node_clock}
+use Rattle.causal_cut.specs.inside.Asks.{AreAsks, AreClocks, AreCountedAsks, AreOrderedAsks, AreRisingClocks, AreOfNodes, IsMetAsk, PrecedesAsk, ask_of, process_numbers, with_node_clock}
 use Rattle.causal_cut.specs.Past.{accepted_counts, count_asked, is_within_lengths}
 use Rattle.causal_cut.proofs.EventAsks.{Asks, IsAsk, event_asks}
 use Rattle.causal_cut.proofs.ClosedFamilies.{EachPasses, each_passes, passes_each}

@@ -7,7 +7,7 @@ use Rattle.std.proofs.lemmas.Option.{same_Some}
 use Rattle.lib_calls.specs.declared.entry.Entry.{Entry}
 use Rattle.group_order.specs.Order.{IsSorted, NodeEvent, of_node, event_precedes}
 use Rattle.group_state.specs.Place.{entry_clock}
-use Rattle.causal_cut.specs.Asks.{AreRisingClocks}
+use Rattle.causal_cut.specs.inside.Asks.{AreRisingClocks}
 
 abbrev entry_in : NodeEvent Entry → Entry
 entry_in e = e.entry

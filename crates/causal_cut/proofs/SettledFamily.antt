@@ -6,7 +6,7 @@ use Rattle.std.proofs.lemmas.Bool.Decides.{leb_tells}
 use Rattle.std.proofs.lemmas.List.{get_or-set_same, length-set}
 use Rattle.causal_cut.proofs.Families.{AreBelow, at}
 use Rattle.causal_cut.specs.declared.asks.Ask.{Ask}
-use Rattle.causal_cut.specs.Asks.{AreCountedAsks, AreOrderedAsks, AreOfNodes, IsMetAsk, PrecedesAsk, follow_ask, settled_family}
+use Rattle.causal_cut.specs.inside.Asks.{AreCountedAsks, AreOrderedAsks, AreOfNodes, IsMetAsk, PrecedesAsk, follow_ask, settled_family}
 
 -- ---- one length is raised
 

@@ -7,7 +7,7 @@ use Rattle.std.proofs.lemmas.Option.{get_or_from_slice_get, slice_get-get_or}
 use Rattle.proc_replay.specs.Course.{entries_ahead}
 use Rattle.proc_replay.specs.Replaying.{Replaying}
 use Rattle.causal_cut.specs.declared.asks.Ask.{Ask}
-use Rattle.causal_cut.specs.Asks.{AreAsks, AreOfNodes, lengths_of_one, settled_family}
+use Rattle.causal_cut.specs.inside.Asks.{AreAsks, AreOfNodes, lengths_of_one, settled_family}
 use Rattle.causal_cut.specs.Laws.{IsLeastPast}
 use Rattle.causal_cut.specs.Past.{accepted_counts, closed_families, families_within_lengths, holds_event, is_closed_family, is_within_lengths, least_past, lengths_or_none}
 use Rattle.causal_cut.proofs.Families.{AreBelow, all_families, all_filter, at, has_families, has_filter, least_is, within_from, within_length}

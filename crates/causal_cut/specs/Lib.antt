@@ -1,4 +1,4 @@
 pub mod Past
-pub mod Asks
 pub mod Seen
 pub mod Laws
+pub mod inside

@@ -2,7 +2,7 @@
 ghost use Rattle.std.specs.Prelude.{◌≡◌, ◌==◌, ◌<◌, ◌≤◌, ◌++◌, IfOk, OnOk, length, position};
 ghost use Rattle.std.specs.Option.{option_to_list};
 ghost use Rattle.group_state.specs.Moves.{event_of};
-ghost use Rattle.causal_cut.specs.Asks.{AreClocks, ask_of, process_numbers};
+ghost use Rattle.causal_cut.specs.inside.Asks.{AreClocks, ask_of, process_numbers};
 
 use crate::clocks::Clocks;
 use group_state::GroupEvent;

@@ -1,6 +1,6 @@
 // The clocks of the events so far.
 ghost use Rattle.std.specs.Prelude.{◌≡◌, ◌<◌, ◌^◌, [], IfOk, OnOk, length, map, replicate, slice_index_or};
-ghost use Rattle.causal_cut.specs.Asks.{AreRisingClocks, number_among, with_node_clock};
+ghost use Rattle.causal_cut.specs.inside.Asks.{AreRisingClocks, number_among, with_node_clock};
 
 use std::alloc::{AllocError, Global};
 use std::marker::Model;

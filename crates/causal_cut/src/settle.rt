@@ -1,6 +1,6 @@
 // How long a family must be for what its events ask for.
 ghost use Rattle.std.specs.Prelude.{◌≡◌, ◌<◌, IfOk, length};
-ghost use Rattle.causal_cut.specs.Asks.{AreOfNodes, lengths_of_one, follow_ask, settled_family};
+ghost use Rattle.causal_cut.specs.inside.Asks.{AreOfNodes, lengths_of_one, follow_ask, settled_family};
 
 use crate::asks::Ask;
 use std::alloc::{AllocError, Global};

@@ -1,7 +1,7 @@
 // The walk over the events of a group.
 ghost use Rattle.std.specs.Prelude.{◌≡◌, IfOk};
 ghost use Rattle.group_state.specs.Place.{PartsFit};
-ghost use Rattle.causal_cut.specs.Asks.{AreAsks, process_numbers};
+ghost use Rattle.causal_cut.specs.inside.Asks.{AreAsks, process_numbers};
 ghost use Rattle.causal_cut.specs.Past.{accepted_counts};
 
 use crate::asks::{Ask, push_ask};

@@ -14,10 +14,11 @@ use Rattle.command_run.specs.declared.refusal.StopCause.{StopCause}
 use Rattle.command_run.specs.declared.refusal.StopCause.TheVariants as refusal
 use Rattle.command_run.specs.Outcome.{CommandOutcome, NotACommand, refused_line, usage_line, outcome_status, outcome_text, writes_of}
 use Rattle.command_run.specs.Run.{CallEnds, TellsFaults, FinishedCommand, Outside, PerformedCommand, expectation, file_state}
-use Rattle.command_run.specs.Call.{CountsFaults, DivergesOnlyIf, FaultStatus, FinishesCall, IsAnswerResult, IsAnswerStatus, LeavesFiles, MakesWorkFiles, PrintsText, PrintsAbsent, PrintsAfterFiles, PrintsRefusal, RaisesCount, TellsOutcome, failed_says_after, status_and_text, output_state}
+use Rattle.command_run.specs.Call.{CountsFaults, DivergesOnlyIf, IsAnswerResult, IsAnswerStatus, LeavesFiles, MakesWorkFiles, PrintsText, PrintsAbsent, PrintsAfterFiles, PrintsRefusal, RaisesCount, TellsOutcome, failed_says_after}
+use Rattle.command_run.specs.inside.Finishing.{FaultStatus, FinishesCall, status_and_text, output_state, prints_none}
 use Rattle.command_run.specs.CountLaws.{counted_faults}
 use Rattle.command_run.specs.FileLaws.{same_changes, same_others}
-use Rattle.command_run.specs.OutcomeLaws.{no_file_left, prints_none}
+use Rattle.command_run.specs.OutcomeLaws.{no_file_left}
 use Rattle.command_run.proofs.MadeFiles.{all_changes, makes_others}
 
 text_ends : (ended : Result WorkText StopCause) (answer : Status) (outcome : CommandOutcome) (before after : Option (List ℕ))

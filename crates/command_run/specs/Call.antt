@@ -1,5 +1,5 @@
 -- What a call says of its status, of what it printed, and of the files after it.
-use Rattle.std.specs.Prelude.{⊤, ◌≡◌, ◌≢◌, ◌⊎◌, ℕ, List, [], ◌++◌, string_bytes, Bool, IsTrue, Option, Some, None, take, IfSome, IfNone, MatchResult, Result, Ok, Err, true, false}
+use Rattle.std.specs.Prelude.{⊤, ◌≡◌, ◌⊎◌, ℕ, List, [], ◌++◌, string_bytes, Bool, IsTrue, Option, take, MatchResult, Result, Ok, Err, true, false}
 use Rattle.std.specs.Io.KnownBytes.{append_known}
 use Rattle.fri_outside.specs.Outside.{Folder, Counts, CountRose, raised_count}
 use Rattle.fri_outside.specs.Several.{with_files, ChangesOnlyFiles}
@@ -166,43 +166,7 @@ abbrev pub DivergesOnlyIf : Bool → Result WorkText StopCause → Type 0
 DivergesOnlyIf may_diverge (Ok (answered.Diverged text)) = IsTrue may_diverge
 DivergesOnlyIf may_diverge result = Unit {0}
 
--- the status and the text of a command's result, unless a fault or want of memory ended it
-abbrev pub status_and_text : Result WorkText StopCause → Option (Status × List ℕ)
-status_and_text (Ok (answered.Done text)) = Some (ends.Done, text)
-status_and_text (Ok (answered.Diverged text)) = Some (ends.Diverged, text)
-status_and_text (Err (refusal.Refused file why)) = Some (ends.Refused, refused_line (string_bytes file) why)
-status_and_text (Err (refusal.Absent file)) = Some (ends.Absent, absent_line (string_bytes file))
-status_and_text (Err refusal.ReadFault) = None
-status_and_text (Err refusal.WriteFault) = None
-status_and_text (Err refusal.NoMemory) = None
-
--- the status of a fault, and of want of memory
-abbrev pub FaultStatus : Result WorkText StopCause → Status → Type 0
-FaultStatus (Err refusal.ReadFault) answer = answer ≡ ends.ReadFault
-FaultStatus (Err refusal.WriteFault) answer = answer ≡ ends.WriteFault
-FaultStatus (Err refusal.NoMemory) answer = answer ≡ ends.NoMemory
-FaultStatus result answer = Unit {0}
-
 -- how many writes of a sink failed by a call that ended so: one, exactly where it ended for that
 abbrev pub failed_says_after : ℕ → Status → ℕ
 failed_says_after count ends.WriteFault = raised_count count
 failed_says_after count answer = count
-
--- what a sink took by one moment, as far as it tells, and how often it failed
-pub record OutputState : Type 0 where
-  pub taken : Option (List ℕ)
-  pub faults : ℕ
-
-abbrev pub output_state : Option (List ℕ) → ℕ → OutputState
-output_state taken faults = record { taken = taken; faults = faults }
-
--- the end of a command's result, with its text written
-pub record FinishesCall (ended : Result WorkText StopCause) (answer : Status) (old new : OutputState) : Type 0 where
-  pub status : IfSome (status_and_text ended) (λ a. IsAnswerStatus answer → answer ≡ a.0)
-  pub text : IfSome (status_and_text ended) (λ a. PrintsText answer a.1 old.taken new.taken)
-  pub silent : IfNone (status_and_text ended) (new.taken ≡ old.taken)
-  pub fault : FaultStatus ended answer
-  pub read_fault : IfSome (status_and_text ended) (λ _. answer ≢ ends.ReadFault)
-  pub write_fault : IfSome (status_and_text ended) (λ _. answer ≡ ends.WriteFault → CountRose old.faults new.faults)
-  pub counted : IfSome (status_and_text ended) (λ _. new.faults ≡ failed_says_after old.faults answer)
-  pub quiet : IfNone (status_and_text ended) (new.faults ≡ old.faults)

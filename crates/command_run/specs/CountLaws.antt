@@ -1,11 +1,9 @@
 -- What follows of the counts of faults by computing, which crates above need too.
-use Rattle.std.specs.Prelude.{◌≡◌, ℕ, List, ⊤, Result, Ok, Err}
-use Rattle.std.proofs.Common.{sym, ap, subst, refl, ◌∙◌}
-use Rattle.fri_outside.specs.Outside.{Counts, raised_count}
-use Rattle.command_run.specs.declared.refusal.Reason.{Reason}
+use Rattle.std.specs.Prelude.{◌≡◌, ℕ, ⊤, Result, Ok, Err}
+use Rattle.std.proofs.Common.{sym, ap, subst, ◌∙◌}
+use Rattle.fri_outside.specs.Outside.{Counts}
 use Rattle.command_run.specs.declared.refusal.StopCause.{StopCause}
-use Rattle.command_run.specs.declared.refusal.StopCause.TheVariants as refusal
-use Rattle.command_run.specs.Call.{CountsFaults, KeepsMisses, NamesAbsent, RefusesFile, reads_after, writes_after}
+use Rattle.command_run.specs.Call.{CountsFaults, KeepsMisses, reads_after, writes_after}
 use Rattle.command_run.specs.Run.{Outside, faults_of}
 
 -- a value or not, where no miss was counted
@@ -40,24 +38,6 @@ counts_still a b value result still counts = record { reads = counts.reads ∙ s
 -- the same counts as those
 pub counts_same : {T : Type 0} (a b c : Counts) (result : Result T StopCause) → CountsFaults a b result → c ≡ b → CountsFaults a c result
 counts_same a b c result first same = subst (λ (d : Counts). CountsFaults a d result) (sym same) first
-
--- a file that was not there, or was too large
-missed : {T : Type 0} (a b : Counts) (e : StopCause) → b ≡ record a { misses = raised_count a.misses } → reads_after {T = T} a.reads (Err e) ≡ a.reads → writes_after {T = T} a.writes (Err e) ≡ a.writes → CountsFaults {T = T} a b (Err e)
-missed a b e same reads writes = record { reads = ap (λ (c : Counts). c.reads) same ∙ sym reads; writes = ap (λ (c : Counts). c.writes) same ∙ sym writes; misses = tt }
-
-pub counts_absent : {T : Type 0} (a b : Counts) (name : List ℕ) (e : StopCause) → b ≡ record a { misses = raised_count a.misses } → NamesAbsent name e → CountsFaults {T = T} a b (Err e)
-counts_absent a b name (refusal.Refused file why) same is = absurd is
-counts_absent a b name (refusal.Absent file) same is = missed a b _ same refl refl
-counts_absent a b name refusal.ReadFault same is = absurd is
-counts_absent a b name refusal.WriteFault same is = absurd is
-counts_absent a b name refusal.NoMemory same is = missed a b _ same refl refl
-
-pub counts_too_large : {T : Type 0} (a b : Counts) (name : List ℕ) (why : Reason) (e : StopCause) → b ≡ record a { misses = raised_count a.misses } → RefusesFile name why e → CountsFaults {T = T} a b (Err e)
-counts_too_large a b name why (refusal.Refused file reason) same is = missed a b _ same refl refl
-counts_too_large a b name why (refusal.Absent file) same is = absurd is
-counts_too_large a b name why refusal.ReadFault same is = absurd is
-counts_too_large a b name why refusal.WriteFault same is = absurd is
-counts_too_large a b name why refusal.NoMemory same is = missed a b _ same refl refl
 
 -- ---- all counts of faults
 

@@ -1,9 +1,8 @@
 -- The modules that a call keeps of the files that it read.
-use Rattle.std.specs.Prelude.{◌≡◌, ℕ, List, [], ◌∷◌, ◌++◌, Bool, Ok, Option, bytes_eq, string_bytes}
+use Rattle.std.specs.Prelude.{◌≡◌, ℕ, List, Bool, Ok, Option, bytes_eq, string_bytes}
 use Rattle.std.specs.List.{AllByRecursion, list_any}
 use Rattle.fri_outside.specs.Outside.{Folder, WhenTold}
 use Rattle.wasm_types.specs.Modules.{module_of}
-use Rattle.wasm_types.specs.declared.modules.Module.{Module}
 use Rattle.command_run.specs.declared.kept.ModuleFile.{ModuleFile}
 use Rattle.command_run.specs.declared.kept.ModuleFiles.{ModuleFiles}
 use Rattle.command_run.specs.Inputs.{module_in}
@@ -19,10 +18,3 @@ AreOfFiles told files = WhenTold told (λ folder. AllByRecursion (IsOfFile folde
 -- the file of this name was read
 abbrev pub has_file : ModuleFiles → List ℕ → Bool
 has_file files name = list_any (λ file. bytes_eq (string_bytes file.name) name) files.kept.items
-
--- this module of a file of this name comes after those
-pub record AddsFile (old new : ModuleFiles) (name : List ℕ) (m : Module) : Type 0 where
-  pub file : ModuleFile
-  pub named : string_bytes file.name ≡ name
-  pub held : file.«module» ≡ m
-  pub added : new.kept.items ≡ old.kept.items ++ file ∷ []

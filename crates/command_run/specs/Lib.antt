@@ -12,3 +12,4 @@ pub mod LineLaws
 pub mod Run
 pub mod Valid
 pub mod Laws
+pub mod inside

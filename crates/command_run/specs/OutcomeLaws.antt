@@ -1,7 +1,7 @@
 -- What follows from an outcome by computing, which crates above need too.
 use Rattle.std.specs.Prelude.{◌≡◌, ℕ, List, [], length, option_map, Option, Some, None, IfSome, Result, Ok, Err, IfErr}
 use Rattle.std.specs.Io.KnownBytes.{append_known}
-use Rattle.std.proofs.Common.{refl, sym, ap, subst, ◌∙◌, append-nil}
+use Rattle.std.proofs.Common.{refl, sym, ap, subst, ◌∙◌}
 use Rattle.std.proofs.Math.Seq.{take-length}
 use Rattle.std.proofs.lemmas.Option.{same_Some}
 use Rattle.fri_outside.specs.Outside.{Folder, WhenTold}
@@ -9,7 +9,7 @@ use Rattle.fri_outside.specs.Several.{with_files}
 use Rattle.command_run.specs.declared.status.Status.{Status}
 use Rattle.command_run.specs.declared.refusal.StopCause.{StopCause}
 use Rattle.command_run.specs.declared.refusal.StopCause.TheVariants as refusal
-use Rattle.command_run.specs.Call.{IsAnswerStatus, LeavesFiles, MakesWorkFiles, PrintsText, StopsAsCause, TellsOutcome}
+use Rattle.command_run.specs.Call.{LeavesFiles, MakesWorkFiles, PrintsText, StopsAsCause, TellsOutcome}
 use Rattle.command_run.specs.FileLaws.{same_changes}
 use Rattle.command_run.specs.Outcome.{CommandOutcome, CommandStop, and_then, no_work_done, writes_of}
 
@@ -80,14 +80,6 @@ pub prints_all : (answer : Status) (text given : List ℕ) (before after : Optio
 prints_all answer text given before after same e =
     let whole : after ≡ append_known before text = e ∙ ap (append_known before) same in
     record { whole = λ _. whole; part = (length text, whole ∙ ap (append_known before) (sym (take-length text))) }
-
-nothing_more : (o : Option (List ℕ)) → o ≡ append_known o []
-nothing_more None = refl
-nothing_more (Some xs) = ap Some (sym (append-nil xs))
-
--- nothing was printed, at a status that is no answer
-pub prints_none : (answer : Status) (text : List ℕ) (before after : Option (List ℕ)) → (IsAnswerStatus answer → ⊥) → after ≡ before → PrintsText answer text before after
-prints_none answer text before after none e = record { whole = λ is. absurd (none is); part = (0, e ∙ nothing_more before) }
 
 -- ---- files
 

@@ -4,7 +4,8 @@ ghost use Rattle.fri_outside.specs.Outside.{Folder, WhenTold};
 ghost use Rattle.wasm_types.specs.Modules.{module_of as shown};
 ghost use Rattle.command_run.specs.Call.{CountsFaults, RaisesCount, TellsResult};
 ghost use Rattle.command_run.specs.Inputs.{module_in};
-ghost use Rattle.command_run.specs.Kept.{AddsFile, AreOfFiles, has_file};
+ghost use Rattle.command_run.specs.inside.Taking.{AddsFile};
+ghost use Rattle.command_run.specs.Kept.{AreOfFiles, has_file};
 
 use crate::inputs::take_module;
 use crate::refusal::StopCause;

@@ -2,7 +2,8 @@
 ghost use Rattle.std.specs.Prelude.{◌≡◌, ◌≢◌, ◌++◌, [], ℕ, List, Option, Some, Err, IfOk, OnOk};
 ghost use Rattle.fri_outside.specs.Outside.{Counts, Folder};
 ghost use Rattle.command_run.specs.Outcome.{CommandOutcome, NotACommand, absent_line, reason_text, refused_line};
-ghost use Rattle.command_run.specs.Call.{IsAnswerStatus, PrintsText, FinishesCall, output_state, failed_says_after};
+ghost use Rattle.command_run.specs.Call.{IsAnswerStatus, PrintsText, failed_says_after};
+ghost use Rattle.command_run.specs.inside.Finishing.{FinishesCall, output_state};
 ghost use Rattle.command_run.specs.Run.{CallEnds, Expectation, FileState, FinishedCommand, Outside, PerformedCommand, outside};
 
 use crate::refusal::{Reason, StopCause, WorkText};

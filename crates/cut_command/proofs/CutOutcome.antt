@@ -23,7 +23,7 @@ use Rattle.cut_command.specs.declared.fronts.Front.{Front}
 use Rattle.cut_command.specs.declared.past.Past.{Past}
 use Rattle.cut_command.specs.Cut.{cut_of_replays, cut_outcome, cut_work, unless_few_events, unless_other_process}
 use Rattle.cut_command.specs.Laws.{CutsToPast, CutsWork, IsCutLog}
-use Rattle.cut_command.specs.Seen.{front_file, work_of_past}
+use Rattle.cut_command.specs.inside.Seen.{front_file, work_of_past}
 
 -- ---- what was read decides
 

@@ -1,5 +1,5 @@
 pub mod Cut
 pub mod Words
 pub mod Valid
-pub mod Seen
 pub mod Laws
+pub mod inside

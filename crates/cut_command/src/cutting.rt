@@ -7,7 +7,7 @@ ghost use Rattle.command_run.specs.Outcome.{writes_of};
 ghost use Rattle.log_pairs.specs.Seen.{pair_of};
 ghost use Rattle.cut_command.specs.Cut.{cut_outcome};
 ghost use Rattle.cut_command.specs.Laws.{CutsToPast};
-ghost use Rattle.cut_command.specs.Seen.{front_file};
+ghost use Rattle.cut_command.specs.inside.Seen.{front_file};
 
 use crate::fronts::Front;
 use crate::past::take_past;

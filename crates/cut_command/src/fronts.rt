@@ -2,7 +2,7 @@
 ghost use Rattle.std.specs.Prelude.{◌≡◌, ◌++◌, ◌≤◌, IfOk, OnOk, length, map};
 ghost use Rattle.std.specs.List.{flat_map};
 ghost use Rattle.cut_command.specs.Cut.{cut_line};
-ghost use Rattle.cut_command.specs.Seen.{fronts_of, front_line, log_of_replay};
+ghost use Rattle.cut_command.specs.inside.Seen.{fronts_of, front_line, log_of_replay};
 
 use call_log::LogView;
 use causal_cut::Cut;

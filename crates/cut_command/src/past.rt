@@ -11,7 +11,7 @@ ghost use Rattle.log_pairs.specs.Pairs.{Loaded as LoadedOf};
 ghost use Rattle.log_pairs.specs.Seen.{AreLoadedPairs, pair_of};
 ghost use Rattle.cut_command.specs.Cut.{cut_of_replays, node_of_process};
 ghost use Rattle.cut_command.specs.Laws.{IsCutLog};
-ghost use Rattle.cut_command.specs.Seen.{AreLeastFronts, work_of_past};
+ghost use Rattle.cut_command.specs.inside.Seen.{AreLeastFronts, work_of_past};
 
 use crate::fronts::{Front, fronts_of, logs_of, print};
 use causal_cut::{CutError, least_cut};

@@ -19,7 +19,7 @@ use Rattle.command_run.specs.Outcome.{CommandOutcome, Refuses, CommandStop, outc
 use Rattle.command_run.specs.OutcomeLaws.{no_file_left, stops_make_files, stops_tell_outcome}
 use Rattle.command_run.specs.Run.{TellsFaults, FinishedCommand, Outside, PerformedCommand, expectation, file_state}
 use Rattle.log_pairs.specs.Pairs.{NoneOpened, Pair, WasOpened, replays_of_pairs}
-use Rattle.debug_command.specs.Conversation.{ConversesInSession, NeverOfASession, TerminalState, heard_after}
+use Rattle.debug_command.specs.inside.Conversing.{ConversesInSession, NeverOfASession, TerminalState, heard_after}
 use Rattle.debug_command.specs.Debug.{early_lines, input_name, is_large_input, opened_outcome, session_outcome, spoken_session}
 use Rattle.debug_command.specs.Run.{DebugRun, debug_expected}
 

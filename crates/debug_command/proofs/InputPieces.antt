@@ -15,11 +15,12 @@ use Rattle.friday_shell.specs.Points.{SessionState}
 use Rattle.friday_shell.specs.Session.{answers_of_lines, ends_session, opening_session, session_text}
 use Rattle.debug_command.specs.declared.converse.Ended.{Ended}
 use Rattle.debug_command.specs.declared.converse.Ended.TheVariants as cause
-use Rattle.debug_command.specs.Conversation.{AreAskedInTurn, AsksAtTerminal, IsAskedInTurn, TakesOfInput, TerminalState}
+use Rattle.debug_command.specs.Conversation.{AreAskedInTurn, AsksAtTerminal, IsAskedInTurn, TakesOfInput}
+use Rattle.debug_command.specs.inside.Conversing.{TerminalState}
 use Rattle.debug_command.specs.Debug.{early_lines, is_large_input, session_outcome, whole_lines}
 use Rattle.debug_command.specs.Limits.{most_input}
 use Rattle.command_run.specs.Outcome.{outcome_text}
-use Rattle.debug_command.specs.Talk.{SessionBreaks, CameInTurn, SessionConcludes, SessionGoesOn, NotesPiece, PrintsPart, SaidOfInput, SaysSome, SessionHolds, SessionStands, SpokeLines, SessionStops, StopsAtPiece, SessionStopsIn, SessionTalk, exchange_of, ended_by}
+use Rattle.debug_command.specs.inside.Talk.{SessionBreaks, CameInTurn, SessionConcludes, SessionGoesOn, NotesPiece, PrintsPart, SaidOfInput, SaysSome, SessionHolds, SessionStands, SpokeLines, SessionStops, StopsAtPiece, SessionStopsIn, SessionTalk, exchange_of, ended_by}
 use Rattle.debug_command.proofs.WholeLines.{few_lines-open, lines_of-open, session_more}
 use Rattle.debug_command.proofs.PrintedSoFar.{append_twice, fits_short, overruns_more, part_more, quits_more, take_front}
 

@@ -14,7 +14,7 @@ use Rattle.command_run.specs.declared.refusal.Reason.TheVariants as reason
 use Rattle.debug_command.specs.Debug.{early_lines, input_name, is_large_input, session_outcome, spoken_session, whole_lines, whole_part}
 use Rattle.debug_command.specs.Limits.{most_input}
 use Rattle.command_run.specs.Outcome.{CommandOutcome, Refuses, outcome_text, refused_line}
-use Rattle.debug_command.specs.Talk.{PrintsPart, InputOverruns, SessionQuits, SaysPart, SessionStands, SessionTalk, state_after_lines}
+use Rattle.debug_command.specs.inside.Talk.{PrintsPart, InputOverruns, SessionQuits, SaysPart, SessionStands, SessionTalk, state_after_lines}
 use Rattle.debug_command.proofs.WholeLines.{Fronts, FrontsText, after-append, ends-append, has_feed-append, ends_fronts, few_lines-ended, lines_front, session_ended, session_front, session_more, whole_lines-ended, whole_lines-same, whole_lines_front, whole_part-append_none, whole_part-ended}
 
 -- ---- what a sink took

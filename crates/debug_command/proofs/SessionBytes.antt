@@ -7,7 +7,7 @@ use Rattle.friday_shell.specs.Points.{SessionState}
 use Rattle.debug_command.specs.declared.converse.Ended.{Ended}
 use Rattle.debug_command.specs.declared.converse.Ended.TheVariants as cause
 use Rattle.debug_command.specs.Limits.{most_input}
-use Rattle.debug_command.specs.Talk.{SessionGoesOn, InputReadsOn, SessionStands, SpokeLines, SessionStops, SessionStopsIn, SessionTalk}
+use Rattle.debug_command.specs.inside.Talk.{SessionGoesOn, InputReadsOn, SessionStands, SpokeLines, SessionStops, SessionStopsIn, SessionTalk}
 use Rattle.debug_command.proofs.PrintedSoFar.{at_line_end, overruns, part_ended, part_kept, quits_ended, stands_ended, stands_other, with_byte}
 
 feed_of : (b : ℕ) → b ≡ 10 → is_line_feed b ≡ true

@@ -12,10 +12,11 @@ use Rattle.command_run.specs.declared.refusal.Reason.TheVariants as reason
 use Rattle.command_run.specs.declared.status.Status.{Status}
 use Rattle.command_run.specs.declared.status.Status.TheVariants as status
 use Rattle.command_run.specs.Call.{IsAnswerStatus, PrintsText, failed_says_after}
-use Rattle.debug_command.specs.Conversation.{ConversesInSession, NeverOfASession, TakesOfInput, TakesTurns, TerminalState, heard_after}
+use Rattle.debug_command.specs.inside.Conversing.{ConversesInSession, NeverOfASession, TerminalState, heard_after}
+use Rattle.debug_command.specs.Conversation.{TakesOfInput, TakesTurns}
 use Rattle.debug_command.specs.Debug.{input_name, session_outcome, whole_lines}
 use Rattle.command_run.specs.Outcome.{outcome_text, refused_line}
-use Rattle.debug_command.specs.Talk.{HeldSession, SessionHolds}
+use Rattle.debug_command.specs.inside.Talk.{HeldSession, SessionHolds}
 use Rattle.command_run.specs.OutcomeLaws.{prints_all}
 use Rattle.debug_command.proofs.PrintedSoFar.{append_twice, part_of}
 

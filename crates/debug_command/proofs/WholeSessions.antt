@@ -12,9 +12,10 @@ use Rattle.friday_shell.specs.Points.{SessionState}
 use Rattle.friday_shell.specs.Session.{opening_session}
 use Rattle.debug_command.specs.declared.converse.Ended.{Ended}
 use Rattle.debug_command.specs.declared.converse.Ended.TheVariants as cause
-use Rattle.debug_command.specs.Conversation.{TakesOfInput, TerminalState}
+use Rattle.debug_command.specs.Conversation.{TakesOfInput}
+use Rattle.debug_command.specs.inside.Conversing.{TerminalState}
 use Rattle.debug_command.specs.Limits.{most_input}
-use Rattle.debug_command.specs.Talk.{SessionBreaksFrom, CameInTurn, InputExchange, FailsAtOpening, SessionGoesOn, HeardPiece, HearsPiece, SessionHearsFrom, HeldSession, SessionHoldsFrom, SessionOpens, SessionOpensPart, InputReadsOn, SaysPart, SessionHolds, SessionStands, SpokeLines, StopsAtPiece, SessionStopsIn, SessionTalk, ended_by, exchange_of, listened_after}
+use Rattle.debug_command.specs.inside.Talk.{SessionBreaksFrom, CameInTurn, InputExchange, FailsAtOpening, SessionGoesOn, HeardPiece, HearsPiece, SessionHearsFrom, HeldSession, SessionHoldsFrom, SessionOpens, SessionOpensPart, InputReadsOn, SaysPart, SessionHolds, SessionStands, SpokeLines, StopsAtPiece, SessionStopsIn, SessionTalk, ended_by, exchange_of, listened_after}
 use Rattle.debug_command.proofs.InputPieces.{holds_all, holds_broken, holds_error, stops_at, taken_more, taken_none, turns_none, turns_noted, turns_piece}
 use Rattle.debug_command.proofs.PrintedSoFar.{append_none, part_of}
 

@@ -1,32 +1,16 @@
 -- What is said of the input of a session, and of what is answered before more of it is asked for.
 use Rattle.std.specs.Prelude.{◌≡◌, ◌≢◌, ◌⊎◌, ◌≤◌, ℕ, ◌+◌, List, [], ◌∷◌, ◌++◌, length, Option, Some, true, false}
 use Rattle.std.specs.Io.KnownBytes.{append_known}
-use Rattle.fri_outside.specs.Outside.{Folder, WhenTold, raised_count}
+use Rattle.fri_outside.specs.Outside.{Folder, WhenTold}
 use Rattle.fri_outside.specs.Terminal.{Asking, Hearing, given_in_askings}
 use Rattle.proc_replay.specs.Replaying.{Replaying}
 use Rattle.friday_shell.specs.Session.{ends_session, opening_session, session_text}
-use Rattle.command_run.specs.declared.refusal.Reason.TheVariants as reason
 use Rattle.command_run.specs.declared.status.Status.{Status}
 use Rattle.command_run.specs.declared.status.Status.TheVariants as status
-use Rattle.command_run.specs.Call.{IsAnswerStatus, PrintsText, failed_says_after}
 use Rattle.command_run.specs.Run.{Outside}
-use Rattle.log_pairs.specs.Pairs.{Pair}
-use Rattle.debug_command.specs.Debug.{input_name, is_large_input, session_outcome, whole_lines}
+use Rattle.log_pairs.specs.Pairs.{Pair, WasOpened}
+use Rattle.debug_command.specs.Debug.{input_name, is_large_input, whole_lines}
 use Rattle.debug_command.specs.Limits.{most_input}
-use Rattle.command_run.specs.Outcome.{outcome_status, outcome_text, refused_line}
-use Rattle.log_pairs.specs.Pairs.{WasOpened}
-
--- ---- a terminal
-
--- what a terminal tells at one moment: what is heard, what it took, and how many of its writes failed
-pub record TerminalState : Type 0 where
-  pub hearing : Hearing
-  pub taken : Option (List ℕ)
-  pub faults : ℕ
-
--- all of it, of an object that tells each of these
-abbrev pub terminal_at : {A : Type 0} → (A → Hearing) → (A → Option (List ℕ)) → (A → ℕ) → A → TerminalState
-terminal_at hearing taken faults io = record { hearing = hearing io; taken = taken io; faults = faults io }
 
 -- ---- what was taken of an input
 
@@ -81,36 +65,6 @@ pub record TakesTurns (start : List Replaying) (before after : Hearing) (printed
   pub noted : after.asked ≡ Some (earlier ++ askings)
   pub in_turn : AreAskedInTurn start printed [] askings
   pub taken : WhenTold before.left (λ input. TakesOfInput input after.left (given_in_askings askings))
-
--- ---- what a session says, which begins over these replays
-
--- a sink took the line that says of the input that it is too large
-abbrev pub SaysLarge : Option (List ℕ) → Option (List ℕ) → Type 0
-SaysLarge printed printed_after = (earlier : List ℕ) × (printed_after ≡ append_known printed (earlier ++ refused_line input_name reason.TooLarge))
-
--- statuses with which a session never ends
-abbrev pub NeverOfASession : Status → Type 0
-NeverOfASession status.Diverged = Unit {0}
-NeverOfASession status.Usage = Unit {0}
-NeverOfASession status.Absent = Unit {0}
-NeverOfASession answer = ⊥
-
--- how many reads of an input failed by a session that ended so: one, exactly where it ended for that
-abbrev pub heard_after : ℕ → Status → ℕ
-heard_after count status.ReadFault = raised_count count
-heard_after count answer = count
-
--- a session read an input, answered it, and ended with this status
-pub record ConversesInSession (start : List Replaying) (old new : TerminalState) (answer : Status) : Type 0 where
-  pub ended : WhenTold old.hearing.left (λ input. IsAnswerStatus answer → answer ≡ outcome_status (session_outcome start input))
-  pub text : WhenTold old.hearing.left (λ input. PrintsText answer (outcome_text (session_outcome start input)) old.taken new.taken)
-  pub input : WhenTold old.hearing.left (λ input. HasReadInput start input new.hearing.left answer)
-  pub turns : WhenTold old.hearing.asked (TakesTurns start old.hearing new.hearing old.taken)
-  pub answered : answer ≡ status.ReadFault → WhenTold old.hearing.left (λ input. HasAnsweredLines start input new.hearing.left old.taken new.taken)
-  pub other : NeverOfASession answer → ⊥
-  pub refused : answer ≡ status.Refused → SaysLarge old.taken new.taken
-  pub reads : new.hearing.faults ≡ heard_after old.hearing.faults answer
-  pub writes : new.faults ≡ failed_says_after old.faults answer
 
 -- ---- what `debug` says of the input
 

@@ -1,7 +1,7 @@
 pub mod Limits
 pub mod Debug
 pub mod Conversation
-pub mod Talk
 pub mod Run
 pub mod Valid
 pub mod Laws
+pub mod inside

@@ -3,8 +3,8 @@ ghost use Rattle.std.specs.Prelude.{◌≡◌, ◌∷◌, ◌≤◌, ◌<◌, �
 ghost use Rattle.fri_text.specs.Line.{lines_of};
 ghost use Rattle.group_state.specs.Place.{AreParts};
 ghost use Rattle.debug_command.specs.declared.converse.Ended.TheVariants as cause;
-ghost use Rattle.debug_command.specs.Conversation.{ConversesInSession, terminal_at};
-ghost use Rattle.debug_command.specs.Talk.{SessionBreaksFrom, SessionGoesOn, SessionHearsFrom, HeldSession, SessionHoldsFrom, SessionOpens, SessionOpensPart, SpokeLines, SessionStopsIn, ended_by, exchange_of, heard_of, listened_after, failed_says_of_session, session_talk_of, why_session_ended};
+ghost use Rattle.debug_command.specs.inside.Conversing.{ConversesInSession, terminal_at};
+ghost use Rattle.debug_command.specs.inside.Talk.{SessionBreaksFrom, SessionGoesOn, SessionHearsFrom, HeldSession, SessionHoldsFrom, SessionOpens, SessionOpensPart, SpokeLines, SessionStopsIn, ended_by, exchange_of, heard_of, listened_after, failed_says_of_session, session_talk_of, why_session_ended};
 
 use command_run::{Reason, Status, say_refused};
 use fri_bytes::Cursor;

@@ -12,7 +12,7 @@ use Rattle.group_state.specs.Place.{GroupPlace, events_of_replays}
 use Rattle.shell_points.specs.Firing.{watchpoint_fires, is_unchanged, place_at, value_at_position}
 use Rattle.watch_expr.specs.Expression.{Expression}
 use Rattle.drill_command.specs.Drill.{drill_watch}
-use Rattle.drill_command.specs.Seen.{IsWatchedDrill}
+use Rattle.drill_command.specs.inside.Seen.{IsWatchedDrill}
 
 -- how often the watchpoint fires up to a position
 abbrev pub fired_by : List Replaying → ℕ → ℕ

@@ -1,4 +1,4 @@
 pub mod Ring
 pub mod Rounds
 pub mod Drill
-pub mod Seen
+pub mod inside

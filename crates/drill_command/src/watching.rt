@@ -3,7 +3,7 @@ ghost use Rattle.std.specs.Prelude.{◌≡◌, IfOk};
 ghost use Rattle.watch_expr.specs.Expression.{expression_of};
 ghost use Rattle.shell_points.specs.Firing.{is_unchanged};
 ghost use Rattle.drill_command.specs.Drill.{drill_watch};
-ghost use Rattle.drill_command.specs.Seen.{IsWatchedDrill};
+ghost use Rattle.drill_command.specs.inside.Seen.{IsWatchedDrill};
 
 use group_state::Group;
 use std::alloc::{AllocError, Global};

@@ -8,7 +8,7 @@ use Rattle.embed_cmds.specs.declared.program.Stmt.{Stmt}
 use Rattle.embed_cmds.specs.declared.program.Stmt.TheVariants as stmt
 use Rattle.embed_cmds.specs.Faulty.{lacks_names, lacks_one, nests_aggregates, nests_one}
 use Rattle.embed_cmds.specs.Tree.{statement_of, statements}
-use Rattle.embed_cmds.specs.TreeLaws.{statement_of-if}
+use Rattle.embed_cmds.specs.inside.TreeLaws.{statement_of-if}
 
 -- an aggregate is in an aggregate, in the value or inside
 pub nests_if : (s : Stmt) (x : Expr) (on_true on_false : Vec Stmt) (all value inside first second : Bool) → s ≡ stmt.If x on_true on_false → all ≡ (value || inside) → value ≡ is_nested (expression_of x) → inside ≡ (first || second) → first ≡ nests_aggregates (statements on_true.items) → second ≡ nests_aggregates (statements on_false.items) → all ≡ nests_one (statement_of s)

@@ -8,7 +8,7 @@ use Rattle.embed_cmds.proofs.MentionOrder.{mention_all_append}
 use Rattle.embed_cmds.specs.Faulty.{set_by_statement, set_names}
 use Rattle.embed_cmds.specs.Running.{ProgramState, after_statement, after_statements, is_nonzero, value_in}
 use Rattle.embed_cmds.specs.Tree.{If, Statement, statement_of, statements}
-use Rattle.embed_cmds.specs.TreeLaws.{statement_of-if}
+use Rattle.embed_cmds.specs.inside.TreeLaws.{statement_of-if}
 use Rattle.embed_cmds.specs.Variables.{Variable, mention_all}
 use Rattle.embed_cmds.specs.declared.program.Stmt.{Stmt}
 use Rattle.embed_cmds.specs.declared.program.Stmt.TheVariants as stmt

@@ -6,7 +6,7 @@ use Rattle.std.specs.Map.{lookup, set_value}
 use Rattle.std.specs.Option.{option_flatten}
 use Rattle.std.specs.Prelude.{bytes_eq}
 use Rattle.indexmap.specs.IndexMap.{insert_entry}
-use Rattle.embed_cmds.specs.Kept.{variable, variables_of}
+use Rattle.embed_cmds.specs.inside.Kept.{variable, variables_of}
 use Rattle.embed_cmds.specs.Variables.{Variable, is_mentioned, variable_value, with_value}
 
 -- the key is this name

@@ -9,7 +9,7 @@ use Rattle.watch_expr.specs.Grammar.{IsExpr, ParsedExpr, TakesExpr}
 use Rattle.watch_expr.specs.Laws.{ExactReading}
 use Rattle.watch_expr.specs.Lexing.{LexedLine, token_texts}
 use Rattle.watch_expr.specs.Expression.{Expression, expression_of}
-use Rattle.embed_cmds.specs.Parsing.{ReadAsTokens}
+use Rattle.embed_cmds.specs.inside.Parsed.{ReadAsTokens}
 use Rattle.embed_cmds.specs.Reading.{LeftTokens, expression, expression_in, expression_or}
 use Rattle.embed_cmds.proofs.ReadTokens.{column_here}
 

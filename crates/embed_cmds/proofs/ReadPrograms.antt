@@ -6,7 +6,8 @@ use Rattle.expression_text.specs.declared.error.ExprError.{ExprError}
 use Rattle.expression_text.specs.declared.error.ExprError.TheVariants.{Syntax, NoNode, TooDeep, Nested, NoMemory}
 use Rattle.watch_expr.specs.Lexing.{LexedLine, token_texts}
 use Rattle.embed_cmds.specs.declared.program.Stmt.{Stmt}
-use Rattle.embed_cmds.specs.Parsing.{ParsedProgram, ReadAsTokens}
+use Rattle.embed_cmds.specs.Parsing.{ParsedProgram}
+use Rattle.embed_cmds.specs.inside.Parsed.{ReadAsTokens}
 use Rattle.embed_cmds.specs.Reading.{LeftTokens, program_in, program_of, whole_program}
 use Rattle.embed_cmds.specs.Tree.{Statements, statements}
 

@@ -10,9 +10,9 @@ use Rattle.watch_expr.specs.Expression.{Expression, expression_of}
 use Rattle.expression_text.specs.declared.expr.Expr.{Expr}
 use Rattle.std.specs.Result.{is_ok}
 use Rattle.embed_cmds.specs.declared.program.Stmt.TheVariants as stmt
-use Rattle.embed_cmds.specs.TreeLaws.{statement_of-if}
+use Rattle.embed_cmds.specs.inside.TreeLaws.{statement_of-if}
 use Rattle.embed_cmds.specs.declared.program.Stmt.{Stmt}
-use Rattle.embed_cmds.specs.Parsing.{ReadAsTokens}
+use Rattle.embed_cmds.specs.inside.Parsed.{ReadAsTokens}
 use Rattle.embed_cmds.specs.Reading.{LeftTokens, ReadOfTokens, after_token, else_part, expression, if_statement, item, braced_part, program_in, separated_items, statement, string_of, string_or_value, then_reads}
 use Rattle.embed_cmds.specs.Tree.{SaidItem, Words, Value, Statement, Statements, End, Then, sequence, statement_of, statements}
 use Rattle.embed_cmds.proofs.ReadTokens.{at_end, at_token, drop_one, first_is}

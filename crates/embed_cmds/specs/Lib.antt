@@ -1,11 +1,10 @@
 pub mod Coding
 pub mod Faulty
 pub mod Grammar
-pub mod Kept
 pub mod Laws
 pub mod Parsing
 pub mod Reading
 pub mod Running
 pub mod Tree
-pub mod TreeLaws
 pub mod Variables
+pub mod inside

@@ -5,30 +5,12 @@ use Rattle.expression_text.specs.declared.error.ExprError.TheVariants.{Syntax, N
 use Rattle.watch_expr.specs.Lexing.{LexedLine, column_of_token, token_texts}
 use Rattle.embed_cmds.specs.declared.program.Program.{Program}
 use Rattle.embed_cmds.specs.Faulty.{lacks_names, nests_aggregates}
-use Rattle.embed_cmds.specs.Reading.{LeftTokens, ReadOfTokens, program_of}
+use Rattle.embed_cmds.specs.Reading.{LeftTokens, program_of}
 use Rattle.embed_cmds.specs.Tree.{Statements, program_body}
 
 -- the column of the first token that is left, and where none is that after the line
 abbrev pub column_of : LexedLine → LeftTokens → ℕ
 column_of line left = column_of_token line (length (token_texts line) - length left)
-
--- what was read and the number of the token after it, or the column of the token at which reading stopped
-abbrev pub ReadAsTokens : {A B : Type 0} → (A → B) → LexedLine → ReadOfTokens B → Result (A × ℕ) ExprError → Type 0
-ReadAsTokens shown line wanted (Ok r) = wanted ≡ Ok (shown r.0, drop r.1 (token_texts line))
-ReadAsTokens shown line wanted (Err (Syntax column)) = (left : LeftTokens) × (wanted ≡ Err left) × (column ≡ column_of line left)
-ReadAsTokens shown line wanted (Err NoMemory) = Unit {0}
-ReadAsTokens shown line wanted (Err NoNode) = ⊥
-ReadAsTokens shown line wanted (Err TooDeep) = ⊥
-ReadAsTokens shown line wanted (Err Nested) = ⊥
-
--- the same where a token is passed over
-abbrev pub GoesAsToken : LexedLine → Result LeftTokens LeftTokens → Result ℕ ExprError → Type 0
-GoesAsToken line wanted (Ok n) = wanted ≡ Ok (drop n (token_texts line))
-GoesAsToken line wanted (Err (Syntax column)) = (left : LeftTokens) × (wanted ≡ Err left) × (column ≡ column_of line left)
-GoesAsToken line wanted (Err NoMemory) = ⊥
-GoesAsToken line wanted (Err NoNode) = ⊥
-GoesAsToken line wanted (Err TooDeep) = ⊥
-GoesAsToken line wanted (Err Nested) = ⊥
 
 -- What parsing all tokens from one on gives, but for memory: the program that they spell, unless something is wrong with
 -- it; or the column of the first token that no program could have there.

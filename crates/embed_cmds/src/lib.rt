@@ -6,7 +6,7 @@
 //! `specs/Faulty` what may be wrong with one, and `specs/Running` what one does to the variables and what it says. Each call
 //! gives exactly that, or wants memory. The law `exact_programs` says that tokens spell at most one program, which
 //! `specs/Reading` computes, and at which token they stop being the front of any.
-//! Inside is how statements and variables are held in memory (`specs/TreeLaws`, `specs/Kept`).
+//! Inside is how statements and variables are held in memory (`specs/inside/TreeLaws`, `specs/inside/Kept`).
 #![tactic(auto)]
 
 mod faults;

@@ -23,7 +23,7 @@ impl Model for Vars {
 
     ghost Value = { List Variable };
 
-    ghost use Rattle.embed_cmds.specs.Kept.{variables_of};
+    ghost use Rattle.embed_cmds.specs.inside.Kept.{variables_of};
 
     ghost view = { λ v. variables_of v.values.entries };
 }

@@ -7,7 +7,7 @@ use Rattle.std.proofs.lemmas.Bool.Decides.{nat_tests}
 use Rattle.std.proofs.lemmas.List.{length-take, take_all}
 use Rattle.std.proofs.lemmas.Option.{same_Some}
 use Rattle.fri_outside.specs.Outside.{Held, Over, found_within}
-use Rattle.fri_outside.specs.Reading.{MovesFrontOfBytes}
+use Rattle.fri_outside.specs.inside.Reading.{MovesFrontOfBytes}
 
 -- ---- piece by piece
 

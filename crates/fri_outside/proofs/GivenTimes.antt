@@ -5,7 +5,8 @@ use Rattle.std.proofs.Math.Seq.{take-length, drop-append_seam}
 use Rattle.std.proofs.lemmas.List.{take-append-le, drop-append-le, take_all, length-drop}
 use Rattle.std.proofs.lemmas.List.Elements.{All-cons, All-head, All-nil, All-tail}
 use Rattle.std.proofs.lemmas.Grind.{common_steps}
-use Rattle.fri_outside.specs.Memory.{HearsInMemory, IsAskingMark, SaysInMemory, SinkInMemory, SourceInMemory, asking_at}
+use Rattle.fri_outside.specs.inside.Kept.{HearsInMemory, IsAskingMark, SaysInMemory, asking_at}
+use Rattle.fri_outside.specs.Memory.{SinkInMemory, SourceInMemory}
 use Rattle.fri_outside.specs.Outside.{after_sink_write}
 use Rattle.fri_outside.specs.Terminal.{Asking}
 use Rattle.fri_outside.specs.declared.files.WriteError.{WriteError}

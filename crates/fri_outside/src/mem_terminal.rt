@@ -1,6 +1,6 @@
 // A source and a sink in memory as one terminal, which keeps in which order they were used.
 ghost use Rattle.std.specs.Prelude.{◌≡◌, ◌<◌, ◌≤◌, [], Some, length, IfOk};
-ghost use Rattle.fri_outside.specs.Memory.{HearsInMemory, SaysInMemory};
+ghost use Rattle.fri_outside.specs.inside.Kept.{HearsInMemory, SaysInMemory};
 
 use crate::{Failed, MemSink, MemSource, Sink, Source, Terminal, WriteError};
 use std::alloc::Global;
@@ -25,7 +25,8 @@ pub struct MemTerminal {
 
 impl Model for MemTerminal {
     ghost use Rattle.std.specs.Prelude.{All, map};
-    ghost use Rattle.fri_outside.specs.Memory.{IsAskingMark, TerminalInMemory, asking_at};
+    ghost use Rattle.fri_outside.specs.inside.Kept.{IsAskingMark, asking_at};
+    ghost use Rattle.fri_outside.specs.Memory.{TerminalInMemory};
 
     ghost Value = { TerminalInMemory };
 

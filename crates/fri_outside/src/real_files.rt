@@ -2,7 +2,7 @@
 ghost use Rattle.std.specs.Prelude.{◌≡◌, ◌≤◌, ◌+◌, None, Some, take, vec_len, IfOk, OnOk, MatchResult};
 ghost use Rattle.std.specs.Io.KnownBytes.{Appends};
 ghost use Rattle.fri_outside.specs.Outside.{FoundFile, Held, SaysOf, WhenTold, after_read, after_write, found_within};
-ghost use Rattle.fri_outside.specs.Reading.{MovesFrontOfBytes};
+ghost use Rattle.fri_outside.specs.inside.Reading.{MovesFrontOfBytes};
 
 use crate::open_files::{OpenFiles, close};
 use crate::{FileError, Files, WriteError};

@@ -15,7 +15,8 @@ pub(crate) struct Shelf {
 
 impl Model for Shelf {
     ghost use Rattle.fri_outside.specs.Outside.{Folder};
-    ghost use Rattle.fri_outside.specs.Memory.{folder_code, folder_of};
+    ghost use Rattle.fri_outside.specs.Memory.{folder_code};
+    ghost use Rattle.fri_outside.specs.inside.Kept.{folder_of};
 
     ghost Value = { Folder };
 

@@ -11,7 +11,7 @@ use Rattle.shell_lines.specs.declared.refusal.LineRefusal.{LineRefusal}
 use Rattle.group_state.specs.Place.{node_names}
 use Rattle.friday_shell.specs.Answer.{answer_of_meaning, command_answer}
 use Rattle.friday_shell.specs.Points.{SessionState}
-use Rattle.friday_shell.specs.Seen.{IsLine, PerformsCommand}
+use Rattle.friday_shell.specs.inside.Seen.{IsLine, PerformsCommand}
 use Rattle.friday_shell.specs.Ticks.{command_ticks, line_ticks, meaning_ticks}
 use Rattle.friday_shell.proofs.LogsStay.{kept_start}
 

@@ -4,3 +4,4 @@ pub mod Seen
 pub mod Session
 pub mod Ticks
 pub mod Laws
+pub mod inside

@@ -1,7 +1,7 @@
 // What a command answers.
 ghost use Rattle.std.specs.Prelude.{◌≡◌, ◌+◌, IfOk, [], length, min};
 ghost use Rattle.friday_shell.specs.Answer.{command_answer};
-ghost use Rattle.friday_shell.specs.Seen.{PerformsCommand, session_state};
+ghost use Rattle.friday_shell.specs.inside.Seen.{PerformsCommand, session_state};
 ghost use Rattle.friday_shell.specs.Ticks.{command_ticks};
 ghost use Rattle.group_state.specs.Place.{events_of_replays};
 ghost use Rattle.group_texts.specs.Texts.{last_lines};

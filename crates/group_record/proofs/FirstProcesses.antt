@@ -11,8 +11,8 @@ use Rattle.group_record.specs.declared.member.Member.{Member}
 use Rattle.group_record.specs.Answer.{first_states_from, with_first_state}
 use Rattle.group_record.specs.declared.error.RecordError.{RecordError}
 use Rattle.group_record.specs.declared.error.RecordError.TheVariants as errors
-use Rattle.group_record.specs.Begun.{AreStarted, BeginsAll}
-use Rattle.group_record.specs.Members.{IsFreshMember, StartsMember}
+use Rattle.group_record.specs.inside.Begun.{AreStarted, BeginsAll}
+use Rattle.group_record.specs.inside.Members.{IsFreshMember, StartsMember}
 
 -- these states and then what comes after them
 abbrev pub ahead : List State → Result (List State) ℕ → Result (List State) ℕ

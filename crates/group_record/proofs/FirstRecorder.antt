@@ -20,9 +20,9 @@ use Rattle.group_record.specs.declared.error.RecordError.TheVariants as errors
 use Rattle.group_record.specs.declared.member.Member.{Member}
 use Rattle.group_record.specs.declared.recorder.Recorder.{Recorder}
 use Rattle.group_record.specs.Answer.{group_of, names_of}
-use Rattle.group_record.specs.Begun.{AreStarted, BeginsAll, GroupBegins, HaveHeads, IsNewRecorder, MakeAll, StopsAtHead, heads_of_logs}
+use Rattle.group_record.specs.inside.Begun.{AreStarted, BeginsAll, GroupBegins, HaveHeads, IsNewRecorder, MakeAll, StopsAtHead, heads_of_logs}
 use Rattle.group_record.specs.Files.{InHeads}
-use Rattle.group_record.specs.Recorded.{FilesOf, IsMember, KeepsUpWithRun, prints_kept_for}
+use Rattle.group_record.specs.inside.Recorded.{FilesOf, IsMember, KeepsUpWithRun, prints_kept_for}
 use Rattle.group_record.specs.Run.{head_of_log, name_of_process, no_progress_yet}
 use Rattle.group_record.specs.RunLaws.{before_steps}
 use Rattle.group_record.proofs.LogHeads.{heads_are_logs}

@@ -14,7 +14,7 @@ use Rattle.group_record.specs.declared.recorder.Recorder.{Recorder}
 use Rattle.group_record.specs.Files.{IsStoppedRecording, InHeads, Between, InEntry, InImages, change}
 use Rattle.process_files.specs.Parts.{AreMadeInPart, made_in_part}
 use Rattle.group_record.specs.Logs.{logs_of_steps}
-use Rattle.group_record.specs.Recorded.{RecorderComes, FilesOf}
+use Rattle.group_record.specs.inside.Recorded.{RecorderComes, FilesOf}
 use Rattle.group_record.specs.Run.{GroupStart, RunProgress, RunStep, Had, Did, IsMoment, after_item, after_items, attempt, run_attempts, done_by_item, event_of_try, had_event, log_has_room, unless_log_full}
 use Rattle.process_files.specs.PartLaws.{after_none, files_after}
 

@@ -17,7 +17,7 @@ use Rattle.group_record.specs.Images.{images, images_from, images_of, memory_of_
 use Rattle.process_files.specs.Images.{image_files}
 use Rattle.process_files.specs.PartLaws.{files_after_part, files_after, files_front_part}
 use Rattle.process_files.specs.Parts.{AreMadeInPart}
-use Rattle.group_record.specs.Recorded.{KeepsUpWithRun, MakesFiles, prints_kept_for}
+use Rattle.group_record.specs.inside.Recorded.{KeepsUpWithRun, MakesFiles, prints_kept_for}
 use Rattle.group_record.specs.Run.{GroupStart, RunProgress, RunStep, entries_of_steps, process_after, processes_in_group}
 use Rattle.group_record.proofs.SharedLemmas.{at_place}
 use Rattle.group_record.proofs.FirstProcesses.{name_at}

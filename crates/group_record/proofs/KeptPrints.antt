@@ -8,7 +8,7 @@ use Rattle.lib_calls.specs.declared.entry.Entry.{Entry}
 use Rattle.lib_calls.specs.Traffic.{printed, prints}
 use Rattle.guest_process.specs.Live.{Event}
 use Rattle.group_world.specs.History.{put_last_if}
-use Rattle.group_record.specs.Recorded.{with_print}
+use Rattle.group_record.specs.inside.Recorded.{with_print}
 use Rattle.group_record.specs.Run.{RunStep, Had, entries_of_steps}
 use Rattle.group_record.proofs.SharedLemmas.{set_each}
 

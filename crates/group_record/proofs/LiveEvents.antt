@@ -22,8 +22,8 @@ use Rattle.guest_process.specs.Live.{AnsweredCall, Env, Event, answered_now, as_
 use Rattle.guest_process.specs.OneEvent.{IsKeptByEvents, OneEvent, Rises}
 use Rattle.guest_process.specs.Seen.{able, plain_need}
 use Rattle.guest_process.specs.State.{State, is_running, thread_at}
-use Rattle.group_record.specs.Around.{answer_by, signal_with_answer, world_gives}
-use Rattle.group_record.specs.Recorded.{IsLiveEntry}
+use Rattle.group_record.specs.inside.Around.{answer_by, signal_with_answer, world_gives}
+use Rattle.group_record.specs.inside.Recorded.{IsLiveEntry}
 use Rattle.group_record.proofs.ReadySignals.{chosen_is, handlers_after}
 
 -- ---- the answer

@@ -15,7 +15,7 @@ use Rattle.group_record.specs.Run.{GroupStart, log_of, name_of_process, processe
 use Rattle.group_record.specs.Logs.{files_of, log_name, logs_of_steps}
 use Rattle.group_record.specs.Files.{IsStoppedRecording, InHeads, heads_cut}
 use Rattle.group_record.specs.Answer.{error_of}
-use Rattle.group_record.specs.Begun.{HaveHeads, MakeAll, heads_of_logs, no_bytes}
+use Rattle.group_record.specs.inside.Begun.{HaveHeads, MakeAll, heads_of_logs, no_bytes}
 use Rattle.group_record.proofs.LogGrowth.{file_in, files_length, files_same, grown_at, grown_files, piece_written}
 
 -- ---- files with no bytes

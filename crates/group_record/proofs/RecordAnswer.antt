@@ -13,12 +13,12 @@ use Rattle.group_record.specs.declared.error.RecordError.TheVariants as errors
 use Rattle.group_record.specs.declared.recorder.Recorder.{Recorder}
 use Rattle.group_record.specs.declared.summary.Summary.{Summary}
 use Rattle.group_record.specs.Answer.{RecordAnswers, StoppedWhereBegun, group_of}
-use Rattle.group_record.specs.Begun.{GroupBegins, StopsAtHead}
+use Rattle.group_record.specs.inside.Begun.{GroupBegins, StopsAtHead}
 use Rattle.group_record.specs.Files.{Between, IsStoppedRecording, change}
 use Rattle.group_record.specs.Images.{images_of}
 use Rattle.process_files.specs.Parts.{AreMadeInPart}
 use Rattle.group_record.specs.Logs.{logs_of_steps}
-use Rattle.group_record.specs.Recorded.{RecorderDoes, FilesOf, KeepsUpWithRun, MakesFiles, MakesImages, SumsUpRun, RecordingUnderWay}
+use Rattle.group_record.specs.inside.Recorded.{RecorderDoes, FilesOf, KeepsUpWithRun, MakesFiles, MakesImages, SumsUpRun, RecordingUnderWay}
 use Rattle.group_record.specs.Run.{GroupStart, RunProgress, after_items, no_progress_yet, run}
 use Rattle.group_record.proofs.GroupRunStops.{stopped_before, stopped_in, stopped_on}
 use Rattle.process_files.specs.PartLaws.{files_after}

@@ -11,7 +11,7 @@ use Rattle.group_world.specs.World.{World}
 use Rattle.group_record.specs.declared.error.RecordError.{RecordError}
 use Rattle.group_record.specs.declared.member.Member.{Member}
 use Rattle.group_record.specs.declared.recorder.Recorder.{Recorder}
-use Rattle.group_record.specs.Recorded.{HasCountsFor, IsLoggedEvent, recorder_acted_on, total_counted_tries, counted_tries_of}
+use Rattle.group_record.specs.inside.Recorded.{HasCountsFor, IsLoggedEvent, recorder_acted_on, total_counted_tries, counted_tries_of}
 
 -- ---- what is counted of items
 

@@ -8,7 +8,7 @@ use Rattle.group_record.specs.declared.error.RecordError.{RecordError}
 use Rattle.group_record.specs.declared.recorder.Recorder.{Recorder}
 use Rattle.group_record.specs.Run.{GroupStart, RunProgress, after_item, after_items, attempt, run_attempts}
 use Rattle.group_record.specs.Files.{change}
-use Rattle.group_record.specs.Recorded.{RecorderComes, RecorderDoes, FilesOf, KeepsUpWithRun, RecordingUnderWay}
+use Rattle.group_record.specs.inside.Recorded.{RecorderComes, RecorderDoes, FilesOf, KeepsUpWithRun, RecordingUnderWay}
 use Rattle.group_record.proofs.GroupRunStops.{LeadsTo, attempts_lead, comes_on, items_lead}
 
 -- the recorder has come as far as some progress from which the rest gives the whole

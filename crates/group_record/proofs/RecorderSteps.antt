@@ -37,9 +37,9 @@ use Rattle.group_record.specs.Run.{GroupStart, RunProgress, RunStep, Had, Did, w
 use Rattle.group_record.specs.RunLaws.{after_had}
 use Rattle.group_record.specs.Logs.{logs_of_steps}
 use Rattle.group_record.specs.Files.{IsStoppedRecording, Between, InEntry, change}
-use Rattle.group_record.specs.Around.{env_of}
-use Rattle.group_record.specs.Members.{CanKeepEntry, IsAppendedInPart, LogHasRoom, WritesToLog, member_after, spelled_entry}
-use Rattle.group_record.specs.Recorded.{RecorderComes, FilesOf, IsMember, IsLoggedEvent, KeepsUpWithRun, IsLiveEntry, recorder_acted_on, item_acts, after_act, counted_tries_of, is_not_killed}
+use Rattle.group_record.specs.inside.Around.{env_of}
+use Rattle.group_record.specs.inside.Members.{CanKeepEntry, IsAppendedInPart, LogHasRoom, WritesToLog, member_after, spelled_entry}
+use Rattle.group_record.specs.inside.Recorded.{RecorderComes, FilesOf, IsMember, IsLoggedEvent, KeepsUpWithRun, IsLiveEntry, recorder_acted_on, item_acts, after_act, counted_tries_of, is_not_killed}
 use Rattle.group_record.proofs.ReadySignals.{live_same, with_signals}
 use Rattle.group_record.proofs.GroupRunStops.{LeadsTo, attempt_leads}
 use Rattle.group_record.proofs.LogGrowth.{clock_last, entries_few, entry_added, log_longer, logs_grown, piece_written, spelled_next}

@@ -11,7 +11,7 @@ use Rattle.group_record.specs.declared.member.Member.{Member}
 use Rattle.group_record.specs.declared.recorder.Recorder.{Recorder}
 use Rattle.group_record.specs.declared.summary.SummaryLine.{SummaryLine}
 use Rattle.group_record.specs.Answer.{end_after, summary_line, summary_lines}
-use Rattle.group_record.specs.Recorded.{KeepsUpWithRun, summary_line_of}
+use Rattle.group_record.specs.inside.Recorded.{KeepsUpWithRun, summary_line_of}
 use Rattle.group_record.specs.Run.{GroupStart, RunProgress, RunStep, history_of_steps, processes_in_group}
 use Rattle.group_record.proofs.RecorderSteps.{env_same}
 

@@ -7,8 +7,4 @@ pub mod Answer
 pub mod Laws
 pub mod Standing
 pub mod RunLaws
--- What its own functions alone speak of.
-pub mod Around
-pub mod Members
-pub mod Recorded
-pub mod Begun
+pub mod inside

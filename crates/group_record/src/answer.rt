@@ -3,7 +3,7 @@ ghost use Rattle.std.specs.Prelude.{◌≡◌, ◌<◌, IfOk, option_map, Some, 
 ghost use Rattle.guest_process.specs.Answers.{replies_with};
 ghost use Rattle.guest_process.specs.Live.{cut_datagram, drawn_of, wall_time_at_waking};
 ghost use Rattle.group_world.specs.World.{process_count};
-ghost use Rattle.group_record.specs.Around.{answer_by, env_of, seen_datagram, world_gives};
+ghost use Rattle.group_record.specs.inside.Around.{answer_by, env_of, seen_datagram, world_gives};
 
 use fri_bytes::Bytes;
 use group_world::{Front, World};

@@ -4,8 +4,8 @@ ghost use Rattle.schedule_text.specs.Schedule.{IsProcess};
 ghost use Rattle.wasm_types.specs.Modules.{module_of};
 ghost use Rattle.group_world.specs.World.{new_world};
 ghost use Rattle.group_record.specs.Answer.{after_writes, first_states, first_states_from};
-ghost use Rattle.group_record.specs.Begun.{BeginsAll, GroupBegins, IsNewRecorder};
-ghost use Rattle.group_record.specs.Recorded.{prints_kept_for};
+ghost use Rattle.group_record.specs.inside.Begun.{BeginsAll, GroupBegins, IsNewRecorder};
+ghost use Rattle.group_record.specs.inside.Recorded.{prints_kept_for};
 
 use crate::error::RecordError;
 use crate::logs::begin_logs;

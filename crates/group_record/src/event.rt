@@ -1,8 +1,8 @@
 // The event of a try, as its entry tells it.
 ghost use Rattle.std.specs.Prelude.{◌≡◌, ◌<◌, ◌^◌, IfOk};
 ghost use Rattle.group_world.specs.World.{process_count};
-ghost use Rattle.group_record.specs.Around.{env_of};
-ghost use Rattle.group_record.specs.Recorded.{IsEntryOf};
+ghost use Rattle.group_record.specs.inside.Around.{env_of};
+ghost use Rattle.group_record.specs.inside.Recorded.{IsEntryOf};
 
 use crate::answer::answer_now;
 use crate::signals::signal_after;

@@ -2,7 +2,7 @@
 ghost use Rattle.std.specs.Prelude.{◌≡◌, IsTrue, All, is_some, length};
 ghost use Rattle.schedule_text.specs.Schedule.{IsProcess};
 ghost use Rattle.group_record.specs.Answer.{after_writes};
-ghost use Rattle.group_record.specs.Recorded.{MakesImages, prints_kept_for};
+ghost use Rattle.group_record.specs.inside.Recorded.{MakesImages, prints_kept_for};
 ghost use Rattle.group_record.specs.Files.{change};
 
 use crate::error::RecordError;

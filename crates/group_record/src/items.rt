@@ -4,7 +4,7 @@ ghost use Rattle.schedule_text.specs.Schedule.{IsInRange};
 ghost use Rattle.group_world.specs.History.{Kill};
 ghost use Rattle.group_world.specs.World.{process_count, surroundings_of, with_act};
 ghost use Rattle.group_record.specs.Run.{is_running_process};
-ghost use Rattle.group_record.specs.Recorded.{item_acts, after_act, is_not_killed};
+ghost use Rattle.group_record.specs.inside.Recorded.{item_acts, after_act, is_not_killed};
 
 use crate::member::Member;
 use group_world::World;

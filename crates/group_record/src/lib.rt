@@ -7,7 +7,7 @@
 //! fault the logs of a moment, but for a part of one more entry. That is said where the folder tells its files. The laws say
 //! what holds at each moment of any run: it stands as its steps say (`beginning`, `standing`), the logs tell the events of
 //! their processes (`agreement`), and each datagram taken came from somewhere and in its turn (`delivery`, `taking`). Inside,
-//! a recorder holds the members of the group, each a process with its log (`specs/Recorded`, `specs/Members`).
+//! a recorder holds the members of the group, each a process with its log (`specs/inside/Recorded`, `specs/inside/Members`).
 #![tactic(auto)]
 
 mod answer;

@@ -1,7 +1,7 @@
 // The files of the logs, as they are begun.
 ghost use Rattle.std.specs.Prelude.{◌≡◌};
 ghost use Rattle.group_record.specs.Answer.{after_writes};
-ghost use Rattle.group_record.specs.Begun.{BeginsLogs, CreatesLogs, WritesHeads};
+ghost use Rattle.group_record.specs.inside.Begun.{BeginsLogs, CreatesLogs, WritesHeads};
 
 use crate::error::RecordError;
 use crate::member::Member;

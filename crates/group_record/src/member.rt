@@ -10,7 +10,7 @@ ghost use Rattle.guest_process.specs.Next.{next};
 ghost use Rattle.guest_process.specs.Start.{start as start_of};
 ghost use Rattle.wasm_types.specs.Modules.{module_of};
 ghost use Rattle.group_record.specs.Answer.{after_writes};
-ghost use Rattle.group_record.specs.Members.{CanKeepEntry, StartsMember, WritesToLog, member_after, spelled_entry};
+ghost use Rattle.group_record.specs.inside.Members.{CanKeepEntry, StartsMember, WritesToLog, member_after, spelled_entry};
 ghost use Rattle.group_record.specs.Files.{change};
 
 use crate::error::RecordError;

@@ -3,7 +3,7 @@ ghost use Rattle.std.specs.Prelude.{◌≡◌, [], ◌<◌, IfOk, OnOk, length, 
 ghost use Rattle.std.specs.List.{slice_index_or};
 ghost use Rattle.lib_calls.specs.Entry.{entry_of};
 ghost use Rattle.lib_calls.specs.Traffic.{printed as printed_of};
-ghost use Rattle.group_record.specs.Recorded.{prints_kept_for, with_print};
+ghost use Rattle.group_record.specs.inside.Recorded.{prints_kept_for, with_print};
 
 use fri_bytes::Bytes;
 use lib_calls::{EntryView, printed};

@@ -7,8 +7,8 @@ ghost use Rattle.schedule_text.specs.Schedule.{IsInRange};
 ghost use Rattle.group_world.specs.World.{process_count, surroundings_of};
 ghost use Rattle.group_record.specs.declared.member.Member.{Member as MemberOf};
 ghost use Rattle.group_record.specs.Run.{after_item, after_items, attempt, run_attempts};
-ghost use Rattle.group_record.specs.Recorded.{RecorderDoes, HasCountsFor, IsLoggedEvent, RecordingUnderWay, recorder_acted_on, item_acts, after_act, total_counted_tries, counted_tries_of};
-ghost use Rattle.group_record.specs.Members.{CanKeepEntry, WritesToLog, spelled_entry};
+ghost use Rattle.group_record.specs.inside.Recorded.{RecorderDoes, HasCountsFor, IsLoggedEvent, RecordingUnderWay, recorder_acted_on, item_acts, after_act, total_counted_tries, counted_tries_of};
+ghost use Rattle.group_record.specs.inside.Members.{CanKeepEntry, WritesToLog, spelled_entry};
 ghost use Rattle.group_record.specs.Answer.{after_writes};
 ghost use Rattle.group_record.specs.Files.{change};
 

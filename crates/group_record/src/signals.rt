@@ -4,7 +4,7 @@ ghost use Rattle.lib_calls.specs.Answer.{Answer};
 ghost use Rattle.signal_points.specs.Signals.{most_signal};
 ghost use Rattle.guest_process.specs.Live.{is_ready_signal as is_ready_of, lowest_signal};
 ghost use Rattle.group_world.specs.World.{has_pending, process_count};
-ghost use Rattle.group_record.specs.Around.{handlers_at, signal_with_answer};
+ghost use Rattle.group_record.specs.inside.Around.{handlers_at, signal_with_answer};
 
 use group_world::World;
 use guest_process::{Process, ends_process};

@@ -2,7 +2,7 @@
 ghost use Rattle.std.specs.Prelude.{◌≡◌, ◌≤◌, IfOk, All, length, is_some, option_map, IsTrue, Some};
 ghost use Rattle.group_world.specs.World.{process_count, surroundings_of};
 ghost use Rattle.group_record.specs.Answer.{IsSummary};
-ghost use Rattle.group_record.specs.Recorded.{SumsUpRun, summary_line_of};
+ghost use Rattle.group_record.specs.inside.Recorded.{SumsUpRun, summary_line_of};
 
 use crate::member::Member;
 use crate::recorder::Recorder;

@@ -14,8 +14,9 @@ use Rattle.group_order.specs.Heads.{AreNoHeads, IsFirstNode}
 use Rattle.group_order.specs.Order.{AreMergedOrders, ClocksRise, IsMergedOrder, NodeEvent, events_from, list_of, node_event, of_node, order_of_events}
 use Rattle.proc_replay.specs.Course.{AreReplays, AreTurns, entries_ahead}
 use Rattle.proc_replay.specs.Replaying.{Makes, Replaying, after_replay_turn, turn}
-use Rattle.group_state.specs.Stands.{parts_from}
-use Rattle.group_state.specs.Place.{PartsFit, entry_clock, events_of_replays, head_of_replay, node_event_count, states_of_nodes}
+use Rattle.group_state.specs.inside.Stands.{parts_from}
+use Rattle.group_state.specs.Place.{PartsFit, entry_clock, events_of_replays, node_event_count, states_of_nodes}
+use Rattle.group_state.specs.inside.Turns.{head_of_replay}
 use Rattle.group_state.proofs.TurnsAhead.{ahead_room, made_first}
 use Rattle.group_state.proofs.NodeEvents.{among_own, count_take, length_sort, of_node-drop, sorted_drop}
 use Rattle.group_state.proofs.ClocksRise.{IsAboveTag, ahead_rises, ahead_tags}

@@ -18,7 +18,7 @@ use Rattle.group_order.specs.Sends.{FindsOneMoreSend, SendReceivers, by_sender}
 use Rattle.group_state.specs.Place.{AscendsByProcess}
 use Rattle.group_state.specs.Report.{accepted_in, all_accepted_events}
 use Rattle.group_state.specs.Tally.{AcceptedEvent, is_send, of_process}
-use Rattle.group_state.specs.Tallying.{AreNewEvents, HasTallyRoomFor, IsNewSend, GroupTallying, nothing_tallied, send_by, with_accepted, with_all_accepted}
+use Rattle.group_state.specs.inside.Tallying.{AreNewEvents, HasTallyRoomFor, IsNewSend, GroupTallying, nothing_tallied, send_by, with_accepted, with_all_accepted}
 use Rattle.group_state.proofs.TallyCounts.{adds, few_more}
 
 abbrev event : ℕ → Entry → AcceptedEvent

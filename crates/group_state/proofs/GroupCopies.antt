@@ -11,7 +11,7 @@ use Rattle.proc_replay.specs.Replaying.{Replaying}
 use Rattle.group_state.specs.declared.stand.Stand.{Stand}
 use Rattle.group_state.specs.Moves.{event_of, last_event_of}
 use Rattle.group_state.specs.Place.{events_of_replays}
-use Rattle.group_state.specs.Stands.{AreSoundMemories, AreStands, IsStand, KeepsStands, SameStand, StillStandGroups, parts_from}
+use Rattle.group_state.specs.inside.Stands.{AreSoundMemories, AreStands, IsStand, KeepsStands, SameStand, StillStandGroups, parts_from}
 use Rattle.group_state.proofs.ReplaysAfter.{parts_none}
 
 abbrev parts_at : List Replaying → ℕ → List Replaying

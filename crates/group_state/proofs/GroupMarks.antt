@@ -23,11 +23,11 @@ use Rattle.watch_expr.specs.Reads.{AreMemories, SameAtPlace, SamePage}
 use Rattle.watch_expr.specs.View.{Node, ◌>>=◌}
 use Rattle.page_watch.specs.Touch.{MarksTell, node_of}
 use Rattle.group_state.specs.Laws.{IsStepOfGroup}
-use Rattle.group_state.specs.Motions.{AreMotions, Motions, nth_position, position_of, positions, positions_from}
+use Rattle.group_state.specs.inside.Motions.{AreMotions, Motions, nth_position, position_of, positions, positions_from}
 use Rattle.group_state.specs.Moves.{last_event_of}
 use Rattle.group_state.specs.Place.{AreParts, PartsFit, GroupPlace, events_of_replays, states_of_nodes}
 use Rattle.group_state.specs.Seen.{nodes_at, seen_node, signed_global}
-use Rattle.group_state.specs.Stands.{AreSoundMemories}
+use Rattle.group_state.specs.inside.Stands.{AreSoundMemories}
 use Rattle.group_state.specs.Touch.{is_touched_by, is_touched_in, mark_of_place, mark_in, is_touched_at}
 use Rattle.group_state.proofs.NodeMoves.{motions_at, positions_front}
 use Rattle.group_state.proofs.NodeViews.{node_at, node_for_each, states_length}

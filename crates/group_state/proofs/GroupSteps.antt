@@ -18,9 +18,10 @@ use Rattle.proc_replay.specs.Seen.{move_of}
 use Rattle.proc_replay.specs.declared.turn.Turn.{Turn}
 use Rattle.proc_replay.specs.declared.turn.Turn.TheVariants as code
 use Rattle.group_state.specs.declared.stand.Stand.{Stand}
-use Rattle.group_state.specs.Moves.{NodeTurns, event_before, event_of}
-use Rattle.group_state.specs.Place.{PartsFit, events_of_replays, head_of_replay}
-use Rattle.group_state.specs.Stands.{AreSoundMemories, IsStand, parts_from}
+use Rattle.group_state.specs.inside.Turns.{NodeTurns, head_of_replay}
+use Rattle.group_state.specs.Moves.{event_before, event_of}
+use Rattle.group_state.specs.Place.{PartsFit, events_of_replays}
+use Rattle.group_state.specs.inside.Stands.{AreSoundMemories, IsStand, parts_from}
 use Rattle.group_state.proofs.AheadInOrder.{goes}
 use Rattle.group_state.proofs.Swaps.{put_back}
 

@@ -22,7 +22,7 @@ use Rattle.watch_expr.specs.declared.reads.Place.{Place as Location}
 use Rattle.watch_expr.specs.declared.reads.Place.TheVariants as location
 use Rattle.page_watch.specs.Touch.{node_of}
 use Rattle.group_state.specs.Laws.{IsStepOfGroup}
-use Rattle.group_state.specs.Motions.{nth_position, positions, positions_from}
+use Rattle.group_state.specs.inside.Motions.{nth_position, positions, positions_from}
 use Rattle.group_state.specs.Moves.{event_before}
 use Rattle.group_state.specs.Place.{AreParts, PartsFit, events_of_replays, states_of_nodes}
 use Rattle.group_state.specs.Touch.{is_touched_by, is_touched_in, mark_of_place, mark_in, is_touched_at}

@@ -14,7 +14,7 @@ use Rattle.group_state.specs.declared.report.ReportLine.{ReportLine}
 use Rattle.group_state.specs.Place.{AreParts, PartsFit, entry_clock, events_of_replays, group_count}
 use Rattle.group_state.specs.Report.{accepted_in, all_accepted_events, report_line}
 use Rattle.group_state.specs.Tally.{AcceptedEvent, tally_of_events}
-use Rattle.group_state.specs.Tallying.{AreNewEvents, HasTallyRoomFor, GroupTallying, counts_of, nothing_tallied, with_all_accepted}
+use Rattle.group_state.specs.inside.Tallying.{AreNewEvents, HasTallyRoomFor, GroupTallying, counts_of, nothing_tallied, with_all_accepted}
 use Rattle.group_state.proofs.EventCounts.{all_new, first_counted, first_new, first_room, has_room}
 use Rattle.group_state.proofs.TallyCounts.{counted}
 

@@ -14,7 +14,7 @@ use Rattle.guest_process.specs.State.{State}
 use Rattle.group_order.specs.Order.{AreMergedOrders, NodeEvent, of_node}
 use Rattle.proc_replay.specs.Course.{AreReplays, AreTurns}
 use Rattle.proc_replay.specs.Replaying.{Makes, Replaying, after_replay_turn, after_at, move_by, moved, turn, turn_at}
-use Rattle.group_state.specs.Stands.{parts_from}
+use Rattle.group_state.specs.inside.Stands.{parts_from}
 use Rattle.group_state.specs.Laws.{IsStepOfGroup}
 use Rattle.group_state.specs.Place.{AreParts, PartsFit, events_of_replays, states_of_nodes, states_from}
 use Rattle.group_state.proofs.TurnsAhead.{made_first}

@@ -8,7 +8,7 @@ use Rattle.std.proofs.lemmas.Option.{get_or_from_slice_get}
 use Rattle.lib_calls.specs.declared.entry.Entry.{Entry}
 use Rattle.group_order.specs.Order.{NodeEvent}
 use Rattle.proc_replay.specs.Replaying.{Replaying}
-use Rattle.group_state.specs.Motions.{AreMotions, Motions, motions_from, no_motions, positions, positions_from, with_motion}
+use Rattle.group_state.specs.inside.Motions.{AreMotions, Motions, motions_from, no_motions, positions, positions_from, with_motion}
 use Rattle.group_state.specs.Place.{events_of_replays}
 use Rattle.group_state.proofs.ReplaysAfter.{both}
 

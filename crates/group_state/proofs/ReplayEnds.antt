@@ -12,7 +12,8 @@ use Rattle.proc_replay.specs.Replaying.{Replaying, turn}
 use Rattle.group_state.specs.declared.image.Image.{Image}
 use Rattle.group_state.specs.declared.report.ReportLine.{ReportLine}
 use Rattle.group_state.specs.Image.{image_of, memory_of_image, print_of_image}
-use Rattle.group_state.specs.Report.{EndsAtReplay, report_line}
+use Rattle.group_state.specs.inside.Turns.{EndsAtReplay}
+use Rattle.group_state.specs.Report.{report_line}
 
 -- the replay of these entries from a first state comes to the state T and this verdict
 pub record Comes (S T : State) (es : List Entry) (rest : List ℕ) (v : Verdict) : Type 0 where

@@ -9,9 +9,10 @@ use Rattle.guest_process.specs.Legal.{reason}
 use Rattle.guest_process.specs.declared.verdict.Verdict.{Verdict}
 use Rattle.proc_replay.specs.Course.{AreTurns, TellsVerdict, entries_ahead, outcome_of_replay}
 use Rattle.proc_replay.specs.Replaying.{Makes, Replaying, after_replay_turn, after_at, moved, turn}
-use Rattle.group_state.specs.Report.{EndsAtReplay, accepted_in}
+use Rattle.group_state.specs.inside.Turns.{EndsAtReplay}
+use Rattle.group_state.specs.Report.{accepted_in}
 use Rattle.group_state.specs.Tally.{AcceptedEvent, of_process}
-use Rattle.group_state.specs.Tallying.{AreNewEvents, HasTallyRoom, HasTallyRoomFor, IsNewSend, GroupTallying, with_accepted, with_all_accepted}
+use Rattle.group_state.specs.inside.Tallying.{AreNewEvents, HasTallyRoom, HasTallyRoomFor, IsNewSend, GroupTallying, with_accepted, with_all_accepted}
 
 -- ---- a turn keeps the head of the log
 

@@ -9,8 +9,9 @@ use Rattle.guest_process.specs.Replay.{accepted}
 use Rattle.group_order.specs.Order.{ClocksRise, NodeEvent, first_clocks, list_of}
 use Rattle.proc_replay.specs.Course.{AreReplays, AreTurns, entries_ahead, after_turns}
 use Rattle.proc_replay.specs.Replaying.{Replaying, after_replay_turn}
-use Rattle.group_state.specs.Stands.{parts_from}
-use Rattle.group_state.specs.Place.{entry_clock, head_of_replay, node_event_count, states_from}
+use Rattle.group_state.specs.inside.Stands.{parts_from}
+use Rattle.group_state.specs.Place.{entry_clock, node_event_count, states_from}
+use Rattle.group_state.specs.inside.Turns.{head_of_replay}
 use Rattle.group_state.proofs.TurnsAhead.{ahead_turns, drop_none, head_ahead, turns_more}
 use Rattle.group_state.proofs.NodeEvents.{count_other, count_own}
 use Rattle.group_state.proofs.ClocksRise.{rises_drop}

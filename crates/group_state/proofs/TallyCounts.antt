@@ -13,7 +13,7 @@ use Rattle.group_order.specs.Sends.{FindsOneMoreSend, SendReceivers, by_sender}
 use Rattle.group_state.specs.declared.tally.GroupCounts.{GroupCounts}
 use Rattle.group_state.specs.declared.tally.Receipt.{Receipt}
 use Rattle.group_state.specs.Tally.{AcceptedEvent, accepted_count, is_receipt, is_send, is_send_of, is_unmatched, is_unmatched_by, takes_untagged, tally_of_events}
-use Rattle.group_state.specs.Tallying.{AreNewEvents, IsNewSend, GroupTallying, counts_of, is_to_process, nothing_tallied, receipt_by, send_by, unmatched_receipts_in, with_accepted, with_all_accepted, with_send}
+use Rattle.group_state.specs.inside.Tallying.{AreNewEvents, IsNewSend, GroupTallying, counts_of, is_to_process, nothing_tallied, receipt_by, send_by, unmatched_receipts_in, with_accepted, with_all_accepted, with_send}
 
 below : (k : Option Kind) (count : ℕ) (e : Entry) → sends_as k count e ≡ true → e.call.a0 < count
 below (Some Send) count e sent = grind (arith, nat_tests)

@@ -8,7 +8,8 @@ use Rattle.guest_process.specs.Replay.{left_over}
 use Rattle.group_order.specs.Order.{first_clock}
 use Rattle.proc_replay.specs.Course.{AreTurns, TellsVerdict, entries_ahead, after_turns}
 use Rattle.proc_replay.specs.Replaying.{Replaying, ReplayMove, Makes, Ends, Diverges, after_replay_turn, turn}
-use Rattle.group_state.specs.Place.{clock_in, entry_clock, head_of_replay}
+use Rattle.group_state.specs.inside.Turns.{clock_in, head_of_replay}
+use Rattle.group_state.specs.Place.{entry_clock}
 
 -- the turn makes the first event that is ahead
 record Made (r : Replaying) : Type 0 where

@@ -17,7 +17,7 @@ use Rattle.proc_replay.specs.Course.{AreReplays, TellsVerdict, entries_ahead, af
 use Rattle.proc_replay.specs.Replaying.{Replaying, turn}
 use Rattle.group_state.specs.Place.{AreParts, PartsFit, events_of_replays, node_event_count}
 use Rattle.group_state.specs.Report.{verdict_on}
-use Rattle.group_state.specs.Stands.{parts_from}
+use Rattle.group_state.specs.inside.Stands.{parts_from}
 use Rattle.group_state.proofs.GroupCopies.{length_parts}
 use Rattle.group_state.proofs.AheadInOrder.{start_merged}
 

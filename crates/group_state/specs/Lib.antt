@@ -1,12 +1,9 @@
 pub mod Place
 pub mod Moves
-pub mod Motions
-pub mod Stands
-pub mod At
 pub mod Tally
-pub mod Tallying
 pub mod Report
 pub mod Image
 pub mod Laws
 pub mod Seen
 pub mod Touch
+pub mod inside

@@ -1,11 +1,8 @@
 -- How a group moves.
-use Rattle.std.specs.Prelude.{◌≡◌, ℕ, zero, suc, ◌+◌, ◌≤◌, ◌↔◌, Bool, IsTrue, IsFalse, List, Option, Some, None, length, option_map, slice_get, slice_set}
+use Rattle.std.specs.Prelude.{◌≡◌, ℕ, zero, suc, ◌+◌, ◌≤◌, ◌↔◌, Bool, IsTrue, IsFalse, List, Option, Some, None, length, option_map, slice_get}
 use Rattle.lib_calls.specs.Entry.{entry_of}
 use Rattle.lib_calls.specs.declared.entry.Entry.{Entry}
-use Rattle.proc_replay.specs.declared.turn.Turn.{Turn}
 use Rattle.group_order.specs.Order.{NodeEvent}
-use Rattle.proc_replay.specs.Replaying.{Replaying, after_replay_turn, turn}
-use Rattle.proc_replay.specs.Seen.{move_of}
 use Rattle.group_state.specs.declared.event.GroupEvent.{GroupEvent}
 use Rattle.group_state.specs.Place.{GroupPlace, events_of_replays}
 
@@ -36,8 +33,3 @@ event_before es (suc n) = slice_get es n
 -- the event that was made last
 abbrev pub last_event_of : GroupPlace → Option (NodeEvent Entry)
 last_event_of place = event_before (events_of_replays place.start) place.at
-
--- a node had this turn, and the other nodes are as they were
-pub record NodeTurns (old : List Replaying) (node : ℕ) (new : List Replaying) (given : Turn) : Type 0 where
-  pub tells : (r : Replaying) → slice_get old node ≡ Some r → move_of given ≡ turn r
-  pub moves : (r : Replaying) → slice_get old node ≡ Some r → new ≡ slice_set old node (after_replay_turn r)

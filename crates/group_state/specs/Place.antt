@@ -1,5 +1,5 @@
 -- A group of replays at a position.
-use Rattle.std.specs.Prelude.{◌≡◌, ℕ, suc, ◌<◌, ◌≤◌, List, [], ◌∷◌, All, length, map, take, Option, Some, None}
+use Rattle.std.specs.Prelude.{◌≡◌, ℕ, suc, ◌<◌, ◌≤◌, List, [], ◌∷◌, All, length, map, take}
 use Rattle.std.specs.List.{AllByRecursion}
 use Rattle.lib_calls.specs.declared.entry.Entry.{Entry}
 use Rattle.call_log.specs.Limits.{most_log}
@@ -9,7 +9,7 @@ use Rattle.guest_process.specs.Replay.{state_after}
 use Rattle.guest_process.specs.State.{State}
 use Rattle.group_order.specs.Order.{NodeEvent, of_node, order_of_events}
 use Rattle.proc_replay.specs.Course.{entries_ahead}
-use Rattle.proc_replay.specs.Replaying.{Diverges, Ends, Makes, ReplayMove, Replaying, turn}
+use Rattle.proc_replay.specs.Replaying.{Replaying}
 
 -- the replays at position 0, in order of their processes' numbers, and how many events have been made
 pub record GroupPlace : Type 0 where
@@ -69,14 +69,3 @@ states_from node (r ∷ rs) es = after_entries r (node_event_count node es) ∷ 
 -- the state of each node after the first k events of the group
 abbrev pub states_of_nodes : List Replaying → ℕ → List State
 states_of_nodes start k = states_from 0 start (take k (events_of_replays start))
-
--- ---- the next event of one replay
-
-abbrev pub clock_in : ReplayMove → Option ℕ
-clock_in (Makes e) = Some e.clock
-clock_in Ends = None
-clock_in (Diverges at why) = None
-
--- its clock, where there is one
-abbrev pub head_of_replay : Replaying → Option ℕ
-head_of_replay r = clock_in (turn r)

@@ -4,8 +4,8 @@ use Rattle.std.specs.List.{flat_map}
 use Rattle.call_log.specs.Log.{entries_of, rest_of_log}
 use Rattle.guest_process.specs.declared.verdict.Verdict.{Verdict}
 use Rattle.guest_process.specs.Replay.{accepted, last_state, verdict}
-use Rattle.proc_replay.specs.Course.{TellsVerdict, entries_ahead, outcome_of_replay}
-use Rattle.proc_replay.specs.Replaying.{Replaying, turn}
+use Rattle.proc_replay.specs.Course.{entries_ahead}
+use Rattle.proc_replay.specs.Replaying.{Replaying}
 use Rattle.group_state.specs.declared.report.Report.{Report}
 use Rattle.group_state.specs.declared.report.ReportLine.{ReportLine}
 use Rattle.group_state.specs.declared.tally.GroupCounts.{GroupCounts}
@@ -41,10 +41,3 @@ counts_in report = record { sends = report.sends; receives = report.receives; un
 pub record IsReport (start : List Replaying) (report : Report) : Type 0 where
   pub lines : report.lines.items ≡ map report_line start
   pub counts : counts_in report ≡ tally_of_events (group_count start) (all_accepted_events start)
-
--- a replay is at the end of its log, and has the same outcome
-pub record EndsAtReplay (first last : Replaying) : Type 0 where
-  pub same : outcome_of_replay last ≡ outcome_of_replay first
-  pub head : last.head ≡ first.head
-  pub verdict : Verdict
-  pub tells : TellsVerdict (turn last) last.left.bytes verdict

@@ -1,6 +1,6 @@
 // Where a group stood before, so that it need not begin again to go back.
 ghost use Rattle.std.specs.Prelude.{◌≡◌, ◌≤◌, ◌∷◌, [], Contains, IfSome};
-ghost use Rattle.group_state.specs.Stands.{KeepsStands, StillStandGroups};
+ghost use Rattle.group_state.specs.inside.Stands.{KeepsStands, StillStandGroups};
 
 use crate::stand::Stand;
 use std::alloc::{AllocError, Global};

@@ -1,7 +1,6 @@
 // One turn of a group's node.
 ghost use Rattle.std.specs.Prelude.{◌≡◌, ◌<◌, IfOk, length};
-ghost use Rattle.group_state.specs.Place.{head_of_replay};
-ghost use Rattle.group_state.specs.Moves.{NodeTurns};
+ghost use Rattle.group_state.specs.inside.Turns.{head_of_replay, NodeTurns};
 
 use proc_replay::{Replayer, Turn};
 use std::alloc::AllocError;

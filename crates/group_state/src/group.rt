@@ -1,7 +1,7 @@
 // A group at a position.
 ghost use Rattle.std.specs.Prelude.{◌≡◌, ◌≤◌, ◌-◌, ℕ, Some, None, IfOk, IsTrue, IsFalse, OnOk, ◌↔◌, length, map, option_map, slice_get};
 ghost use Rattle.group_state.specs.Place.{AreParts, PartsFit, GroupPlace, events_of_replays, states_of_nodes};
-ghost use Rattle.group_state.specs.At.{IsSoundCourse, place_of_course};
+ghost use Rattle.group_state.specs.inside.At.{IsSoundCourse, place_of_course};
 ghost use Rattle.group_state.specs.Moves.{IsAtPosition, GroupMoves, event_of, last_event_of};
 
 use crate::checkpoints::Checkpoints;
@@ -109,7 +109,7 @@ impl<'m, 'a> Course<'m, 'a> {
 impl<'m, 'a> Model for Group<'m, 'a> {
     ghost use Rattle.std.specs.Coded.{codes};
     ghost use Rattle.guest_process.specs.Coding.{crew_code, trees_code};
-    ghost use Rattle.group_state.specs.At.{IsSoundGroup, place_of_group};
+    ghost use Rattle.group_state.specs.inside.At.{IsSoundGroup, place_of_group};
     ghost use Rattle.group_state.specs.Place.{GroupPlace};
 
     ghost Value = { GroupPlace };

@@ -6,8 +6,8 @@
 //! `View` of `watch_expr` and a `TouchView` of `page_watch` it shows its nodes (`specs/Seen`), and the last position at which
 //! an event touched each place (`specs/Touch`). `report` says what came of each log and counts datagrams (`specs/Report`,
 //! `specs/Tally`). The laws `ordered` and `stepwise` say that sends come before receives in the order, and what one event
-//! changes. Inside are the checkpoints to which a group goes back (`specs/Stands`, `specs/At`), the positions at which its nodes
-//! had their events (`specs/Motions`), and how a tally grows (`specs/Tallying`). No clause tells of them.
+//! changes. Inside are the checkpoints to which a group goes back (`specs/inside/Stands`, `specs/inside/At`), the positions at which its nodes
+//! had their events (`specs/inside/Motions`), and how a tally grows (`specs/inside/Tallying`). No clause tells of them.
 #![tactic(auto)]
 
 mod checkpoints;

@@ -1,6 +1,6 @@
 // At which positions the nodes of a group had their events.
 ghost use Rattle.std.specs.Prelude.{◌≡◌, ◌<◌, IfOk, OnOk, length, slice_index_or};
-ghost use Rattle.group_state.specs.Motions.{no_motions, position_of, with_motion};
+ghost use Rattle.group_state.specs.inside.Motions.{no_motions, position_of, with_motion};
 
 use std::alloc::{AllocError, Global};
 use std::marker::Model;
@@ -14,7 +14,7 @@ pub(crate) struct Motions {
 }
 
 impl Model for Motions {
-    ghost use Rattle.group_state.specs.Motions.{Motions as Known};
+    ghost use Rattle.group_state.specs.inside.Motions.{Motions as Known};
 
     ghost Value = { Known };
 

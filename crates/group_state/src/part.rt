@@ -5,8 +5,9 @@ ghost use Rattle.guest_process.specs.declared.verdict.Verdict.{Verdict as Verdic
 ghost use Rattle.guest_process.specs.Replay.{left_over};
 ghost use Rattle.proc_replay.specs.Course.{TellsVerdict, entries_ahead};
 ghost use Rattle.proc_replay.specs.Replaying.{turn};
-ghost use Rattle.group_state.specs.Report.{EndsAtReplay, accepted_in};
-ghost use Rattle.group_state.specs.Tallying.{AreNewEvents, HasTallyRoomFor, with_all_accepted};
+ghost use Rattle.group_state.specs.inside.Turns.{EndsAtReplay};
+ghost use Rattle.group_state.specs.Report.{accepted_in};
+ghost use Rattle.group_state.specs.inside.Tallying.{AreNewEvents, HasTallyRoomFor, with_all_accepted};
 
 use crate::tally::Tally;
 use fri_bytes::Bytes;

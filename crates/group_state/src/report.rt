@@ -2,7 +2,7 @@
 ghost use Rattle.std.specs.Prelude.{◌≡◌, IfOk, OnOk};
 ghost use Rattle.group_state.specs.Place.{AreParts, PartsFit, group_count};
 ghost use Rattle.group_state.specs.Report.{IsReport, accepted_in, report_line};
-ghost use Rattle.group_state.specs.Tallying.{AreNewEvents, HasTallyRoomFor, with_all_accepted};
+ghost use Rattle.group_state.specs.inside.Tallying.{AreNewEvents, HasTallyRoomFor, with_all_accepted};
 
 use crate::part::{tally_events, verdict};
 use crate::tally::Tally;

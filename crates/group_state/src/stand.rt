@@ -1,7 +1,8 @@
 // Where a group is.
 ghost use Rattle.std.specs.Prelude.{◌≡◌, ◌≤◌, ℕ, IfOk, IfSome, length, map};
-ghost use Rattle.group_state.specs.Place.{PartsFit, head_of_replay};
-ghost use Rattle.group_state.specs.Stands.{AreSoundMemories, IsStand, SameStand};
+ghost use Rattle.group_state.specs.Place.{PartsFit};
+ghost use Rattle.group_state.specs.inside.Turns.{head_of_replay};
+ghost use Rattle.group_state.specs.inside.Stands.{AreSoundMemories, IsStand, SameStand};
 
 use crate::event::GroupEvent;
 use crate::forward::head_of;

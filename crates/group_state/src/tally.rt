@@ -1,7 +1,7 @@
 // What the accepted events of a group say of datagrams.
 ghost use Rattle.std.specs.Prelude.{◌≡◌, ◌+◌, ◌<◌, ◌^◌, OnOk};
 ghost use Rattle.lib_calls.specs.Entry.{entry_of};
-ghost use Rattle.group_state.specs.Tallying.{HasTallyRoom, IsNewSend, counts_of, is_matched_in, nothing_tallied, unmatched_receipts_in, with_accepted, with_receipt, with_send};
+ghost use Rattle.group_state.specs.inside.Tallying.{HasTallyRoom, IsNewSend, counts_of, is_matched_in, nothing_tallied, unmatched_receipts_in, with_accepted, with_receipt, with_send};
 
 use group_order::SendIndex;
 use lamport_tag::Tag;
@@ -37,7 +37,7 @@ pub struct Tally {
 }
 
 impl Model for Tally {
-    ghost use Rattle.group_state.specs.Tallying.{GroupTallying, tallying_code};
+    ghost use Rattle.group_state.specs.inside.Tallying.{GroupTallying, tallying_code};
 
     ghost Value = { GroupTallying };
 

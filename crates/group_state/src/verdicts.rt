@@ -1,6 +1,6 @@
 // The verdict on one log of a group.
 ghost use Rattle.std.specs.Prelude.{◌≡◌, length, map, slice_get};
-ghost use Rattle.group_state.specs.At.{IsSoundCourse};
+ghost use Rattle.group_state.specs.inside.At.{IsSoundCourse};
 ghost use Rattle.group_state.specs.Place.{events_of_replays};
 ghost use Rattle.group_state.specs.Report.{verdict_on};
 

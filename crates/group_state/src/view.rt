@@ -89,7 +89,7 @@ impl<'m, 'a> Group<'m, 'a> {
 
 impl<'m, 'a> Course<'m, 'a> {
     ghost use Rattle.std.specs.Prelude.{slice_get, Some};
-    ghost use Rattle.group_state.specs.At.{IsSoundCourse};
+    ghost use Rattle.group_state.specs.inside.At.{IsSoundCourse};
     ghost use Rattle.group_state.specs.Place.{states_of_nodes};
     ghost use Rattle.group_state.specs.Touch.{mark_in, mark_of_place};
     ghost use Rattle.guest_process.specs.State.{State};

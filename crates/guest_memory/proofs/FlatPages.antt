@@ -2,7 +2,7 @@
 use Rattle.std.proofs.Common.{◌≡◌, ◌<◌, ◌≤◌, ℕ, ◌+◌, ◌*◌, zero, suc, List, [], ◌∷◌, ◌++◌, length, get_or, take, drop, replicate, append_assoc, length-append, zero-add, refl, ap, sym, ◌∙◌, arith}
 use Rattle.std.proofs.Math.ListN.{set}
 use Rattle.guest_memory.specs.Memory.{put_piece}
-use Rattle.guest_memory.specs.Pages.{AreWhole, bytes_of_pages, put_in_page, stamps_of}
+use Rattle.guest_memory.specs.inside.Pages.{AreWhole, bytes_of_pages, put_in_page, stamps_of}
 use Rattle.guest_memory.specs.declared.page.Page.{Page}
 use Rattle.guest_memory.proofs.WrittenPieces.{drop-past, part-left, put-left, put-right}
 

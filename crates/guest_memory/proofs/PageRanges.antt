@@ -1,7 +1,7 @@
 -- Whether a range of addresses lies in the pages.
 use Rattle.std.proofs.Common.{◌≡◌, ◌<◌, ◌≤◌, ℕ, ◌+◌, ◌-◌, ◌*◌, ◌/◌, ◌%◌, true, false, List, length, nat_le, arith}
 use Rattle.std.proofs.lemmas.Bool.Decides.{nat_tests}
-use Rattle.guest_memory.specs.Pages.{AreWhole, bytes_of_pages}
+use Rattle.guest_memory.specs.inside.Pages.{AreWhole, bytes_of_pages}
 use Rattle.guest_memory.specs.declared.page.Page.{Page}
 use Rattle.guest_memory.proofs.FlatPages.{flat-length}
 

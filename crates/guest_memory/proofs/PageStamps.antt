@@ -2,7 +2,7 @@
 use Rattle.std.proofs.Common.{◌≡◌, ◌<◌, ◌≤◌, ℕ, ◌+◌, ◌*◌, zero, suc, true, false, List, [], ◌∷◌, ◌++◌, length, get_or, refl, ap, sym, ◌∙◌, arith, if◌then◌else◌}
 use Rattle.std.proofs.Math.ListN.{set}
 use Rattle.std.proofs.lemmas.Bool.Decides.{nat_tests}
-use Rattle.guest_memory.specs.Pages.{stamps_of}
+use Rattle.guest_memory.specs.inside.Pages.{stamps_of}
 use Rattle.guest_memory.specs.Stamps.{touches_page, stamped_pages, stamped_pages_from}
 use Rattle.guest_memory.specs.declared.page.Page.{Page}
 

@@ -2,7 +2,7 @@
 use Rattle.std.proofs.Common.{◌≡◌, ◌<◌, ◌≤◌, ℕ, ◌+◌, ◌*◌, ◌/◌, ◌%◌, List, [], ◌++◌, length, get_or, take, drop, length-take, length-drop, ap, sym, ◌∙◌, arith, Result, Ok, Err, OnErr}
 use Rattle.std.proofs.Math.ListN.{set}
 use Rattle.guest_memory.specs.Memory.{WritesPrefix, put_piece}
-use Rattle.guest_memory.specs.Pages.{AreWhole, PutsPrefix, bytes_of_pages, put_in_page, stamps_of}
+use Rattle.guest_memory.specs.inside.Pages.{AreWhole, PutsPrefix, bytes_of_pages, put_in_page, stamps_of}
 use Rattle.guest_memory.specs.Stamps.{stamped_pages}
 use Rattle.guest_memory.specs.declared.page.Page.{Page}
 use Rattle.guest_memory.proofs.FlatPages.{flat-put, whole-get, whole-set}

@@ -30,7 +30,7 @@ impl Model for Memory {
 
     ghost Value = { Bytes };
 
-    ghost use Rattle.guest_memory.specs.Inside.{memory_of, HasMemory};
+    ghost use Rattle.guest_memory.specs.inside.Fields.{memory_of, HasMemory};
 
     ghost view = { memory_of };
 

@@ -1,7 +1,7 @@
 // One watch page of a memory, which copies of the memory may share.
 ghost use Rattle.std.specs.Prelude.{◌≡◌, ◌+◌, ◌≤◌, IfOk, length, if◌then◌else◌, is_ok, replicate};
 ghost use Rattle.guest_memory.specs.LittleEndian.{low_bytes, IsWidth};
-ghost use Rattle.guest_memory.specs.Pages.{put_in_page};
+ghost use Rattle.guest_memory.specs.inside.Pages.{put_in_page};
 
 use crate::little_endian::{put_number, put_piece};
 use std::alloc::{AllocError, Global};

@@ -2,7 +2,7 @@
 ghost use Rattle.std.specs.Prelude.{◌≡◌, ◌+◌, ◌*◌, ◌-◌, ◌/◌, ◌%◌, ◌≤◌, ◌<◌, ◌++◌, IfOk, OnErr, OnOk, length, min, slice_index_or, take, drop, vec_len};
 ghost use Rattle.guest_memory.specs.LittleEndian.{little_endian, low_bytes, IsWidth};
 ghost use Rattle.guest_memory.specs.Memory.{no_stamps, put_piece, zero_bytes};
-ghost use Rattle.guest_memory.specs.Pages.{AreWhole, PutsPrefix, bytes_of_pages, stamps_of};
+ghost use Rattle.guest_memory.specs.inside.Pages.{AreWhole, PutsPrefix, bytes_of_pages, stamps_of};
 ghost use Rattle.guest_memory.specs.Stamps.{stamped_pages};
 
 use crate::little_endian::{number_at, put_piece};

@@ -10,7 +10,7 @@ use Rattle.lamport_tag.specs.declared.Tag.{Tag}
 use Rattle.lib_calls.specs.declared.entry.Call.{Call}
 use Rattle.lib_calls.specs.Answer.{Answer}
 use Rattle.lib_calls.specs.Effects.{call_brings, has_good_ranges, is_answer, is_good, is_range, minus_one, minus_two, put_in_memory, with_received, takes_counted, takes_nothing, memory_after_answer as memory_with}
-use Rattle.guest_process.specs.Advancing.{acted_on_answer}
+use Rattle.guest_process.specs.inside.Advancing.{acted_on_answer}
 use Rattle.guest_process.specs.Answers.{Need, Fixed, World, after_need, need_of_world, effects_of_answer, handled, is_drawn, is_empty, is_payload, brings_nothing, is_possible, takes_datagram, locked, narrow, need, spawned, unlocked, with_answer}
 use Rattle.guest_process.specs.Kinds.{ends_process}
 use Rattle.guest_process.specs.Legal.{need_gives_answer}

@@ -26,17 +26,17 @@ use Rattle.call_table.specs.declared.kind.Kind.TheVariants.{Exit}
 use Rattle.guest_process.specs.declared.parts.Parts.{Parts}
 use Rattle.guest_process.specs.declared.waiting.Waiting.{Waiting}
 use Rattle.lib_calls.specs.Answer.{Answer, answer_of}
-use Rattle.guest_process.specs.Advancing.{acted_on_answer}
+use Rattle.guest_process.specs.inside.Advancing.{acted_on_answer, pending_kind as kind_of}
 use Rattle.guest_process.specs.Answers.{effects_of_answer, exited_process, narrow}
 use Rattle.guest_process.specs.Fits.{Each, StateFits, live_has}
 use Rattle.guest_process.specs.GoesOn.{after_running, instruction_budget, with_event_counted, finished_if_all_over, handler, thread_runs_on, stands, stopped_thread, stopped_at_call, with_handler_frame}
 use Rattle.guest_process.specs.Kinds.{ends_process, reply_value}
 use Rattle.guest_process.specs.Legal.{reason, reason_at}
 use Rattle.guest_process.specs.Next.{next, next_at_thread}
-use Rattle.guest_process.specs.Seen.{IsOfModule, state_of}
+use Rattle.guest_process.specs.inside.Seen.{IsOfModule, state_of}
 use Rattle.guest_process.specs.Sound.{IsSoundProcess, IsStandingAtCall}
 use Rattle.guest_process.specs.Start.{waiting_at}
-use Rattle.guest_process.specs.State.{State, awaits_event, is_running, pending_kind as kind_of, thread_at, with_thread}
+use Rattle.guest_process.specs.State.{State, awaits_event, is_running, thread_at, with_thread}
 use Rattle.guest_process.proofs.EventMarks.{MarkLaws}
 use Rattle.guest_process.proofs.KeptFits.{state_kept}
 use Rattle.guest_process.proofs.KeptSound.{next_module, sound_kept}

@@ -1,4 +1,3 @@
-pub mod Advancing
 pub mod Answers
 pub mod Coding
 pub mod Crews
@@ -17,3 +16,4 @@ pub mod Seen
 pub mod Sound
 pub mod Start
 pub mod State
+pub mod inside

@@ -1,37 +1,13 @@
 -- What contracts see of a process, and what the code answers.
-use Rattle.std.specs.Prelude.{◌≡◌, ℕ, ⊤, Bool, Option, Some, None, is_some, Result, Ok, Err, if◌then◌else◌}
+use Rattle.std.specs.Prelude.{ℕ, ⊤, Bool, Option, Some, None, is_some, Result, Ok, Err, if◌then◌else◌}
 use Rattle.lib_calls.specs.Answer.{Answer}
-use Rattle.wasm_types.specs.Modules.{module_of}
-use Rattle.wasm_step.specs.Suits.{SuitsModule}
 use Rattle.guest_process.specs.declared.divergence.Divergence.{Divergence}
 use Rattle.guest_process.specs.declared.need.Need.{Need as PlainNeed}
 use Rattle.guest_process.specs.declared.need.Need.TheVariants as plainly
-use Rattle.guest_process.specs.declared.parts.Parts.{Parts}
 use Rattle.guest_process.specs.declared.waiting.Waiting.{Waiting}
 use Rattle.guest_process.specs.Answers.{Need, Fixed, Blocked, World, effects_of_answer}
-use Rattle.guest_process.specs.Fits.{StateFits}
 use Rattle.guest_process.specs.GoesOn.{handler}
-use Rattle.guest_process.specs.Sound.{IsSoundProcess}
 use Rattle.guest_process.specs.State.{State, is_running, thread_at}
-
-abbrev pub state_of : Parts → State
-state_of p = record {
-  who = p.who;
-  count = p.count;
-  store = p.store;
-  crew = p.crew;
-  handlers = p.handlers;
-  clock = p.clock;
-  events = p.events;
-  end = p.end;
-}
-
--- what holds of each process of a valid module
-pub record IsOfModule (p : Parts) : Type 0 where
-  pub same_module : module_of p.«module».now ≡ p.store.«module»
-  pub suits : SuitsModule p.store
-  pub fits : StateFits (state_of p)
-  pub sound : IsSoundProcess (state_of p)
 
 -- a need without the state that it makes
 abbrev pub plain_need : Need → PlainNeed

@@ -1,6 +1,5 @@
 -- The state of a process.
-use Rattle.std.specs.Prelude.{ℕ, ◌+◌, Bool, true, false, List, Option, option_map}
-use Rattle.call_table.specs.declared.kind.Kind.{Kind}
+use Rattle.std.specs.Prelude.{ℕ, ◌+◌, Bool, true, false, List, Option}
 use Rattle.coop_threads.specs.Crew.{Crew, live_at, after_lock, with_live, with_slot, after_unlock}
 use Rattle.coop_threads.specs.declared.slot.Slot.{Slot}
 use Rattle.guest_memory.specs.Memory.{Memory}
@@ -25,10 +24,6 @@ pub record State : Type 0 where
 -- the thread with this number and its pending call, where it is live
 abbrev pub thread_at : State → ℕ → Option Waiting
 thread_at S t = live_at S.crew t
-
--- the kind of the call at which it is
-abbrev pub pending_kind : State → ℕ → Option Kind
-pending_kind S t = option_map (λ w. w.kind) (thread_at S t)
 
 -- thread t stands so
 abbrev pub with_thread : State → ℕ → Slot Waiting → State

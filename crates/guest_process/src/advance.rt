@@ -8,14 +8,14 @@ ghost use Rattle.wasm_types.specs.Modules.{module_of};
 ghost use Rattle.wasm_step.specs.Burst.{burst};
 ghost use Rattle.wasm_step.specs.Suits.{SuitsModule};
 ghost use Rattle.wasm_step.specs.Strand.{IsHandler};
-ghost use Rattle.guest_process.specs.Advancing.{acted_by_entry, thread_gone_on};
+ghost use Rattle.guest_process.specs.inside.Advancing.{acted_by_entry, thread_gone_on, pending_kind};
 ghost use Rattle.guest_process.specs.Answers.{with_answer};
 ghost use Rattle.guest_process.specs.GoesOn.{process_after_burst, instruction_budget, handler as handler_of};
 ghost use Rattle.guest_process.specs.Legal.{reason};
 ghost use Rattle.guest_process.specs.Next.{next};
-ghost use Rattle.guest_process.specs.Seen.{IsOfModule, state_of};
+ghost use Rattle.guest_process.specs.inside.Seen.{IsOfModule, state_of};
 ghost use Rattle.guest_process.specs.Sound.{StandsAtKind};
-ghost use Rattle.guest_process.specs.State.{awaits_event, pending_kind};
+ghost use Rattle.guest_process.specs.State.{awaits_event};
 
 use crate::answer::{answered, entered, handler};
 use crate::judge::ends_process;

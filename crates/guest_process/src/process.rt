@@ -41,7 +41,7 @@ impl<'m> Model for Process<'m> {
     ghost use Rattle.std.specs.Coded.{codes};
     ghost use Rattle.wasm_types.specs.Coding.{trees_code};
     ghost use Rattle.coop_threads.specs.Crew.{crew_code};
-    ghost use Rattle.guest_process.specs.Seen.{IsOfModule, state_of};
+    ghost use Rattle.guest_process.specs.inside.Seen.{IsOfModule, state_of};
     ghost use Rattle.guest_process.specs.State.{State};
 
     ghost Value = { State };

@@ -3,3 +3,4 @@ pub mod Finding
 pub mod Seen
 pub mod Valid
 pub mod Laws
+pub mod inside

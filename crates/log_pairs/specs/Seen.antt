@@ -1,16 +1,14 @@
 -- What the values of the code stand for.
 use Rattle.std.specs.List.{AllByRecursion}
-use Rattle.std.specs.Prelude.{◌≡◌, ◌≢◌, ◌≤◌, List, [], ◌∷◌, length, MatchResult, Option, Some, Ok, Result}
+use Rattle.std.specs.Prelude.{◌≡◌, ◌≢◌, ◌≤◌, List, [], ◌∷◌, length, Option, Some, Ok}
 use Rattle.fri_outside.specs.Outside.{Folder, WhenTold}
 use Rattle.wasm_types.specs.Modules.{module_of}
 use Rattle.call_log.specs.Head.{IsHead}
 use Rattle.call_log.specs.Limits.{most_log}
 use Rattle.call_log.specs.Log.{head_at}
-use Rattle.command_run.specs.Call.{StopsAsCause}
-use Rattle.command_run.specs.declared.refusal.StopCause.{StopCause}
 use Rattle.log_pairs.specs.declared.pairs.Loaded.{Loaded as LoadedFiles}
 use Rattle.log_pairs.specs.declared.pairs.Pair.{Pair as PairOfWords}
-use Rattle.log_pairs.specs.Pairs.{Loaded, Pair, loaded_pair, loaded_pairs}
+use Rattle.log_pairs.specs.Pairs.{Loaded, Pair, loaded_pairs}
 
 abbrev pub pair_of : PairOfWords → Pair
 pair_of pair = record { module_name = pair.module_file.now; log_name = pair.log_file.now }
@@ -33,11 +31,6 @@ AreLoadedPairs [] [] = Unit {0}
 AreLoadedPairs (l ∷ ls) (is ∷ all) = IsLoadedPair l is × AreLoadedPairs ls all
 AreLoadedPairs [] (is ∷ all) = ⊥
 AreLoadedPairs (l ∷ ls) [] = ⊥
-
--- what a pair comes to after the pairs before it, or why it does not
-abbrev pub LoadsPair : Folder → List LoadedFiles → Pair → Result LoadedFiles StopCause → Type 0
-LoadsPair folder earlier pair result = (ls : List Loaded) → AreLoadedPairs earlier ls
-    → MatchResult result (λ l. (is : Loaded) × ((loaded_pair folder ls pair ≡ Ok is) × IsLoadedPair l is)) (StopsAsCause (loaded_pair folder ls pair))
 
 -- they are of one group, and each of another process with another name
 pub record IsApartPair (l other : LoadedFiles) : Type 0 where

@@ -4,7 +4,8 @@ use Rattle.std.specs.Prelude.{◌⊎◌, OnOk, OnErr, slice_set}
 use Rattle.std.proofs.lemmas.Bool.{cases_eq}
 use Rattle.std.proofs.lemmas.Option.{same_Some}
 use Rattle.std.proofs.lemmas.List.{get_or_default, length-set}
-use Rattle.lossy_net.specs.Network.{Sent, Traffic, after_sending, no_traffic, traffic_of, sent_by, nth_of, AreForGroup, IsSentIntoGroup}
+use Rattle.lossy_net.specs.Network.{Sent, Traffic, after_sending, no_traffic, traffic_of, sent_by, nth_of}
+use Rattle.lossy_net.specs.inside.Addressed.{AreForGroup, IsSentIntoGroup}
 use Rattle.lossy_net.proofs.NetworkLemmas.{traffic_of-changed, traffic_of-others, traffic_of-replicate}
 
 -- ---- the numbers

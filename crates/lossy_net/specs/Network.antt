@@ -1,6 +1,6 @@
 -- What a network holds, as a list with the traffic of each process at the process's number, and what
 -- each call makes of it.
-use Rattle.std.specs.Prelude.{◌≡◌, ℕ, suc, zero, ◌<◌, List, [], ◌∷◌, ◌++◌, length, drop, slice_set, Option, Some, None, option_map}
+use Rattle.std.specs.Prelude.{ℕ, suc, zero, List, [], ◌∷◌, ◌++◌, length, drop, slice_set, Option, Some, None, option_map}
 use Rattle.std.specs.List.{slice_index_or, slice_get}
 use Rattle.lamport_tag.specs.declared.Tag.{Tag}
 use Rattle.lamport_tag.specs.Tag.{IsReadAs, read_datagram}
@@ -56,14 +56,6 @@ without_front net process = with_mailbox net process (drop 1 (mailbox_of net pro
 abbrev pub nth_of : {A : Type 0} → List A → ℕ → Option A
 nth_of xs zero = None
 nth_of xs (suc before) = slice_get xs before
-
--- each of these datagrams is for a process of a group of `count`
-abbrev pub AreForGroup : ℕ → List Sent → Type 0
-AreForGroup count sent = (n : ℕ) (datagram : Sent) → nth_of sent n ≡ Some datagram → datagram.to < count
-
--- each datagram was sent to a process of the group
-abbrev pub IsSentIntoGroup : List Traffic → Type 0
-IsSentIntoGroup net = (process : ℕ) → AreForGroup (length net) (sent_by net process)
 
 -- the network after this datagram, if there is one, was put at the end of its receiver's mailbox
 abbrev pub with_delivered : List Traffic → Option Sent → List Traffic

@@ -29,7 +29,8 @@ pub struct Net {
 
 impl Model for Net {
     ghost use Rattle.std.specs.Prelude.{◌≡◌, List, length};
-    ghost use Rattle.lossy_net.specs.Network.{Traffic, IsSentIntoGroup};
+    ghost use Rattle.lossy_net.specs.Network.{Traffic};
+    ghost use Rattle.lossy_net.specs.inside.Addressed.{IsSentIntoGroup};
 
     ghost Value = { List Traffic };
 

@@ -1,4 +1,4 @@
 pub mod Migrate
-pub mod Seen
 pub mod Valid
 pub mod Laws
+pub mod inside

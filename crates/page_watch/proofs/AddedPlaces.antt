@@ -8,7 +8,7 @@ use Rattle.std.specs.List.{list_all, list_any}
 use Rattle.watch_expr.specs.declared.reads.Place.{Place}
 use Rattle.watch_expr.specs.Reads.{is_low_place}
 use Rattle.page_watch.specs.declared.places.NodePlaces.{NodePlaces}
-use Rattle.page_watch.specs.Places.{AddsPlace, AreUnion, CoversPlaces, is_in_order, places_in}
+use Rattle.page_watch.specs.inside.Places.{AddsPlace, AreUnion, CoversPlaces, is_in_order, places_in}
 use Rattle.page_watch.specs.Touch.{node_of}
 use Rattle.page_watch.proofs.OneNode.{and-true}
 

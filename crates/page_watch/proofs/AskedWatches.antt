@@ -9,9 +9,10 @@ use Rattle.watch_expr.specs.declared.reads.Place.{Place}
 use Rattle.watch_expr.specs.Expression.{Expression}
 use Rattle.watch_expr.specs.Reads.{ReadsTell, reads_of_expression}
 use Rattle.watch_expr.specs.View.{Node}
-use Rattle.page_watch.specs.Places.{AreUnion, CoversPlaces, places_of}
+use Rattle.page_watch.specs.inside.Places.{AreUnion, CoversPlaces, places_of}
 use Rattle.page_watch.specs.Touch.{MarksTell, meets}
-use Rattle.page_watch.specs.Watched.{WatchStands, Watched, watch_after_event, evaluated_watch}
+use Rattle.page_watch.specs.Watched.{WatchStands, Watched}
+use Rattle.page_watch.specs.inside.Watching.{watch_after_event, evaluated_watch}
 use Rattle.page_watch.proofs.OneNode.{or-false}
 use Rattle.page_watch.proofs.WatchStays.{keeps}
 

@@ -10,8 +10,9 @@ use Rattle.watch_expr.specs.declared.reads.Place.{Place}
 use Rattle.watch_expr.specs.declared.reads.Place.TheVariants as place
 use Rattle.watch_expr.specs.Reads.{is_low_place}
 use Rattle.page_watch.specs.declared.places.NodePlaces.{NodePlaces}
-use Rattle.page_watch.specs.Places.{is_in_order, places_in}
-use Rattle.page_watch.specs.Touch.{IsOnlyNode, meets, node_of}
+use Rattle.page_watch.specs.inside.Places.{is_in_order, places_in}
+use Rattle.page_watch.specs.inside.Watching.{IsOnlyNode}
+use Rattle.page_watch.specs.Touch.{meets, node_of}
 
 pub and-true : (a b : Bool) → (a && b) ≡ true → (a ≡ true) × (b ≡ true)
 and-true true b h = (refl, h)

@@ -1,4 +1,4 @@
 pub mod Firing
-pub mod Places
 pub mod Touch
 pub mod Watched
+pub mod inside

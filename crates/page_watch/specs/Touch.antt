@@ -25,7 +25,3 @@ pub record MarksTell (states : ℕ → List Node) (at : ℕ) (marks : Place → 
 -- some place of these has this mark
 abbrev pub meets : (Place → ℕ) → ℕ → List Place → Bool
 meets marks at places = list_any (λ l. marks l == at) places
-
--- only places of this node have this mark
-abbrev pub IsOnlyNode : (Place → ℕ) → ℕ → ℕ → Type 0
-IsOnlyNode marks at node = (l : Place) → marks l ≡ at → node_of l ≡ node

@@ -8,7 +8,7 @@
 //! `Watch::after_event` is promised to leave the watch standing for the state at the view's position, to answer exactly
 //! where the value changed, and to evaluate, which ticks the counter, exactly where a place that was read has the position's
 //! mark. Whoever moves the view by more than one position makes a new watch.
-//! Inside is how the places of watches are kept (`specs/Places`).
+//! Inside is how the places of watches are kept (`specs/inside/Places`).
 #![tactic(auto)]
 
 mod places;

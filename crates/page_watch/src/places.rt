@@ -1,8 +1,9 @@
 // The places that several watches were read from, by node.
 ghost use Rattle.std.specs.Prelude.{◌≡◌, ◌<◌, ◌∷◌, [], IfOk, IfSome, IsTrue, OnOk, Some, length, option_map, slice_get, true};
 ghost use Rattle.std.specs.List.{list_all};
-ghost use Rattle.page_watch.specs.Places.{AddsPlace, AreUnion, CoversPlaces, is_in_order, places_in};
-ghost use Rattle.page_watch.specs.Touch.{IsOnlyNode, MarksTell, meets};
+ghost use Rattle.page_watch.specs.inside.Places.{AddsPlace, AreUnion, CoversPlaces, is_in_order, places_in};
+ghost use Rattle.page_watch.specs.inside.Watching.{IsOnlyNode};
+ghost use Rattle.page_watch.specs.Touch.{MarksTell, meets};
 ghost use Rattle.watch_expr.specs.Reads.{is_low_place};
 
 use crate::touched::{is_met, node_of};
@@ -32,7 +33,7 @@ impl Model for AllPlaces {
 
     ghost use Rattle.std.specs.Prelude.{◌≡◌, true};
     ghost use Rattle.std.specs.List.{list_all};
-    ghost use Rattle.page_watch.specs.Places.{is_in_order, places_in};
+    ghost use Rattle.page_watch.specs.inside.Places.{is_in_order, places_in};
 
     ghost view = { λ all. places_in all.nodes.items };
 

@@ -1,7 +1,8 @@
 // Whether an event touched one of some places.
 ghost use Rattle.std.specs.Prelude.{◌≡◌, ◌<◌, ◌&&◌, ◌==◌, true};
 ghost use Rattle.std.specs.List.{list_all};
-ghost use Rattle.page_watch.specs.Touch.{IsOnlyNode, MarksTell, meets, node_of};
+ghost use Rattle.page_watch.specs.inside.Watching.{IsOnlyNode};
+ghost use Rattle.page_watch.specs.Touch.{MarksTell, meets, node_of};
 ghost use Rattle.watch_expr.specs.Reads.{is_low_place};
 
 use crate::view::TouchView;

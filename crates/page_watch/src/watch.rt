@@ -2,7 +2,8 @@
 ghost use Rattle.std.specs.Prelude.{◌≡◌, ◌+◌, ◌-◌, ◌<◌, IfOk, OnOk, if◌then◌else◌};
 ghost use Rattle.page_watch.specs.Firing.{change_of, is_same_value};
 ghost use Rattle.page_watch.specs.Touch.{meets};
-ghost use Rattle.page_watch.specs.Watched.{WatchStands, watch_after_event};
+ghost use Rattle.page_watch.specs.Watched.{WatchStands};
+ghost use Rattle.page_watch.specs.inside.Watching.{watch_after_event};
 ghost use Rattle.watch_expr.specs.Expression.{expression_of};
 ghost use Rattle.watch_expr.specs.Reads.{no_variables, reads_of_expression};
 ghost use Rattle.watch_expr.specs.Value.{value};

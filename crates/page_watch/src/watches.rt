@@ -1,8 +1,9 @@
 // Several watches over one view.
 ghost use Rattle.std.specs.Prelude.{◌≡◌, ◌+◌, ◌-◌, ◌<◌, ◌++◌, ◌∷◌, [], All, IfOk, IsFalse, OnOk, count_by, Some, length, map, slice_get, if◌then◌else◌};
-ghost use Rattle.page_watch.specs.Places.{CoversPlaces, places_of};
+ghost use Rattle.page_watch.specs.inside.Places.{CoversPlaces, places_of};
 ghost use Rattle.page_watch.specs.Touch.{meets};
-ghost use Rattle.page_watch.specs.Watched.{WatchStands, watch_after_event};
+ghost use Rattle.page_watch.specs.Watched.{WatchStands};
+ghost use Rattle.page_watch.specs.inside.Watching.{watch_after_event};
 ghost use Rattle.watch_expr.specs.Expression.{expression_of};
 ghost use Rattle.watch_expr.specs.Reads.{reads_of_expression};
 
@@ -32,7 +33,7 @@ impl Model for Watches {
 
     ghost coded = { Prim.hlevel (codes, expression_code) };
 
-    ghost use Rattle.page_watch.specs.Places.{CoversPlaces, places_of};
+    ghost use Rattle.page_watch.specs.inside.Places.{CoversPlaces, places_of};
 
     ghost view = { λ w. w.watches.items };
 

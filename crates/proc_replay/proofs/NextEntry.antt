@@ -14,8 +14,8 @@ use Rattle.guest_process.specs.declared.verdict.Verdict.{Verdict}
 use Rattle.guest_process.specs.State.{State}
 use Rattle.proc_replay.specs.declared.turn.Turn.TheVariants as code
 use Rattle.proc_replay.specs.Course.{TellsVerdict, outcome_of_replay}
-use Rattle.proc_replay.specs.Inside.{IsAhead}
-use Rattle.proc_replay.specs.Replaying.{Diverges, Makes, Replaying, after_replay_turn, after_at, move_by, moved, replaying, turn, turn_at}
+use Rattle.proc_replay.specs.inside.Ahead.{IsAhead, replaying}
+use Rattle.proc_replay.specs.Replaying.{Diverges, Makes, Replaying, after_replay_turn, after_at, move_by, moved, turn, turn_at}
 use Rattle.proc_replay.proofs.OneTurn.{cases}
 use Rattle.proc_replay.proofs.TurnAfterTurn.{same_entry}
 

@@ -2,5 +2,5 @@ pub mod Replaying
 pub mod AtHead
 pub mod Seen
 pub mod Course
-pub mod Inside
 pub mod Sizes
+pub mod inside

@@ -1,9 +1,8 @@
 -- A replay that is under way, and its next turn.
-use Rattle.std.specs.Prelude.{ℕ, ◌+◌, ◌*◌, ◌^◌, ◌<◌, length, Option, Some, None}
+use Rattle.std.specs.Prelude.{ℕ, ◌+◌, Option, Some, None}
 use Rattle.lib_calls.specs.declared.entry.Entry.{Entry}
 use Rattle.call_log.specs.Head.{Head}
-use Rattle.call_log.specs.Limits.{least_entry}
-use Rattle.call_log.specs.Log.{Log, Unread, entry_at}
+use Rattle.call_log.specs.Log.{Unread, entry_at}
 use Rattle.guest_process.specs.declared.divergence.Divergence.{Divergence}
 use Rattle.guest_process.specs.Legal.{reason}
 use Rattle.guest_process.specs.Next.{next}
@@ -14,10 +13,6 @@ pub record Replaying : Type 0 where
   pub head : Head
   pub state : State
   pub left : Unread
-
--- a process with the log that is left
-abbrev pub replaying : State → Log → Replaying
-replaying S log = record { head = log.head; state = S; left = log.left }
 
 -- what the next turn is: the event of an entry is made, or no entry comes next, or the entry with this
 -- number, from 1 on, is not legal
@@ -49,7 +44,3 @@ after_at r (Some x) = moved r x.0 x.1 (reason r.state x.0)
 -- what is there after the turn
 abbrev pub after_replay_turn : Replaying → Replaying
 after_replay_turn r = after_at r (entry_at r.left)
-
--- a log has fewer than 2 ^ 63 bytes, and each event took some of them
-pub record IsRoomy (S : State) (log : Log) : Type 0 where
-  pub room : S.events * least_entry + length log.left.bytes < 2 ^ 63

@@ -5,7 +5,7 @@
 //! that the next entry is not legal, and why (`turn`). `next_event` takes that turn, and at the end and at a divergence it
 //! changes nothing and gives the same again; `peek` tells it and wants no memory. The law `replays` says that turn after turn
 //! gives the replay of the log's entries and its verdict (`specs/Course`), and `accepted_no_longer` that these entries take no
-//! more bytes in version 2. Inside, the turn that comes next is kept (`specs/Inside`), so each entry is read and judged once.
+//! more bytes in version 2. Inside, the turn that comes next is kept (`specs/inside/Ahead`), so each entry is read and judged once.
 #![tactic(auto)]
 
 pub mod laws;

@@ -2,8 +2,8 @@
 ghost use Rattle.std.specs.Prelude.{◌≡◌, ◌*◌, ◌<◌, ◌^◌, IfOk, length};
 ghost use Rattle.call_log.specs.Head.{head_of};
 ghost use Rattle.call_log.specs.Limits.{least_entry};
-ghost use Rattle.proc_replay.specs.Inside.{IsAhead};
-ghost use Rattle.proc_replay.specs.Replaying.{IsRoomy, after_replay_turn, replaying, turn};
+ghost use Rattle.proc_replay.specs.inside.Ahead.{IsAhead, IsRoomy, replaying};
+ghost use Rattle.proc_replay.specs.Replaying.{after_replay_turn, turn};
 ghost use Rattle.proc_replay.specs.Seen.{move_of};
 
 use crate::turn::Turn;
@@ -32,8 +32,8 @@ struct Ahead<'a> {
 impl<'m, 'a> Model for Replayer<'m, 'a> {
     ghost use Rattle.std.specs.Coded.{codes};
     ghost use Rattle.guest_process.specs.Coding.{crew_code, trees_code};
-    ghost use Rattle.proc_replay.specs.Replaying.{Replaying, replaying};
-    ghost use Rattle.proc_replay.specs.Inside.{IsReplayer};
+    ghost use Rattle.proc_replay.specs.Replaying.{Replaying};
+    ghost use Rattle.proc_replay.specs.inside.Ahead.{replaying, IsReplayer};
 
     ghost Value = { Replaying };
 

@@ -1,3 +1,3 @@
 pub mod Report
-pub mod Seen
 pub mod Laws
+pub mod inside

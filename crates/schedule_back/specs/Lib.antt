@@ -2,3 +2,4 @@ pub mod Back
 pub mod Outcome
 pub mod Seen
 pub mod Laws
+pub mod inside

@@ -1,14 +1,10 @@
 -- What the values of the code stand for.
-use Rattle.std.specs.Prelude.{◌≡◌, ◌<◌, ◌≤◌, ℕ, List, length, All, Option, Some, None, Result, Err}
+use Rattle.std.specs.Prelude.{◌≡◌, ℕ, List, All, Result, Err}
 use Rattle.fri_bytes.specs.Laws.{AreBytes}
 use Rattle.lib_calls.specs.declared.entry.Entry.{Entry}
 use Rattle.group_order.specs.Order.{NodeEvent}
-use Rattle.schedule_text.specs.Limits.{most_schedule}
-use Rattle.schedule_text.specs.Text.{text_of}
-use Rattle.schedule_text.specs.declared.process.ProcessLine.{ProcessLine}
 use Rattle.schedule_back.specs.declared.refusal.BackError.{BackError}
 use Rattle.schedule_back.specs.declared.refusal.BackError.TheVariants as error
-use Rattle.schedule_back.specs.Back.{schedule_of_events}
 use Rattle.schedule_back.specs.Outcome.{BackRefusal, NotWhole, BadModuleName, TooManyEvents, TooLong}
 
 -- the error is this refusal, or want of memory, which may come at any time
@@ -18,11 +14,6 @@ IsBackError outcome (error.BadModuleName p) = outcome ≡ Err (BadModuleName p)
 IsBackError outcome error.TooManyEvents = outcome ≡ Err TooManyEvents
 IsBackError outcome error.TooLong = outcome ≡ Err TooLong
 IsBackError outcome error.NoMemory = Unit {0}
-
--- the text of the schedule of these events, or none where it is longer than a schedule may be
-abbrev pub IsDraft : List ProcessLine → List (NodeEvent Entry) → Option (List ℕ) → Type 0
-IsDraft lines es (Some text) = (text ≡ text_of (schedule_of_events lines es)) × (length text ≤ most_schedule)
-IsDraft lines es None = most_schedule < length (text_of (schedule_of_events lines es))
 
 -- what came in with these events are bytes
 abbrev pub BringBytes : List (NodeEvent Entry) → Type 0

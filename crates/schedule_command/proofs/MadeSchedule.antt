@@ -21,7 +21,8 @@ use Rattle.command_run.specs.Outcome.{CommandOutcome, CommandStop, refuses_at_on
 use Rattle.log_pairs.specs.Pairs.{Loaded, Pair, loaded_pairs, replays_of_pairs, sort_replays}
 use Rattle.log_pairs.specs.Finding.{first_log}
 use Rattle.schedule_command.specs.Schedule.{is_complete, lines_of_replays, outcome_of_text, prints_text, unless_incomplete}
-use Rattle.schedule_command.specs.Seen.{AnswerRecordsBack, IsMade}
+use Rattle.schedule_command.specs.Seen.{AnswerRecordsBack}
+use Rattle.schedule_command.specs.inside.Seen.{IsMade}
 use Rattle.schedule_command.proofs.RecordedAgain.{records_back}
 use Rattle.schedule_command.proofs.NoFileMade.{opened}
 

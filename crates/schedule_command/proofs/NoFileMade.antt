@@ -15,7 +15,7 @@ use Rattle.log_pairs.specs.declared.pairs.Loaded.{Loaded as LoadedFiles}
 use Rattle.log_pairs.specs.Pairs.{Loaded, NoneOpened, Pair, WasOpened, loaded_pairs, replays_of, replays_of_pairs, sort_replays}
 use Rattle.log_pairs.specs.Seen.{AreLoadedPairs, WereLoaded}
 use Rattle.schedule_command.specs.Schedule.{prints_text, schedule_outcome, unless_incomplete}
-use Rattle.schedule_command.specs.Seen.{IsMade}
+use Rattle.schedule_command.specs.inside.Seen.{IsMade}
 
 -- ---- what was read decides
 

@@ -1,17 +1,10 @@
 -- What the values of the code stand for.
-use Rattle.std.specs.Prelude.{◌≡◌, List, Ok}
+use Rattle.std.specs.Prelude.{List}
 use Rattle.fri_outside.specs.Outside.{Folder}
 use Rattle.command_run.specs.declared.refusal.WorkText.{WorkText}
 use Rattle.command_run.specs.declared.refusal.WorkText.TheVariants as answered
-use Rattle.log_pairs.specs.Pairs.{Loaded, Pair}
-use Rattle.proc_replay.specs.Replaying.{Replaying}
+use Rattle.log_pairs.specs.Pairs.{Pair}
 use Rattle.schedule_command.specs.Laws.{RecordsToLogs}
-use Rattle.schedule_command.specs.Schedule.{prints_text, unless_incomplete}
-
--- the schedule of these logs was made, and nothing diverged
-abbrev pub IsMade : List Pair → List Loaded → List Replaying → WorkText → Type 0
-IsMade pairs ls start (answered.Done text) = unless_incomplete pairs ls start ≡ Ok (prints_text text)
-IsMade pairs ls start (answered.Diverged text) = ⊥
 
 -- what is printed records to the logs again
 abbrev pub AnswerRecordsBack : List Pair → Folder → WorkText → Type 0

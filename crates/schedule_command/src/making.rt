@@ -8,7 +8,8 @@ ghost use Rattle.log_pairs.specs.Pairs.{Loaded as LoadedOf};
 ghost use Rattle.log_pairs.specs.Seen.{AreLoadedPairs, pair_of};
 ghost use Rattle.schedule_back.specs.Seen.{BringBytes};
 ghost use Rattle.schedule_command.specs.Schedule.{is_complete, lines_of_replays, schedule_outcome, unless_incomplete};
-ghost use Rattle.schedule_command.specs.Seen.{AnswerRecordsBack, IsMade};
+ghost use Rattle.schedule_command.specs.Seen.{AnswerRecordsBack};
+ghost use Rattle.schedule_command.specs.inside.Seen.{IsMade};
 
 use command_run::{Reason, StopCause, WorkText};
 use fri_bytes::Bytes;

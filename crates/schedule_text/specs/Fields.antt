@@ -1,5 +1,5 @@
 -- Fields: what the spaces and tabs of a line separate.
-use Rattle.std.specs.Prelude.{◌≡◌, ℕ, Bool, true, ◌||◌, ◌==◌, nat_lt, nat_eq, codes, filter, List, [], ◌∷◌, length, Option, Some, None}
+use Rattle.std.specs.Prelude.{ℕ, Bool, true, ◌||◌, ◌==◌, nat_lt, nat_eq, codes, filter, List, [], ◌∷◌, length, Option, Some, None}
 use Rattle.std.specs.List.{slice_split, starts_with}
 
 -- a space or a tab
@@ -14,11 +14,6 @@ fields_of line = filter (λ part. nat_lt 0 (length part)) (slice_split is_separa
 abbrev pub field_at : List (List ℕ) → Option (List ℕ × List (List ℕ))
 field_at [] = None
 field_at (field ∷ fields) = Some (field, fields)
-
--- the first field is taken, or there is none
-abbrev pub TakesField : List (List ℕ) → List (List ℕ) → Option (List ℕ) → Type 0
-TakesField old new None = (field_at old ≡ None) × (new ≡ old)
-TakesField old new (Some field) = field_at old ≡ Some (field, new)
 
 -- the first field, where it is the last
 abbrev pub last_field_of : List (List ℕ) → Option (List ℕ)

@@ -7,3 +7,4 @@ pub mod Outcome
 pub mod Reading
 pub mod Schedule
 pub mod Text
+pub mod inside

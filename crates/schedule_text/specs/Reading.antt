@@ -1,10 +1,9 @@
 -- The schedule that some bytes spell, or why they are refused, as a function that goes over the lines.
-use Rattle.std.specs.Prelude.{◌≡◌, ℕ, ◌+◌, ◌-◌, Bool, true, false, ◌&&◌, ◌||◌, ◌==◌, nat_lt, nat_le, codes, if◌then◌else◌, List, [], ◌∷◌, ◌++◌, length, Option, Some, None, option_map, Result, Ok, Err}
+use Rattle.std.specs.Prelude.{ℕ, ◌+◌, ◌-◌, Bool, true, false, ◌&&◌, ◌||◌, ◌==◌, nat_lt, nat_le, codes, if◌then◌else◌, List, [], ◌∷◌, ◌++◌, length, Option, Some, None, option_map, Result, Ok, Err}
 use Rattle.std.specs.List.{list_any}
 use Rattle.std.specs.Option.{option_map_or}
 use Rattle.std.specs.Result.{result_ok}
 use Rattle.std.specs.Str.{bytes_eq}
-use Rattle.std.specs.declared.alloc.AllocError.{AllocError}
 use Rattle.fri_text.specs.Decimal.{decimal_of, signed_of, up_to, within_i64}
 use Rattle.fri_text.specs.Hex.{hex_of}
 use Rattle.fri_text.specs.Line.{lines_of}
@@ -171,12 +170,6 @@ with_line_of part (word ∷ fields) = if is_comment word then Some part else wit
 -- one more line
 unfoldable pub with_schedule_line : SchedulePart → List ℕ → Option SchedulePart
 with_schedule_line part line = with_line_of part (fields_of line)
-
--- A line was taken, and is allowed where something comes of it. Memory may run out at any time.
-abbrev pub TakesLine : Result Bool AllocError → SchedulePart → Option SchedulePart → Type 0
-TakesLine (Ok true) new found = found ≡ Some new
-TakesLine (Ok false) new found = found ≡ None
-TakesLine (Err e) new found = Unit {0}
 
 -- ---- the whole
 

@@ -3,10 +3,9 @@ ghost use Rattle.std.specs.Prelude.{◌≡◌, nat_le};
 ghost use Rattle.std.specs.List.{list_any};
 ghost use Rattle.std.specs.Str.{bytes_eq};
 ghost use Rattle.schedule_text.specs.Limits.{most_runs};
-ghost use Rattle.schedule_text.specs.Outcome.{EndsSchedule};
+ghost use Rattle.schedule_text.specs.inside.Reader.{EndsSchedule, TakesLine};
 ghost use Rattle.schedule_text.specs.Schedule.{IsSchedule, run_count};
-ghost use Rattle.schedule_text.specs.Reading.{TakesLine, nothing_read, schedule_part, whole_schedule_of, is_header as is_header_line};
-ghost use Rattle.schedule_text.specs.Reading.{with_schedule_line, with_fields, with_process, with_schedule_item};
+ghost use Rattle.schedule_text.specs.Reading.{nothing_read, schedule_part, whole_schedule_of, is_header as is_header_line, with_schedule_line, with_fields, with_process, with_schedule_item};
 
 use crate::error::ScheduleError;
 use crate::fields::Fields;

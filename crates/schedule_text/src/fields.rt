@@ -1,6 +1,7 @@
 // The fields of a line.
 ghost use Rattle.std.specs.Prelude.{◌≡◌, not, position, option_map};
-ghost use Rattle.schedule_text.specs.Fields.{is_separator, fields_of, last_field_of, TakesField};
+ghost use Rattle.schedule_text.specs.Fields.{is_separator, fields_of, last_field_of};
+ghost use Rattle.schedule_text.specs.inside.Reader.{TakesField};
 
 use std::marker::Model;
 

@@ -2,7 +2,8 @@
 ghost use Rattle.std.specs.Prelude.{◌≡◌, ℕ, ◌<◌, ◌≤◌, IfOk, IsErrOf, Ok, Err};
 ghost use Rattle.schedule_text.specs.Grammar.{SpellsSchedule, SpellsBadLineAt};
 ghost use Rattle.schedule_text.specs.Limits.{most_runs};
-ghost use Rattle.schedule_text.specs.Outcome.{AnswersOutcome, ReadsLines};
+ghost use Rattle.schedule_text.specs.Outcome.{AnswersOutcome};
+ghost use Rattle.schedule_text.specs.inside.Reader.{ReadsLines};
 ghost use Rattle.schedule_text.specs.Reading.{schedule_of, BadLineAt, TooManyRuns};
 ghost use Rattle.schedule_text.specs.Schedule.{Schedule as Seen, IsSchedule, run_count};
 

@@ -4,3 +4,4 @@ pub mod Meaning
 pub mod Seen
 pub mod Grammar
 pub mod Laws
+pub mod inside

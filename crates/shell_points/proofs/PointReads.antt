@@ -24,10 +24,12 @@ use Rattle.shell_points.specs.declared.point.Trigger.TheVariants as held
 use Rattle.shell_points.specs.declared.watching.Watching.{Watching}
 use Rattle.shell_points.specs.Firing.{firing_line, firing_lines, has_due_point, is_due_at, is_unchanged, place_at, reading, value_at_position}
 use Rattle.shell_points.specs.Points.{Break, Point, Trigger, Watch}
-use Rattle.shell_points.specs.Reading.{point_readings}
-use Rattle.shell_points.specs.Seen.{point, trigger}
+use Rattle.shell_points.specs.inside.Reading.{point_readings}
+use Rattle.shell_points.specs.inside.Seen.{point}
+use Rattle.shell_points.specs.Seen.{trigger}
 use Rattle.shell_points.specs.Walking.{fired_point, treat_points}
-use Rattle.shell_points.specs.Watching.{IsWatching, dealt_values, expressions_by, expressions_of, is_break, is_break_by, values_by, watched_expressions}
+use Rattle.shell_points.specs.inside.Watches.{IsWatching, dealt_values, is_break, is_break_by, values_by}
+use Rattle.shell_points.specs.Watching.{expressions_by, expressions_of, watched_expressions}
 use Rattle.shell_points.proofs.ExactFiring.{same_again}
 
 or-false : (a b : Bool) → (a || b) ≡ false → (a ≡ false) × (b ≡ false)

@@ -17,8 +17,9 @@ use Rattle.embed_cmds.specs.Variables.{Variable}
 use Rattle.shell_points.specs.declared.point.Point.{Point as Held}
 use Rattle.shell_points.specs.Firing.{place_at, reading, point_said_at}
 use Rattle.shell_points.specs.Points.{Point}
-use Rattle.shell_points.specs.Reading.{point_readings, point_said_by, treat_by}
-use Rattle.shell_points.specs.Seen.{PointsWalk, point, trigger}
+use Rattle.shell_points.specs.inside.Reading.{point_readings, point_said_by, treat_by}
+use Rattle.shell_points.specs.Seen.{PointsWalk, trigger}
+use Rattle.shell_points.specs.inside.Seen.{point}
 use Rattle.shell_points.specs.declared.walk.WalkEnd.{WalkEnd}
 use Rattle.group_texts.specs.Texts.{position_line}
 use Rattle.shell_points.specs.Walking.{Walk, lines_in, most_lines, quiet_program, treat_point, treat_points, walk_ended, walk_from, walk_on, walk_over}

@@ -1,36 +1,20 @@
 -- What the values of the code stand for.
-use Rattle.std.specs.Prelude.{◌≡◌, ℕ, List, ◌++◌, option_map}
+use Rattle.std.specs.Prelude.{◌≡◌, ℕ, List, ◌++◌}
 use Rattle.watch_expr.specs.Expression.{expression_of}
 use Rattle.group_state.specs.Place.{GroupPlace}
 use Rattle.group_texts.specs.Texts.{position_line}
-use Rattle.embed_cmds.specs.Running.{ProgramState}
-use Rattle.embed_cmds.specs.Tree.{program_body}
 use Rattle.embed_cmds.specs.Variables.{Variable}
-use Rattle.shell_points.specs.declared.back.Return.{Return as Ended}
-use Rattle.shell_points.specs.declared.point.Point.{Point as Held}
 use Rattle.shell_points.specs.declared.point.Trigger.{Trigger as HeldTrigger}
 use Rattle.shell_points.specs.declared.point.Trigger.TheVariants as held
-use Rattle.shell_points.specs.declared.turn.Turn.{Turn}
 use Rattle.shell_points.specs.declared.walk.WalkEnd.{WalkEnd}
 use Rattle.shell_points.specs.Firing.{place_at}
 use Rattle.shell_points.specs.Points.{Break, Point, Trigger, Watch}
-use Rattle.shell_points.specs.Returning.{Return, return_from}
+use Rattle.shell_points.specs.Returning.{return_from}
 use Rattle.shell_points.specs.Walking.{walk_from}
 
 abbrev pub trigger : HeldTrigger → Trigger
 trigger (held.Watch x) = Watch (expression_of x)
 trigger (held.Break of_node kind) = Break of_node kind
-
-abbrev pub point : Held → Point
-point p = record { number = p.number; text = p.text; trigger = trigger p.trigger; program = option_map program_body p.program }
-
--- what points did so far at a position
-abbrev pub run_so_far : Turn → ProgramState
-run_so_far t = record { variables = t.variables; text = t.text; stopped = t.stops }
-
--- where a walk back ends
-abbrev pub return_of : Ended → Return
-return_of r = record { at = r.at; text = r.text }
 
 -- a walk from a place ended where it ends
 pub record PointsWalk (old : GroupPlace) (points : List Point) (before : List Variable) (done : WalkEnd) : Type 0 where

@@ -4,10 +4,12 @@ ghost use Rattle.group_state.specs.Moves.{last_event_of};
 ghost use Rattle.group_state.specs.Place.{events_of_replays};
 ghost use Rattle.group_state.specs.Touch.{watch_ticks};
 ghost use Rattle.shell_points.specs.Firing.{firing_lines, place_at};
-ghost use Rattle.shell_points.specs.Reading.{NoneFires, point_readings, readings_before, point_said_by};
+ghost use Rattle.shell_points.specs.inside.Reading.{NoneFires, point_readings, readings_before, point_said_by};
 ghost use Rattle.shell_points.specs.Returning.{return_from};
-ghost use Rattle.shell_points.specs.Seen.{PointsReturn, point as seen, return_of};
-ghost use Rattle.shell_points.specs.Watching.{IsWatching, watched_expressions};
+ghost use Rattle.shell_points.specs.Seen.{PointsReturn};
+ghost use Rattle.shell_points.specs.inside.Seen.{point as seen, return_of};
+ghost use Rattle.shell_points.specs.inside.Watches.{IsWatching};
+ghost use Rattle.shell_points.specs.Watching.{watched_expressions};
 ghost use Rattle.shell_points.specs.declared.point.Point.{Point as Held};
 
 use crate::firing::{is_due, push_line};

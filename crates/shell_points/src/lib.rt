@@ -7,7 +7,7 @@
 //! that of `return_from` of `specs/Returning`. Both evaluate a watchpoint where they begin, and then where an event touched
 //! something that it reads (`watched_expressions` of `specs/Watching`, `ticks` of group_state). The law `exact_firing` says at which
 //! positions points fire. How many points there may be, and what a line answers that changes them, is said in friday_shell.
-//! Inside is what points read at one position (`specs/Reading`).
+//! Inside is what points read at one position (`specs/inside/Reading`).
 #![tactic(auto)]
 
 mod back;

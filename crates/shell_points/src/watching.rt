@@ -4,9 +4,11 @@ ghost use Rattle.std.specs.List.{list_any};
 ghost use Rattle.group_state.specs.Seen.{nodes_at};
 ghost use Rattle.group_state.specs.Touch.{is_met_by_event};
 ghost use Rattle.page_watch.specs.Watched.{WatchStands, Watched};
-ghost use Rattle.shell_points.specs.Reading.{NoneFires, readings_before};
-ghost use Rattle.shell_points.specs.Seen.{point as seen, trigger};
-ghost use Rattle.shell_points.specs.Watching.{IsWatching, dealt_values, expressions_of, is_break, values_by, watched_expressions};
+ghost use Rattle.shell_points.specs.inside.Reading.{NoneFires, readings_before};
+ghost use Rattle.shell_points.specs.inside.Seen.{point as seen};
+ghost use Rattle.shell_points.specs.Seen.{trigger};
+ghost use Rattle.shell_points.specs.inside.Watches.{IsWatching, dealt_values, is_break, values_by};
+ghost use Rattle.shell_points.specs.Watching.{expressions_of, watched_expressions};
 ghost use Rattle.shell_points.specs.declared.point.Point.{Point as Held};
 
 use crate::point::{Point, Trigger};

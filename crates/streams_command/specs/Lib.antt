@@ -1,3 +1,3 @@
 pub mod Streams
-pub mod Seen
 pub mod Laws
+pub mod inside

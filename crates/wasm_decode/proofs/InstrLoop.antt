@@ -10,7 +10,7 @@ use Rattle.wasm_types.specs.Code.{Tree, Trees, Then, If, tree, trees, instructio
 use Rattle.wasm_types.specs.CodeLaws.{tree-block, tree-loop, tree-if, before-append}
 use Rattle.wasm_decode.specs.declared.error.DecodeError.{DecodeError}
 use Rattle.wasm_decode.specs.declared.error.DecodeError.TheVariants as errors
-use Rattle.wasm_decode.specs.Decoding.{IsErrorOf}
+use Rattle.wasm_decode.specs.inside.Decoding.{IsErrorOf}
 use Rattle.wasm_decode.specs.Values.{Reader, ◌>>=◌, result_type_at}
 use Rattle.wasm_decode.specs.Instrs.{EndedInstructions, whole_at, block_at, if_at, instr_at, is_end_opcode, sequence_at, levels_at}
 use Rattle.wasm_decode.proofs.ReaderSteps.{byte_takes}

@@ -6,7 +6,7 @@ use Rattle.fri_bytes.specs.Laws.{ExactReaders}
 use Rattle.fri_bytes.specs.Reading.{Reads, byte_at}
 use Rattle.wasm_decode.specs.declared.error.DecodeError.{DecodeError}
 use Rattle.wasm_decode.specs.declared.error.DecodeError.TheVariants as errors
-use Rattle.wasm_decode.specs.Decoding.{IsErrorOf}
+use Rattle.wasm_decode.specs.inside.Decoding.{IsErrorOf}
 use Rattle.wasm_decode.specs.Grammar.{IsBytes, IsEach, IsSized, BeginsWithName, IsCustom, AreCustoms, IsSection, HasSection}
 use Rattle.wasm_decode.specs.Values.{Reader, byte_vector_at, utf8_name_at, whole_read, sized_at}
 use Rattle.wasm_decode.specs.Sections.{custom_name_of, starts_with_byte, skip_customs_at, customs_at, contents_at, contents_value, section_at}

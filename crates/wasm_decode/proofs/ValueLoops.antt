@@ -4,7 +4,7 @@ use Rattle.std.proofs.lemmas.List.{append-nil}
 use Rattle.wasm_types.specs.Modules.{Func}
 use Rattle.wasm_decode.specs.declared.error.DecodeError.{DecodeError}
 use Rattle.wasm_decode.specs.declared.error.DecodeError.TheVariants as errors
-use Rattle.wasm_decode.specs.Decoding.{IsErrorOf}
+use Rattle.wasm_decode.specs.inside.Decoding.{IsErrorOf}
 use Rattle.wasm_decode.specs.Values.{Reader, ◌>>=◌, each_at, whole_read, sized_at}
 use Rattle.wasm_decode.specs.Entries.{func_at, funcs_at}
 

@@ -1,7 +1,7 @@
 // Imports, exports, globals and segments (WebAssembly 1.0, sections 5.5.5 to 5.5.14).
 ghost use Rattle.std.specs.Prelude.{◌≡◌};
 ghost use Rattle.wasm_types.specs.Modules.{import_of, export, global_def, elem, segment};
-ghost use Rattle.wasm_decode.specs.Decoding.{DecodesTo};
+ghost use Rattle.wasm_decode.specs.inside.Decoding.{DecodesTo};
 ghost use Rattle.wasm_decode.specs.Entries.{imported_at, import_desc_at, import_at, exported_of, export_desc_at, export_at, global_def_at, elem_at, segment_at};
 
 use crate::error::DecodeError;

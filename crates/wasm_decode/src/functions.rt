@@ -1,7 +1,7 @@
 // The code section: locals and bodies of functions (WebAssembly 1.0, section 5.5.13).
 ghost use Rattle.std.specs.Prelude.{◌≡◌, map};
 ghost use Rattle.wasm_types.specs.Modules.{func};
-ghost use Rattle.wasm_decode.specs.Decoding.{DecodesTo, DecodesAll};
+ghost use Rattle.wasm_decode.specs.inside.Decoding.{DecodesTo, DecodesAll};
 ghost use Rattle.wasm_decode.specs.Values.{sized_at, whole_read};
 ghost use Rattle.wasm_decode.specs.Entries.{are_few_locals, locals_at, func_at, funcs_at, code_at};
 

@@ -1,7 +1,7 @@
 // Instructions and expressions (WebAssembly 1.0, section 5.4).
 ghost use Rattle.std.specs.Prelude.{◌≡◌};
 ghost use Rattle.wasm_types.specs.Code.{tree, trees};
-ghost use Rattle.wasm_decode.specs.Decoding.{DecodesTo};
+ghost use Rattle.wasm_decode.specs.inside.Decoding.{DecodesTo};
 ghost use Rattle.wasm_decode.specs.Instrs.{EndedInstructions, whole_at, control_at, variable_instr_at, memory_at, numeric_at, plain_at, instr_at, levels_at, expression_at};
 
 use crate::error::DecodeError;

@@ -4,12 +4,12 @@
 //! included. `decode` gives the module that the bytes spell, and is `Malformed` exactly where they spell none, unless memory
 //! runs out; blocks may nest 1,000 deep. The law `one_module` says that bytes spell at most one module, and
 //! `module_is_spelled` that `module_of_bytes` of `specs/Sections`, which computes, finds it. Whether a module is valid is not
-//! asked here. Inside, the readers follow the definitions that compute, from the front of the bytes on (`specs/Decoding`).
+//! asked here. Inside, the readers follow the definitions that compute, from the front of the bytes on (`specs/inside/Decoding`).
 #![tactic(auto)]
 
 ghost use Rattle.std.specs.Prelude.{◌≡◌, Some, None, IfOk, IsErrOf, MatchResult};
 ghost use Rattle.wasm_types.specs.Modules.{module_of, Module as Shown};
-ghost use Rattle.wasm_decode.specs.Decoding.{DecodesAll};
+ghost use Rattle.wasm_decode.specs.inside.Decoding.{DecodesAll};
 ghost use Rattle.wasm_decode.specs.Grammar.{SpellsModule};
 ghost use Rattle.wasm_decode.specs.Sections.{module_of_bytes};
 

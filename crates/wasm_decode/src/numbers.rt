@@ -1,7 +1,7 @@
 // Bytes and numbers (WebAssembly 1.0, section 5.2).
 ghost use Rattle.std.specs.Prelude.{◌≡◌};
 ghost use Rattle.fri_bytes.specs.Reading.{byte_at};
-ghost use Rattle.wasm_decode.specs.Decoding.{DecodesTo, DecodesAll, PassesOver};
+ghost use Rattle.wasm_decode.specs.inside.Decoding.{DecodesTo, DecodesAll, PassesOver};
 ghost use Rattle.wasm_decode.specs.Values.{u32_at, i32_at, i64_at, f32_at, f64_at, exact_byte_at, end_of};
 
 use crate::error::DecodeError;

@@ -1,7 +1,7 @@
 // Sections (WebAssembly 1.0, sections 5.5.2, 5.5.3 and 5.5.15).
 ghost use Rattle.std.specs.Prelude.{◌≡◌, [], None, map, option_map};
 ghost use Rattle.wasm_types.specs.Modules.{func};
-ghost use Rattle.wasm_decode.specs.Decoding.{DecodesTo, DecodesAll, PassesOver};
+ghost use Rattle.wasm_decode.specs.inside.Decoding.{DecodesTo, DecodesAll, PassesOver};
 ghost use Rattle.wasm_decode.specs.Values.{vector_at, whole_read, sized_at};
 ghost use Rattle.wasm_decode.specs.Entries.{start_at, code_at};
 ghost use Rattle.wasm_decode.specs.Sections.{custom_name_of, starts_with_byte, customs_at, contents_at, section_at, header_at};

@@ -1,7 +1,7 @@
 // Types (WebAssembly 1.0, section 5.3).
 ghost use Rattle.std.specs.Prelude.{◌≡◌};
 ghost use Rattle.wasm_types.specs.Modules.{func_type};
-ghost use Rattle.wasm_decode.specs.Decoding.{DecodesTo, DecodesAll};
+ghost use Rattle.wasm_decode.specs.inside.Decoding.{DecodesTo, DecodesAll};
 ghost use Rattle.wasm_decode.specs.Values.{vector_at, val_type_of, val_type_at, result_type_at, func_type_at, limits_at, table_at, global_type_at};
 
 use crate::error::DecodeError;

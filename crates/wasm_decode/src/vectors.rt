@@ -2,7 +2,7 @@
 // with nothing after it costs nothing.
 ghost use Rattle.std.specs.Prelude.{◌≡◌, ℕ, List, Option, map};
 ghost use Rattle.std.specs.Str.{is_utf8};
-ghost use Rattle.wasm_decode.specs.Decoding.{DecodesTo};
+ghost use Rattle.wasm_decode.specs.inside.Decoding.{DecodesTo};
 ghost use Rattle.wasm_decode.specs.Values.{each_at, vector_at, byte_vector_at, utf8_name_at};
 
 use crate::error::DecodeError;

@@ -7,7 +7,7 @@ use Rattle.wasm_stack.specs.declared.stack.Stack.TheInside.{Inside}
 use Rattle.wasm_stack.specs.After.{Goes, with_top}
 use Rattle.wasm_stack.specs.Rows.{numeric, put_computed}
 use Rattle.wasm_stack.specs.Thread.{Thread, with_operand}
-use Rattle.wasm_stack.specs.View.{IsStack, thread_of}
+use Rattle.wasm_stack.specs.inside.Stacks.{IsStack, thread_of}
 use Rattle.wasm_stack.proofs.StackViews.{IsSound-operands, keeps_popped, keeps_pushed, popped_view, pushed_view}
 
 -- a numeric instruction on two operands, and on one

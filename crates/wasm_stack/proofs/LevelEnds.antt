@@ -5,7 +5,8 @@ use Rattle.std.proofs.lemmas.Bool.{lt-ltb}
 use Rattle.wasm_types.specs.declared.code.Value.{Value}
 use Rattle.wasm_types.specs.declared.code.ValType.{ValType}
 use Rattle.wasm_stack.specs.declared.stack.StackLevel.{StackLevel}
-use Rattle.wasm_stack.specs.View.{and_close, closed_by, levels_of}
+use Rattle.wasm_stack.specs.View.{and_close, closed_by}
+use Rattle.wasm_stack.specs.inside.Stacks.{levels_of}
 use Rattle.wasm_stack.specs.Control.{branch, jump, past}
 use Rattle.wasm_stack.specs.Thread.{Thread, closed_to}
 

@@ -15,7 +15,8 @@ use Rattle.wasm_stack.specs.declared.stack.StackFrame.{StackFrame}
 use Rattle.wasm_stack.specs.declared.stack.Stack.TheInside.{Inside}
 use Rattle.wasm_types.specs.Code.{Trees, tree, trees}
 use Rattle.wasm_stack.specs.Thread.{Thread, with_operand, closed_level, closed_to, left_frame, left_to_caller, without_operands, arguments, size_of_levels, size_of_frames, size_of_thread, has_frame_room, has_room, OpenedLevel}
-use Rattle.wasm_stack.specs.View.{and_close, closed_by, entered_by, opened_as, opened_by, given_by, repeated_by, innermost_opened, levels_of, frame_labels, frames_of, thread_in, thread_of, AreCut, IsFramePart, AreFrameParts, IsStack}
+use Rattle.wasm_stack.specs.View.{and_close, closed_by, entered_by, opened_as, opened_by, given_by, repeated_by}
+use Rattle.wasm_stack.specs.inside.Stacks.{innermost_opened, levels_of, frame_labels, frames_of, thread_in, thread_of, AreCut, IsFramePart, AreFrameParts, IsStack}
 
 -- a frame's operands begin below those of each of its levels
 pub AreCut-low : (bottom : ℕ) (ls : List StackLevel) (top : ℕ) → AreCut bottom ls top → bottom ≤ top

@@ -7,3 +7,4 @@ pub mod Rows
 pub mod Target
 pub mod Thread
 pub mod View
+pub mod inside

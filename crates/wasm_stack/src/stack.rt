@@ -66,7 +66,7 @@ impl<'m> Model for Stack<'m> {
 
     ghost coded = { Prim.hlevel (codes, trees_code) };
 
-    ghost use Rattle.wasm_stack.specs.View.{thread_of, IsStack};
+    ghost use Rattle.wasm_stack.specs.inside.Stacks.{thread_of, IsStack};
 
     ghost view = { thread_of };
 

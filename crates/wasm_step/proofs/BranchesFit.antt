@@ -13,7 +13,8 @@ use Rattle.wasm_types.specs.Modules.{Module}
 use Rattle.wasm_types.specs.Stack.{BlockStack, no_operands, jumped_stack, is_exactly, pop_type, pop_result, push_result, jump_with}
 use Rattle.wasm_types.specs.Typing.{typed_instrs}
 use Rattle.wasm_values.specs.Values.{types_of_values}
-use Rattle.wasm_step.specs.Fits.{TargetFits, known_operands, put_type, label_of_level, CodeLeaves, ThreadFits, AfterFits}
+use Rattle.wasm_step.specs.Fits.{TargetFits, known_operands, put_type, label_of_level, CodeLeaves, ThreadFits}
+use Rattle.wasm_step.specs.inside.Standing.{AfterFits}
 use Rattle.wasm_stack.specs.Control as Control
 use Rattle.wasm_stack.specs.Control.{branch, label_at}
 use Rattle.wasm_stack.specs.Thread.{Thread, opened_level, innermost_level_of}

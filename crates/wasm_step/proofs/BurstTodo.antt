@@ -10,7 +10,7 @@ use Rattle.wasm_stack.specs.declared.halt.Way.TheVariants as way
 use Rattle.wasm_stack.specs.declared.halt.Next.{Next}
 use Rattle.wasm_stack.specs.declared.halt.Next.TheVariants.{Going}
 use Rattle.wasm_stack.specs.Answer.{after_of, way_of}
-use Rattle.wasm_step.specs.Paused.{halt_of}
+use Rattle.wasm_step.specs.inside.Paused.{halt_of}
 use Rattle.wasm_step.specs.Burst.{At, burst, settle}
 use Rattle.wasm_stack.specs.Limits.{ThreadWithin}
 use Rattle.wasm_step.specs.Reduce.{ThreadAndStore, instr_row, store_stays, reduce_instruction}

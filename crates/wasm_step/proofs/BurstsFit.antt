@@ -9,11 +9,12 @@ use Rattle.wasm_types.specs.Functions.{TypesAgree}
 use Rattle.wasm_types.specs.Modules.{Module}
 use Rattle.wasm_types.specs.Valid.{IsValid}
 use Rattle.wasm_step.specs.declared.run.Stopped.{Stopped}
-use Rattle.wasm_step.specs.Paused.{stopped_of, stopped_result}
+use Rattle.wasm_step.specs.inside.Paused.{stopped_of, stopped_result}
 use Rattle.wasm_step.specs.Burst.{SettledThread, At, Done, BurstResult, at_next_instruction, after_end, settle_by, settle, one_step_at, one_step, spent_burst, after_step, burst}
 use Rattle.wasm_values.specs.Values.{types_of_values}
 use Rattle.wasm_store.specs.Suits.{SuitsModule}
-use Rattle.wasm_step.specs.Fits.{CodeLeaves, ThreadFits, HaltFits, AfterFits, BurstFits, StandsFit}
+use Rattle.wasm_step.specs.Fits.{CodeLeaves, ThreadFits, HaltFits, BurstFits}
+use Rattle.wasm_step.specs.inside.Standing.{AfterFits, StandsFit}
 use Rattle.wasm_step.specs.Reduce.{ThreadAndStore, instr_row}
 use Rattle.wasm_stack.specs.After.{AfterStep, Goes, Stops, limited_thread, at_trap}
 use Rattle.wasm_stack.specs.Control.{ended_level}

@@ -22,7 +22,8 @@ use Rattle.wasm_stack.specs.Call.{site_of}
 use Rattle.wasm_types.specs.Locals.{zero_of, zeros}
 use Rattle.wasm_values.specs.Values.{type_of_value, types_of_values}
 use Rattle.wasm_store.specs.Suits.{SuitsModule}
-use Rattle.wasm_step.specs.Fits.{known_operands, put_type, label_of_level, CodeLeaves, FramesFit, ThreadFits, AfterFits, CallFits}
+use Rattle.wasm_step.specs.Fits.{known_operands, put_type, label_of_level, CodeLeaves, FramesFit, ThreadFits, CallFits}
+use Rattle.wasm_step.specs.inside.Standing.{AfterFits}
 use Rattle.wasm_step.specs.Reduce as Reduce
 use Rattle.wasm_types.specs.Functions.{TypesAgree, imported_type, own_type, type_of, same_types, same_type, own_func}
 use Rattle.wasm_stack.specs.After.{Stops, Calls, at_trap, frame_goes_on}

@@ -2,7 +2,7 @@
 use Rattle.std.proofs.Common.{◌≡◌, ℕ, zero, suc, Bool, true, false, List, [], ◌∷◌, length, Option, Some, None, refl, sym, ap, ◌∙◌, arith}
 use Rattle.wasm_types.specs.declared.code.Value.{Value}
 use Rattle.wasm_types.specs.Code.{Tree, Trees, End, Then}
-use Rattle.wasm_step.specs.Paused.{settled_of, halt_of}
+use Rattle.wasm_step.specs.inside.Paused.{settled_of, halt_of}
 use Rattle.wasm_stack.specs.Answer.{after_of, way_of}
 use Rattle.wasm_stack.specs.declared.halt.Next.{Next}
 use Rattle.wasm_stack.specs.declared.halt.Way.{Way}

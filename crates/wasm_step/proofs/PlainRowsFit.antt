@@ -17,7 +17,8 @@ use Rattle.wasm_types.specs.Numeric.{Operator, operator_of}
 use Rattle.wasm_types.specs.Stack.{BlockStack, is_exactly, pop_type, push_result, operate, push_operand}
 use Rattle.wasm_types.specs.Typing.{typed_instrs}
 use Rattle.wasm_values.specs.Values.{type_of_value, types_of_values}
-use Rattle.wasm_step.specs.Fits.{known_operands, CodeLeaves, AfterFits}
+use Rattle.wasm_step.specs.Fits.{known_operands, CodeLeaves}
+use Rattle.wasm_step.specs.inside.Standing.{AfterFits}
 use Rattle.wasm_values.specs.Numeric.{Computed, Gives, Fails, IsNone, is_unary, unary, binary}
 use Rattle.wasm_stack.specs.Rows as Rows
 use Rattle.wasm_stack.specs.After.{Sticks, AfterStep, Goes, Stops, on_i32, on_top, with_top}

@@ -19,7 +19,8 @@ use Rattle.wasm_types.specs.Stack.{BlockStack, push_operand, push_result, pop_ty
 use Rattle.wasm_values.specs.Access.{load_value}
 use Rattle.wasm_values.specs.Values.{bits_of, type_of_value, types_of_values}
 use Rattle.wasm_store.specs.Suits.{SuitsModule}
-use Rattle.wasm_step.specs.Fits.{known_operands, IsContext, ThreadFits, AfterFits}
+use Rattle.wasm_step.specs.Fits.{known_operands, IsContext, ThreadFits}
+use Rattle.wasm_step.specs.inside.Standing.{AfterFits}
 use Rattle.wasm_step.specs.Reduce as Reduce
 use Rattle.wasm_step.specs.Reduce.{ThreadAndStore, store_stays}
 use Rattle.wasm_stack.specs.After.{Goes, Stops, Sticks, at_trap}

@@ -13,7 +13,8 @@ use Rattle.wasm_types.specs.Maybe.{◌>>=◌}
 use Rattle.wasm_types.specs.Modules.{Module}
 use Rattle.wasm_types.specs.Stack.{BlockStack, is_same, is_exactly, pop_type, pop_result}
 use Rattle.wasm_values.specs.Values.{type_of_value, types_of_values}
-use Rattle.wasm_step.specs.Fits.{TargetFits, known_operands, put_type, label_of_level, labels_of, CodeLeaves, LevelsFit, IsContext, FramesFit, ThreadFits, AfterFits}
+use Rattle.wasm_step.specs.Fits.{TargetFits, known_operands, put_type, label_of_level, labels_of, CodeLeaves, LevelsFit, IsContext, FramesFit, ThreadFits}
+use Rattle.wasm_step.specs.inside.Standing.{AfterFits}
 use Rattle.wasm_stack.specs.Control.{jump_by, carried_operand, carry_top, with_carried, with_result, resumed_caller, leave_frame, landed_branch, jump, branch, at_end_of_level, ended_level}
 use Rattle.wasm_stack.specs.After.{AfterStep}
 use Rattle.wasm_step.specs.Strand.{IsResult}

@@ -15,7 +15,7 @@ use Rattle.wasm_types.specs.Typing.{typed_instrs}
 use Rattle.wasm_store.specs.Suits.{SuitsModule}
 use Rattle.wasm_values.specs.Values.{types_of_values}
 use Rattle.wasm_step.specs.Burst.{BurstResult}
-use Rattle.wasm_stack.specs.After.{Halt, Calls, Ends, Traps, Sticks, AfterStep, Goes, Stops}
+use Rattle.wasm_stack.specs.After.{Halt, Calls, Ends, Traps, Sticks}
 use Rattle.wasm_stack.specs.Control.{with_result}
 use Rattle.wasm_step.specs.Strand.{IsResult, library_result}
 use Rattle.wasm_stack.specs.Thread.{Level, OpenedLevel, as_opened, Frame, Thread, innermost_level_of}
@@ -98,15 +98,6 @@ HaltFits m Ends = Unit {0}
 HaltFits m (Traps trap) = Unit {0}
 HaltFits m Sticks = ⊥
 
-abbrev pub AfterFits : Module → AfterStep → Type 0
-AfterFits m (Goes t) = ThreadFits m t
-AfterFits m (Stops s) = HaltFits m s
-
 -- a burst stops well, and the store still suits
 abbrev pub BurstFits : Module → BurstResult → Type 0
 BurstFits m r = HaltFits m r.stop × SuitsModule r.store
-
--- a thread with the call at which it is, if it is at one
-abbrev pub StandsFit : Module → Thread → Option ℕ → Type 0
-StandsFit m t None = ThreadFits m t
-StandsFit m t (Some f) = CallFits m t f

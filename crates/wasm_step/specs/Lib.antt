@@ -2,9 +2,9 @@ pub mod Burst
 pub mod Fits
 pub mod Laws
 pub mod Pause
-pub mod Paused
 pub mod Reduce
 pub mod Strand
+pub mod inside
 pub use Rattle.wasm_stack.specs.After
 pub use Rattle.wasm_stack.specs.Thread
 pub use Rattle.wasm_store.specs.Marks

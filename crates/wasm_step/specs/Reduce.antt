@@ -1,5 +1,5 @@
 -- What one instruction does to a thread and to the store (WebAssembly 1.0, section 4.4).
-use Rattle.std.specs.Prelude.{◌≡◌, ℕ, ◌+◌, ◌-◌, ◌^◌, false, true, List, [], ◌∷◌, Option, Some, None, is_some, slice_get, length, nat_lt, if◌then◌else◌}
+use Rattle.std.specs.Prelude.{ℕ, ◌+◌, ◌-◌, ◌^◌, false, true, List, [], ◌∷◌, Option, Some, None, is_some, slice_get, length, nat_lt, if◌then◌else◌}
 use Rattle.guest_memory.specs.Memory.{Memory, size_of, loaded_number, is_inside, after_store, growth_size}
 use Rattle.wasm_types.specs.declared.code.Value.{Value}
 use Rattle.wasm_types.specs.declared.code.Value.TheVariants.{I32, I64}
@@ -126,10 +126,6 @@ abbrev pub call_if_same : Module → ℕ → Option FuncType → Option FuncType
 call_if_same m f None wanted t = Stops Sticks
 call_if_same m f (Some type) None t = Stops Sticks
 call_if_same m f (Some type) (Some wanted) t = if same_type type wanted then call m f t else at_trap traps.TypeDiffers
-
--- a call through the table that wants a function of this type calls one of the other type as it is
-abbrev pub CallsAsWanted : Module → FuncType → Option FuncType → Type 0
-CallsAsWanted m type wanted = (f : ℕ) (t : Thread) → call_if_same m f (Some type) wanted t ≡ call m f t
 
 abbrev pub call_element : Module → ℕ → Option (Option ℕ) → Thread → AfterStep
 call_element m type None t = at_trap traps.TableRange

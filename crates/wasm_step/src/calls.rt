@@ -6,7 +6,8 @@ ghost use Rattle.wasm_types.specs.Modules.{func_type, module_of};
 ghost use Rattle.wasm_stack.specs.Answer.{after_of};
 ghost use Rattle.wasm_stack.specs.Limits.{ThreadWithin};
 ghost use Rattle.wasm_stack.specs.After.{Goes, frame_goes_on, limited_thread};
-ghost use Rattle.wasm_step.specs.Reduce.{CallsAsWanted, call, call_element, call_indirect, call_library, call_own};
+ghost use Rattle.wasm_step.specs.inside.Wanted.{CallsAsWanted};
+ghost use Rattle.wasm_step.specs.Reduce.{call, call_element, call_indirect, call_library, call_own};
 ghost use Rattle.wasm_step.specs.Strand.{started_above};
 ghost use Rattle.wasm_stack.specs.Thread.{Thread, called_function, has_frame_room, waiting_frame, without_operands};
 

@@ -7,7 +7,7 @@
 //! puts a handler's frame on top. The law `never_stuck` says that a burst of a valid module always ends in one of these ways,
 //! and what it does to the marks of the store.
 //! Inside, a thread is a `Stack` of `wasm_stack`, which does what needs no module and no store, and most instructions are done
-//! in place, without a call that could want memory. `specs/Paused` is inside too.
+//! in place, without a call that could want memory. `specs/inside/Paused` is inside too.
 #![tactic(auto)]
 
 mod calls;

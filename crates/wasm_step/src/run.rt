@@ -2,7 +2,7 @@
 ghost use Rattle.std.specs.Prelude.{◌≡◌, ℕ, suc, IfOk, OnOk};
 ghost use Rattle.wasm_types.specs.Modules.{module_of};
 ghost use Rattle.wasm_stack.specs.Answer.{after_of};
-ghost use Rattle.wasm_step.specs.Paused.{halt_of, stopped_of, settled_of, stopped_result};
+ghost use Rattle.wasm_step.specs.inside.Paused.{halt_of, stopped_of, settled_of, stopped_result};
 ghost use Rattle.wasm_step.specs.Burst.{after_step, burst, settle, spent_burst, most_instructions};
 ghost use Rattle.wasm_stack.specs.Limits.{ThreadWithin};
 

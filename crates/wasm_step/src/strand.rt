@@ -33,7 +33,7 @@ impl<'m> Model for Strand<'m> {
     ghost coded = { Prim.hlevel (codes, trees_code) };
 
     ghost use Rattle.wasm_types.specs.Modules.{module_of};
-    ghost use Rattle.wasm_step.specs.Fits.{StandsFit};
+    ghost use Rattle.wasm_step.specs.inside.Standing.{StandsFit};
 
     ghost view = { λ s. record { «module» = module_of s.«module».now; thread = s.stack.value; call = s.call } };
 

@@ -1,10 +1,9 @@
-pub mod Globals
 pub mod Lending
 pub mod Marks
-pub mod Parts
 pub mod Start
 pub mod Store
 pub mod Suits
+pub mod inside
 pub use Rattle.guest_memory.specs.LittleEndian
 pub use Rattle.guest_memory.specs.Memory
 pub use Rattle.wasm_types.specs.Coding

@@ -5,7 +5,7 @@ ghost use Rattle.guest_memory.specs.Memory.{fresh_memory};
 ghost use Rattle.wasm_types.specs.Code.{tree, trees};
 ghost use Rattle.wasm_types.specs.Modules.{elem, global_def, module_of, segment as segment_of};
 ghost use Rattle.wasm_store.specs.Start.{constant, first_min, first_most, initial_value, initial_store, is_elem_inside, is_segment_within, offset_at, offset_in, put_elems, put_funcs, put_segments, segments_fit};
-ghost use Rattle.wasm_store.specs.Parts.{first_globals, first_values, store_of_parts};
+ghost use Rattle.wasm_store.specs.inside.Parts.{first_globals, first_values, store_of_parts};
 
 use crate::global::Global;
 use guest_memory::Memory;

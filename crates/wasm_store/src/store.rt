@@ -31,7 +31,7 @@ pub struct Store<'m> {
 impl<'m> Model for Store<'m> {
     ghost use Rattle.std.specs.Coded.{codes};
     ghost use Rattle.wasm_types.specs.Coding.{trees_code};
-    ghost use Rattle.wasm_store.specs.Globals.{stamps_of_globals, values_of_globals};
+    ghost use Rattle.wasm_store.specs.inside.Globals.{stamps_of_globals, values_of_globals};
     ghost use Rattle.wasm_store.specs.Store.{Store};
 
     ghost Value = { Store };

@@ -40,10 +40,6 @@ abbrev pub filled_runs : List (ℕ × ValType) → List (ℕ × ValType)
 filled_runs [] = []
 filled_runs (run ∷ runs) = if nat_lt 0 run.0 then run ∷ filled_runs runs else filled_runs runs
 
--- those of each of the module's own functions
-abbrev pub filled_locals : Module → List (List (ℕ × ValType))
-filled_locals m = map (λ (f : Func). filled_runs f.locals) m.funcs
-
 -- the code of a function with these parameters and locals, and this result
 abbrev pub context_of : Module → List ValType → Option ValType → Context
 context_of m locals gives = record {

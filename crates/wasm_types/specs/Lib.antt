@@ -20,3 +20,4 @@ pub mod Valid
 pub mod Slots
 pub mod Locals
 pub mod Start
+pub mod inside

@@ -1,6 +1,7 @@
 // Modules that are known to be valid.
 ghost use Rattle.std.specs.Prelude.{◌≡◌, IfNone, IfOk, IfSome, None, Some, map, option_map, slice_get};
-ghost use Rattle.wasm_types.specs.Context.{filled_runs, filled_locals};
+ghost use Rattle.wasm_types.specs.Context.{filled_runs};
+ghost use Rattle.wasm_types.specs.inside.Slots.{filled_locals};
 ghost use Rattle.wasm_types.specs.Library.{importable, kind_at};
 ghost use Rattle.wasm_types.specs.Modules.{module_of};
 ghost use Rattle.wasm_types.specs.Start.{IsOwnPlain, entry_from};
@@ -39,7 +40,7 @@ impl Model for ValidModule {
     ghost coded = { Prim.hlevel (codes, instr.the_row.coded) };
 
     ghost use Rattle.std.specs.Prelude.{◌≡◌, Some, map};
-    ghost use Rattle.wasm_types.specs.Context.{filled_locals};
+    ghost use Rattle.wasm_types.specs.inside.Slots.{filled_locals};
     ghost use Rattle.wasm_types.specs.Library.{importable};
     ghost use Rattle.wasm_types.specs.Modules.{module_of};
     ghost use Rattle.wasm_types.specs.Start.{entry_from};

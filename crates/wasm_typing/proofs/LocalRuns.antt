@@ -6,7 +6,7 @@ use Rattle.std.proofs.lemmas.Option.{slice_get-get_or}
 use Rattle.std.specs.List.Sorted.{IsNonDecreasing, IsPartitionPoint}
 use Rattle.wasm_types.specs.declared.code.ValType.{ValType}
 use Rattle.wasm_types.specs.Context.{expand_locals}
-use Rattle.wasm_typing.specs.Locals.{ends_from}
+use Rattle.wasm_typing.specs.inside.Locals.{ends_from}
 
 -- no more than the greatest u64
 abbrev clip : ℕ → ℕ

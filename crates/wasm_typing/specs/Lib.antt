@@ -1,4 +1,2 @@
-pub mod Locals
-pub mod Operands
 pub mod Steps
-pub mod Views
+pub mod inside

@@ -2,9 +2,9 @@
 ghost use Rattle.std.specs.Prelude.{◌≡◌, map};
 ghost use Rattle.wasm_types.specs.Accesses.{typed_local_get, typed_local_set, typed_local_tee, typed_global_get, typed_global_set, may_access, typed_load, typed_store, typed_memory_size, typed_memory_grow};
 ghost use Rattle.wasm_types.specs.Modules.{global_def, global_type};
-ghost use Rattle.wasm_typing.specs.Steps.{FollowsTyping};
+ghost use Rattle.wasm_typing.specs.inside.Results.{FollowsTyping};
 ghost use Rattle.wasm_types.specs.Opcodes.{access_of};
-ghost use Rattle.wasm_typing.specs.Views.{global_of};
+ghost use Rattle.wasm_typing.specs.inside.Views.{global_of};
 
 use crate::locals::Locals;
 use crate::operands::Operands;

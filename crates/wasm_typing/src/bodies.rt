@@ -5,7 +5,8 @@ ghost use Rattle.wasm_types.specs.Code.{tree, trees};
 ghost use Rattle.wasm_types.specs.Labels.{stack_around_block, block_of};
 ghost use Rattle.wasm_types.specs.Stack.{no_operands};
 ghost use Rattle.wasm_types.specs.Typing.{typed_instr, typed_instrs, IsWellTyped};
-ghost use Rattle.wasm_typing.specs.Steps.{FollowsTyping, JudgesCode};
+ghost use Rattle.wasm_typing.specs.inside.Results.{FollowsTyping};
+ghost use Rattle.wasm_typing.specs.Steps.{JudgesCode};
 
 use crate::accesses::{
     typed_global_get, typed_global_set, typed_load, typed_local_get, typed_local_set,

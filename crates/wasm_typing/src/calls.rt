@@ -2,7 +2,7 @@
 ghost use Rattle.std.specs.Prelude.{map};
 ghost use Rattle.wasm_types.specs.Calls.{typed_call, call_type, typed_call_indirect, typed_operator};
 ghost use Rattle.wasm_types.specs.Modules.{func_type};
-ghost use Rattle.wasm_typing.specs.Steps.{FollowsTyping};
+ghost use Rattle.wasm_typing.specs.inside.Results.{FollowsTyping};
 
 use crate::operands::Operands;
 use crate::refusal::TypingError;

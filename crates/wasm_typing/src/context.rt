@@ -27,7 +27,7 @@ impl<'a> Model for Context<'a> {
 
     ghost Value = { Context };
 
-    ghost use Rattle.wasm_typing.specs.Views.{global_of};
+    ghost use Rattle.wasm_typing.specs.inside.Views.{global_of};
 
     ghost view = { λ c. record {
       types = map func_type c.types.now;

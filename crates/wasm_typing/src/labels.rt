@@ -1,7 +1,7 @@
 // The labels of the open blocks, the outermost first.
 ghost use Rattle.std.specs.Prelude.{◌≡◌, reverse, slice_get};
 ghost use Rattle.wasm_types.specs.Labels.{is_same_label, table_label, typed_branch, typed_branch_if, typed_branch_table};
-ghost use Rattle.wasm_typing.specs.Steps.{FollowsTyping, FindsType};
+ghost use Rattle.wasm_typing.specs.inside.Results.{FollowsTyping, FindsType};
 
 use crate::operands::Operands;
 use crate::refusal::TypingError;

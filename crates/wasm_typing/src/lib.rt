@@ -4,8 +4,8 @@
 //! refuses it exactly where they do not, unless memory runs out (`JudgesCode` of `specs/Steps`). Contracts see a `Context` as what
 //! the code may name of its module, and `Locals` as the list of the types of parameters and locals, which is never written
 //! out, since a few bytes may declare billions. Inside, the stacks of the open blocks lie in one list of operands
-//! (`specs/Operands`), and each step of the check follows the rule's step. The check recurs as deep as blocks nest.
-//! `specs/Locals` and `specs/Views` are inside too.
+//! (`specs/inside/Operands`), and each step of the check follows the rule's step. The check recurs as deep as blocks nest.
+//! `specs/inside/Locals` and `specs/inside/Views` are inside too.
 #![tactic(auto)]
 
 mod accesses;

@@ -25,7 +25,7 @@ impl<'a> Model for Locals<'a> {
     ghost Value = { List ValType };
 
     ghost use Rattle.wasm_types.specs.Context.{expand_locals};
-    ghost use Rattle.wasm_typing.specs.Locals.{ends_from};
+    ghost use Rattle.wasm_typing.specs.inside.Locals.{ends_from};
 
     ghost view = { λ l. l.params.now ++ expand_locals l.runs.now };
 

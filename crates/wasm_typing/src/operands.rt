@@ -26,7 +26,7 @@ pub(crate) struct Operands {
 
 impl Model for Operands {
     ghost use Rattle.std.specs.Prelude.{reverse, ◌∷◌};
-    ghost use Rattle.wasm_typing.specs.Operands.{Blocks, blocks_of, AreHeights};
+    ghost use Rattle.wasm_typing.specs.inside.Operands.{Blocks, blocks_of, AreHeights};
 
     ghost Value = { Blocks };
 

@@ -1,7 +1,7 @@
 // Steps on the operands of the current block.
 ghost use Rattle.std.specs.Prelude.{◌≡◌, Some};
 ghost use Rattle.wasm_types.specs.Stack.{pop_type, pop_types, pop_result, push_result, push_operand, typed_select, common_type, operate, jump_with, typed_drop_top};
-ghost use Rattle.wasm_typing.specs.Steps.{FollowsTyping, FindsType};
+ghost use Rattle.wasm_typing.specs.inside.Results.{FollowsTyping, FindsType};
 
 use crate::operands::{Operand, Operands};
 use crate::refusal::TypingError;

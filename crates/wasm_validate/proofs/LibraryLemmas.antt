@@ -6,7 +6,7 @@ use Rattle.wasm_types.specs.declared.modules.ImportDesc.{ImportDesc}
 use Rattle.wasm_types.specs.declared.modules.ImportDesc.TheVariants as desc
 use Rattle.wasm_types.specs.Modules.{FuncType, Import}
 use Rattle.wasm_types.specs.Library.{IsOfLibrary, importable, imported_type_index, signature_type}
-use Rattle.wasm_validate.specs.Signatures.{HasTypeUnder}
+use Rattle.wasm_validate.specs.inside.Signatures.{HasTypeUnder}
 
 -- only a function has the index of a function's type
 pub imported_func : (d : ImportDesc) (t : ℕ) → imported_type_index d ≡ Some t → d ≡ desc.Func t

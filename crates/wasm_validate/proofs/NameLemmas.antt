@@ -17,7 +17,7 @@ use Rattle.std.proofs.lemmas.Map.Made.{AllPairs-from_IsDistinct, IsDistinct-from
 use Rattle.std.proofs.lemmas.Map.Text.{is_eq-slice_cmp}
 use Rattle.std.proofs.lemmas.Map.Lookups.{exact_bytes}
 use Rattle.std.proofs.lemmas.Slice.Eq.{bytes_eq-Decides}
-use Rattle.wasm_validate.specs.Neighbors.{HasEqualNeighbors, HasNoEqualNeighbors, HasNoEqualNeighborsBelow}
+use Rattle.wasm_validate.specs.inside.Neighbors.{HasEqualNeighbors, HasNoEqualNeighbors, HasNoEqualNeighborsBelow}
 
 -- the order of names
 abbrev compared : List ℕ → List ℕ → Ordering

@@ -1,7 +1,5 @@
-pub mod Constants
 pub mod Deciding
 pub mod Fault
-pub mod Neighbors
 pub mod Refusals
 pub mod Shape
-pub mod Signatures
+pub mod inside

@@ -4,7 +4,7 @@ ghost use Rattle.std.specs.List.{list_all};
 ghost use Rattle.wasm_types.specs.Code.{tree, trees};
 ghost use Rattle.wasm_types.specs.Modules.{global_def};
 ghost use Rattle.wasm_types.specs.Rules.{constant_type, is_fixed_global, is_initial_value, is_offset};
-ghost use Rattle.wasm_validate.specs.Constants.{constant_of, gives_offset};
+ghost use Rattle.wasm_validate.specs.inside.Constants.{constant_of, gives_offset};
 
 use wasm_types::{GlobalDef, Instr, Module, ValType};
 

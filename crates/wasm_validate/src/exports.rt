@@ -4,7 +4,7 @@ ghost use Rattle.std.specs.List.{list_all};
 ghost use Rattle.wasm_types.specs.Context.{funcs_of};
 ghost use Rattle.wasm_types.specs.Modules.{module_of};
 ghost use Rattle.wasm_types.specs.Rules.{names_something};
-ghost use Rattle.wasm_validate.specs.Neighbors.{HasEqualNeighbors, HasNoEqualNeighbors};
+ghost use Rattle.wasm_validate.specs.inside.Neighbors.{HasEqualNeighbors, HasNoEqualNeighbors};
 ghost use Rattle.wasm_types.specs.declared.modules.Export.{Export};
 
 use crate::segments::has_index;

@@ -4,7 +4,7 @@ ghost use Rattle.std.specs.List.{list_all};
 ghost use Rattle.wasm_types.specs.Library.{IsOfLibrary, results_of, signature_type};
 ghost use Rattle.wasm_types.specs.Modules.{func_type, import_of, module_of};
 ghost use Rattle.wasm_types.specs.Rules.{has_type};
-ghost use Rattle.wasm_validate.specs.Signatures.{HasTypeUnder};
+ghost use Rattle.wasm_validate.specs.inside.Signatures.{HasTypeUnder};
 
 use crate::segments::has_index;
 use call_table::Signature;

@@ -4,8 +4,8 @@
 //! out: its code and imports are typed, it has no floats, it imports calls of the library alone, it is within the limits, and
 //! it has a start. Else it gives the first refusal that holds, in the order of `Invalid` (`IsFirst` of `specs/Refusals`). The
 //! law `exact_fault` says that `fault` of `specs/Fault`, which computes, names the first refusal that holds, and none exactly
-//! where the module is valid. Code is checked by `wasm_typing`. Inside are the tests of single parts (`specs/Constants`,
-//! `specs/Neighbors`, `specs/Signatures`).
+//! where the module is valid. Code is checked by `wasm_typing`. Inside are the tests of single parts (`specs/inside/Constants`,
+//! `specs/inside/Neighbors`, `specs/inside/Signatures`).
 #![tactic(auto)]
 
 ghost use Rattle.std.specs.Prelude.{◌≡◌, IfErr, IfOk, MatchResult};

@@ -5,7 +5,7 @@ use Rattle.wasm_types.specs.declared.modules.Module.{Module as RustModule}
 use Rattle.wasm_types.specs.Modules.{module_of, Module}
 use Rattle.wasm_decode.specs.declared.error.DecodeError.{DecodeError}
 use Rattle.wasm_decode.specs.declared.error.DecodeError.TheVariants as errors
-use Rattle.wasm_decode.specs.Decoding.{DecodesAll}
+use Rattle.wasm_decode.specs.inside.Decoding.{DecodesAll}
 use Rattle.wasm_decode.specs.Grammar.{SpellsModule}
 use Rattle.wasm_decode.specs.Sections.{module_of_bytes}
 use Rattle.wasm_decode.proofs.ModuleLemmas.{module_takes, module_again}

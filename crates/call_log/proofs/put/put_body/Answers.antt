@@ -7,7 +7,8 @@ use Rattle.lib_calls.specs.declared.entry.Entry.{Entry}
 use Rattle.lib_calls.specs.Entry.{entry_of}
 use Rattle.call_log.specs.declared.version.Version.{Version}
 use Rattle.call_log.specs.Version.{clock_bytes, number_bytes}
-use Rattle.call_log.specs.Entry.{body_bytes, front_bytes, argument_bytes, reply_bytes, tag_if, string_if}
+use Rattle.call_log.specs.Entry.{body_bytes, argument_bytes, tag_if, string_if}
+use Rattle.call_log.specs.inside.Parts.{front_bytes, reply_bytes}
 use Rattle.call_log.proofs.FieldLemmas.{on_ok}
 use Rattle.call_log.proofs.FrontStays.{kept, kept_on_err, on_err}
 use Rattle.call_log.proofs.put.put_body.Goals as goal

@@ -5,7 +5,7 @@ use Rattle.proc_replay.specs.Course.{entries_ahead}
 use Rattle.proc_replay.specs.Replaying.{Replaying}
 use Rattle.group_state.specs.Place.{GroupPlace}
 use Rattle.causal_cut.specs.declared.asks.Ask.{Ask}
-use Rattle.causal_cut.specs.Asks.{AreAsks, lengths_of_one, settled_family}
+use Rattle.causal_cut.specs.inside.Asks.{AreAsks, lengths_of_one, settled_family}
 use Rattle.causal_cut.specs.Past.{accepted_counts}
 use Rattle.causal_cut.proofs.Families.{at}
 use Rattle.causal_cut.proofs.SettledIsLeast.{answered, is_least}

@@ -1,7 +1,7 @@
 use Rattle.std.proofs.Common.{◌≡◌, ◌∙◌, ap, arith, length, rules, set}
 use Rattle.std.specs.Prelude.{replicate}
 use Rattle.std.proofs.lemmas.Grind.{common_steps}
-use Rattle.causal_cut.specs.Asks.{lengths_of_one, settled_family}
+use Rattle.causal_cut.specs.inside.Asks.{lengths_of_one, settled_family}
 use Rattle.causal_cut.proofs.SettledIsLeast.{length_alone, written_over}
 use Rattle.causal_cut.proofs.SettledFamily.{length_settled}
 use Rattle.causal_cut.proofs.settle.least_family.Goals as goal

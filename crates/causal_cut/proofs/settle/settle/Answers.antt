@@ -1,6 +1,6 @@
 use Rattle.std.proofs.Common.{◌≡◌, ◌∙◌, List, ap, length, subst, sym}
 use Rattle.causal_cut.specs.declared.asks.Ask.{Ask}
-use Rattle.causal_cut.specs.Asks.{AreOfNodes, settled_family}
+use Rattle.causal_cut.specs.inside.Asks.{AreOfNodes, settled_family}
 use Rattle.causal_cut.proofs.SettledFamily.{length_follow, settled_last, within_parts}
 use Rattle.causal_cut.proofs.settle.settle.Goals as goal
 

@@ -1,5 +1,5 @@
 use Rattle.std.proofs.Common.{◌≡◌, length}
-use Rattle.causal_cut.specs.Asks.{AreOfNodes, settled_family}
+use Rattle.causal_cut.specs.inside.Asks.{AreOfNodes, settled_family}
 use Rattle.causal_cut.proofs.settle.settle.Given as goal
 
 abbrev pub invariant-loop-ask : goal.invariant-loop-ask

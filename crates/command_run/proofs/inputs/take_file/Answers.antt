@@ -1,5 +1,5 @@
 use Rattle.command_run.specs.declared.refusal.Reason.TheVariants as reason
-use Rattle.command_run.specs.CountLaws.{counts_absent, counts_too_large}
+use Rattle.command_run.specs.inside.Taking.{counts_absent, counts_too_large}
 use Rattle.command_run.proofs.inputs.take_file.Goals as goal
 
 pub returns-in-Err-Absent-clause-counts : goal.returns-in-Err-Absent-clause-counts

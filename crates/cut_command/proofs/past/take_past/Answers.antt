@@ -2,7 +2,7 @@ use Rattle.std.proofs.Common.{◌≡◌, ◌∙◌, Some, ap, map, sym}
 use Rattle.std.specs.List.{flat_map}
 use Rattle.log_pairs.specs.Seen.{pair_of}
 use Rattle.cut_command.specs.Cut.{node_of_process}
-use Rattle.cut_command.specs.Seen.{front_line}
+use Rattle.cut_command.specs.inside.Seen.{front_line}
 use Rattle.cut_command.proofs.KeptLengths.{all_heads, is_cut, past_works}
 use Rattle.cut_command.proofs.past.take_past.Goals as goal
 

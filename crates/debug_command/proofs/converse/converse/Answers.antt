@@ -1,6 +1,6 @@
 use Rattle.std.proofs.Common.{◌∙◌, ap}
 use Rattle.command_run.specs.Call.{failed_says_after}
-use Rattle.debug_command.specs.Conversation.{terminal_at}
+use Rattle.debug_command.specs.inside.Conversing.{terminal_at}
 use Rattle.debug_command.proofs.SessionEnds.{conversed_done, conversed_large, conversed_memory, conversed_read, conversed_write}
 use Rattle.debug_command.proofs.converse.converse.Goals as goal
 

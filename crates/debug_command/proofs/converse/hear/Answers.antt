@@ -3,8 +3,9 @@ use Rattle.std.proofs.lemmas.Bool.{ltb-false}
 use Rattle.std.proofs.lemmas.Result.{err_from_is_err_and}
 use Rattle.fri_outside.specs.Outside.{WhenTold}
 use Rattle.fri_outside.specs.Terminal.{Hearing, with_asking}
-use Rattle.debug_command.specs.Conversation.{TakesOfInput, terminal_at}
-use Rattle.debug_command.specs.Talk.{SessionGoesOn, SessionStopsIn, exchange_of, session_talk_of}
+use Rattle.debug_command.specs.Conversation.{TakesOfInput}
+use Rattle.debug_command.specs.inside.Conversing.{terminal_at}
+use Rattle.debug_command.specs.inside.Talk.{SessionGoesOn, SessionStopsIn, exchange_of, session_talk_of}
 use Rattle.debug_command.proofs.WholeSessions.{breaks_in, breaks_read, hears, none_counted, stops_read}
 use Rattle.debug_command.proofs.converse.hear.Goals as goal
 

@@ -1,8 +1,8 @@
 use Rattle.std.proofs.Common.{◌∙◌, ℕ, ap, sym}
 use Rattle.std.proofs.lemmas.Result.{err_from_is_err_and}
 use Rattle.fri_outside.specs.Terminal.{Hearing}
-use Rattle.debug_command.specs.Conversation.{terminal_at}
-use Rattle.debug_command.specs.Talk.{session_talk_of, why_session_ended}
+use Rattle.debug_command.specs.inside.Conversing.{terminal_at}
+use Rattle.debug_command.specs.inside.Talk.{session_talk_of, why_session_ended}
 use Rattle.debug_command.proofs.WholeSessions.{held, held_unopened, none_counted, opens_read}
 use Rattle.debug_command.proofs.converse.hold.Goals as goal
 

@@ -3,9 +3,9 @@ use Rattle.std.specs.Prelude.{Ok, Err}
 use Rattle.std.proofs.lemmas.Result.{err_from_is_err_and}
 use Rattle.fri_text.specs.Line.{lines_of}
 use Rattle.fri_outside.specs.Terminal.{Hearing}
-use Rattle.debug_command.specs.Conversation.{terminal_at}
+use Rattle.debug_command.specs.inside.Conversing.{terminal_at}
 use Rattle.debug_command.specs.Limits.{most_input}
-use Rattle.debug_command.specs.Talk.{SpokeLines, heard_of, listened_after, failed_says_of_session, session_talk_of}
+use Rattle.debug_command.specs.inside.Talk.{SpokeLines, heard_of, listened_after, failed_says_of_session, session_talk_of}
 use Rattle.debug_command.proofs.WholeSessions.{listens_all, listens_broken, listens_error, listens_more, listens_none, none_counted, spoke_read}
 use Rattle.debug_command.proofs.converse.listen.Goals as goal
 

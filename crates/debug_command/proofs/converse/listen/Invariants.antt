@@ -1,7 +1,7 @@
 use Rattle.std.proofs.Common.{◌≡◌, ◌-◌, ◌≤◌}
-use Rattle.debug_command.specs.Conversation.{terminal_at}
+use Rattle.debug_command.specs.inside.Conversing.{terminal_at}
 use Rattle.debug_command.specs.Limits.{most_input}
-use Rattle.debug_command.specs.Talk.{session_talk_of}
+use Rattle.debug_command.specs.inside.Talk.{session_talk_of}
 use Rattle.debug_command.proofs.WholeSessions.{ListensFrom}
 use Rattle.debug_command.proofs.converse.listen.Given as goal
 

@@ -2,7 +2,7 @@ use Rattle.std.proofs.Common.{◌≡◌, ◌∙◌, ◌∷◌, ◌++◌, [], Lis
 use Rattle.std.specs.Prelude.{Ok, Err}
 use Rattle.std.proofs.lemmas.Result.{err_from_is_err_and}
 use Rattle.fri_text.specs.Line.{lines_of}
-use Rattle.debug_command.specs.Talk.{SpokeLines, session_talk_of}
+use Rattle.debug_command.specs.inside.Talk.{SpokeLines, session_talk_of}
 use Rattle.debug_command.proofs.SessionBytes.{stops_large, stops_memory, stops_spoken, takes_ended, takes_other}
 use Rattle.debug_command.proofs.converse.take_byte.Goals as goal
 

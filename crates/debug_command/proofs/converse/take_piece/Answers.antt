@@ -1,7 +1,7 @@
 use Rattle.std.proofs.Common.{◌+◌, ◌∷◌, [], List, ℕ, take, drop, subst, refl, ◌∙◌, get_or, arith}
 use Rattle.std.proofs.lemmas.List.{take_more}
 use Rattle.std.proofs.lemmas.Result.{err_from_is_err_and}
-use Rattle.debug_command.specs.Talk.{SessionStopsIn, session_talk_of}
+use Rattle.debug_command.specs.inside.Talk.{SessionStopsIn, session_talk_of}
 use Rattle.debug_command.proofs.InputPieces.{goes_on_more, goes_on_none, piece_split, stops_later}
 use Rattle.debug_command.proofs.converse.take_piece.Goals as goal
 

@@ -1,6 +1,6 @@
 use Rattle.std.proofs.Common.{◌≡◌, ◌+◌, ◌≤◌, take}
 use Rattle.debug_command.specs.Limits.{most_input}
-use Rattle.debug_command.specs.Talk.{SessionGoesOn, session_talk_of}
+use Rattle.debug_command.specs.inside.Talk.{SessionGoesOn, session_talk_of}
 use Rattle.debug_command.proofs.converse.take_piece.Given as goal
 
 abbrev pub invariant-loop-b : goal.invariant-loop-b

@@ -3,7 +3,7 @@ use Rattle.std.specs.Global.{Vec}
 use Rattle.std.proofs.lemmas.Result.{err_from_is_err_and}
 use Rattle.watch_expr.specs.Lexing.{token_texts}
 use Rattle.embed_cmds.specs.declared.program.Stmt.{Stmt}
-use Rattle.embed_cmds.specs.Parsing.{ReadAsTokens}
+use Rattle.embed_cmds.specs.inside.Parsed.{ReadAsTokens}
 use Rattle.embed_cmds.specs.Reading.{ReadOfTokens, program_in, separated_items, statement}
 use Rattle.embed_cmds.specs.Tree.{Statements, statement_of, statements}
 use Rattle.embed_cmds.proofs.ReadSeparated.{ended, refused_among, went_on}

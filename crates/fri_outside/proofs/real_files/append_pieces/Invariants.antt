@@ -1,4 +1,4 @@
-use Rattle.fri_outside.specs.Reading.{MovesFrontOfBytes}
+use Rattle.fri_outside.specs.inside.Reading.{MovesFrontOfBytes}
 use Rattle.fri_outside.proofs.real_files.append_pieces.Given as goal
 
 abbrev pub invariant-loop : goal.invariant-loop

@@ -7,7 +7,7 @@ use Rattle.replay_command.specs.Report.{replay_outcome}
 use Rattle.cut_command.specs.Cut.{cut_outcome}
 use Rattle.migrate_command.specs.Migrate.{migrate_outcome}
 use Rattle.friday_app.specs.Command.{Cut, Debug, Replay, Schedule, Streams}
-use Rattle.friday_app.specs.Seen.{command_meaning}
+use Rattle.friday_app.specs.inside.Seen.{command_meaning}
 use Rattle.friday_app.proofs.CommandRuns.{may_diverge, performed, run_cut, run_debugged, run_drilled, run_migrated, run_none, run_recorded, run_replayed, run_same, run_scheduled, run_stopped, run_streamed}
 use Rattle.friday_app.proofs.top.run.Goals as goal
 

@@ -6,7 +6,7 @@ use Rattle.std.proofs.lemmas.Result.{err_from_is_err_and}
 use Rattle.schedule_text.specs.declared.process.ProcessLine.{ProcessLine}
 use Rattle.wasm_types.specs.Modules.{module_of}
 use Rattle.group_record.specs.Answer.{first_states, first_states_from, group_of, names_of}
-use Rattle.group_record.specs.Begun.{AreStarted, BeginsAll, heads_of_logs}
+use Rattle.group_record.specs.inside.Begun.{AreStarted, BeginsAll, heads_of_logs}
 use Rattle.group_record.specs.declared.member.Member.{Member}
 use Rattle.group_record.proofs.FirstRecorder.{files_begun, have_heads, logs_fail, members_fail, nothing_made, recorder_begun}
 use Rattle.group_record.proofs.begin.begin.Goals as goal

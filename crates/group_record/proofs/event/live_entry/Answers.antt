@@ -2,7 +2,7 @@ use Rattle.std.proofs.Common.{◌≡◌, ◌<◌, ◌^◌, ◌∙◌, Some, ap, 
 use Rattle.lib_calls.specs.Answer.{Answer}
 use Rattle.lib_calls.specs.Effects.{outgoing_of}
 use Rattle.lamport_tag.specs.Tag.{next_clock_of}
-use Rattle.group_record.specs.Around.{answer_by, env_of}
+use Rattle.group_record.specs.inside.Around.{answer_by, env_of}
 use Rattle.group_record.proofs.LiveEvents.{entry_tells, entry_with, no_event, tag_fits}
 use Rattle.group_record.proofs.event.live_entry.Goals as goal
 

@@ -1,5 +1,5 @@
 use Rattle.std.proofs.Common.{◌≡◌, map}
-use Rattle.group_record.specs.Recorded.{KeepsUpWithRun}
+use Rattle.group_record.specs.inside.Recorded.{KeepsUpWithRun}
 use Rattle.group_record.specs.Run.{GroupStart, RunProgress}
 use Rattle.group_record.proofs.ImageFiles.{ImagesTo}
 use Rattle.group_record.proofs.images.write_images.Given as goal

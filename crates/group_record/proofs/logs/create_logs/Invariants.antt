@@ -1,7 +1,7 @@
 use Rattle.std.proofs.Common.{◌≡◌}
 use Rattle.fri_outside.specs.Several.{with_files}
 use Rattle.group_record.specs.Run.{GroupStart}
-use Rattle.group_record.specs.Begun.{HaveHeads}
+use Rattle.group_record.specs.inside.Begun.{HaveHeads}
 use Rattle.group_record.proofs.LogHeads.{made_files}
 use Rattle.group_record.proofs.logs.create_logs.Given as goal
 

@@ -1,6 +1,6 @@
 use Rattle.std.proofs.Common.{◌≡◌, ◌∙◌, ◌<◌, arith}
 use Rattle.std.proofs.lemmas.Result.{err_from_is_err_and}
-use Rattle.group_record.specs.Begun.{heads_of_logs}
+use Rattle.group_record.specs.inside.Begun.{heads_of_logs}
 use Rattle.group_record.specs.Logs.{log_name}
 use Rattle.group_record.specs.Run.{name_of_process, processes_in_group}
 use Rattle.group_record.proofs.LogHeads.{all_heads, head_stops, heads_go_on}

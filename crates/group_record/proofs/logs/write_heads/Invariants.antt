@@ -3,7 +3,7 @@ use Rattle.fri_outside.specs.Outside.{Folder}
 use Rattle.fri_outside.specs.Several.{with_files}
 use Rattle.group_record.specs.Run.{GroupStart}
 use Rattle.group_record.specs.Logs.{files_of}
-use Rattle.group_record.specs.Begun.{HaveHeads, no_bytes}
+use Rattle.group_record.specs.inside.Begun.{HaveHeads, no_bytes}
 use Rattle.group_record.proofs.LogHeads.{heads_to}
 use Rattle.group_record.proofs.logs.write_heads.Given as goal
 

@@ -8,7 +8,7 @@ use Rattle.schedule_text.specs.declared.process.ProcessLine.{ProcessLine}
 use Rattle.wasm_types.specs.Modules.{module_of}
 use Rattle.group_record.specs.Answer.{first_states, group_of}
 use Rattle.group_record.specs.Files.{change}
-use Rattle.group_record.specs.Recorded.{RecorderDoes, MakesImages, SumsUpRun}
+use Rattle.group_record.specs.inside.Recorded.{RecorderDoes, MakesImages, SumsUpRun}
 use Rattle.group_record.specs.Run.{after_items, run}
 use Rattle.group_record.proofs.RecordAnswer.{all_present, begin_fails, images_fail, last_count, last_keeps, run_done, run_fails, saying_fails}
 use Rattle.group_record.proofs.RecorderCounts.{schedule_few}

@@ -1,7 +1,7 @@
 use Rattle.std.proofs.Common.{◌∙◌, refl, sym, arith}
 use Rattle.guest_process.specs.Live.{is_ready_signal}
 use Rattle.group_world.specs.World.{has_pending}
-use Rattle.group_record.specs.Around.{handlers_at}
+use Rattle.group_record.specs.inside.Around.{handlers_at}
 use Rattle.group_record.proofs.ReadySignals.{lowest_found, lowest_none, lowest_past}
 use Rattle.group_record.proofs.signals.lowest_of_all.Goals as goal
 

@@ -3,7 +3,7 @@ use Rattle.lib_calls.specs.Answer.{Answer}
 use Rattle.signal_points.specs.Signals.{most_signal}
 use Rattle.guest_process.specs.Live.{is_ready_signal, lowest_signal}
 use Rattle.group_world.specs.World.{has_pending}
-use Rattle.group_record.specs.Around.{handlers_at}
+use Rattle.group_record.specs.inside.Around.{handlers_at}
 use Rattle.group_record.proofs.signals.lowest_of_all.Given as goal
 
 abbrev pub invariant-loop-s : goal.invariant-loop-s

@@ -1,6 +1,6 @@
 use Rattle.std.proofs.Common.{sym}
 use Rattle.group_world.specs.World.{has_pending}
-use Rattle.group_record.specs.Around.{handlers_at}
+use Rattle.group_record.specs.inside.Around.{handlers_at}
 use Rattle.group_record.proofs.ReadySignals.{none_ready}
 use Rattle.group_record.proofs.signals.lowest_ready.Goals as goal
 

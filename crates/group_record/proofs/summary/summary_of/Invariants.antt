@@ -1,6 +1,6 @@
 use Rattle.std.proofs.Common.{◌≡◌, ◌++◌, drop, map}
 use Rattle.group_record.specs.Answer.{summary_lines}
-use Rattle.group_record.specs.Recorded.{KeepsUpWithRun}
+use Rattle.group_record.specs.inside.Recorded.{KeepsUpWithRun}
 use Rattle.group_record.specs.Run.{GroupStart, RunProgress}
 use Rattle.group_record.proofs.summary.summary_of.Given as goal
 

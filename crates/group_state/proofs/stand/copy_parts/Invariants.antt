@@ -1,6 +1,6 @@
 use Rattle.std.proofs.Common.{◌≡◌, take}
 use Rattle.group_state.specs.Place.{PartsFit}
-use Rattle.group_state.specs.Stands.{AreSoundMemories}
+use Rattle.group_state.specs.inside.Stands.{AreSoundMemories}
 use Rattle.group_state.proofs.stand.copy_parts.Given as goal
 
 abbrev pub invariant-loop-part : goal.invariant-loop-part

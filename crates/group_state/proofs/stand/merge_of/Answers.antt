@@ -1,6 +1,6 @@
 use Rattle.std.proofs.Common.{◌<◌, ◌≤◌, ◌∙◌, length, map, sym, ap, arith, take_all}
 use Rattle.std.proofs.lemmas.List.{length-set}
-use Rattle.group_state.specs.Place.{head_of_replay}
+use Rattle.group_state.specs.inside.Turns.{head_of_replay}
 use Rattle.group_state.proofs.GroupSteps.{headed}
 use Rattle.group_state.proofs.stand.merge_of.Goals as goal
 

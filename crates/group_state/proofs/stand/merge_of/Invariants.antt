@@ -1,5 +1,5 @@
 use Rattle.std.proofs.Common.{◌≡◌, length, map, take}
-use Rattle.group_state.specs.Place.{head_of_replay}
+use Rattle.group_state.specs.inside.Turns.{head_of_replay}
 use Rattle.group_state.proofs.stand.merge_of.Given as goal
 
 abbrev pub invariant-loop-node : goal.invariant-loop-node

@@ -1,6 +1,6 @@
 use Rattle.std.proofs.Common.{◌≡◌, ◌∙◌, ◌++◌, ◌*◌, arith, ap, length, rules, List, ℕ}
 use Rattle.guest_memory.specs.Memory.{no_stamps, zero_bytes}
-use Rattle.guest_memory.specs.Pages.{bytes_of_pages, stamps_of}
+use Rattle.guest_memory.specs.inside.Pages.{bytes_of_pages, stamps_of}
 use Rattle.guest_memory.proofs.FlatPages.{zeros-more, zeros-flat, zeros-stamps, flat-append, whole-append}
 use Rattle.guest_memory.proofs.PageStamps.{stamps-append}
 use Rattle.guest_memory.proofs.pages.add_zeros.Goals as goal

@@ -1,6 +1,6 @@
 use Rattle.std.proofs.Common.{◌≤◌, ap, arith, length, refl, length-take, length-drop}
 use Rattle.guest_memory.specs.LittleEndian.{little_endian}
-use Rattle.guest_memory.specs.Pages.{bytes_of_pages}
+use Rattle.guest_memory.specs.inside.Pages.{bytes_of_pages}
 use Rattle.guest_memory.proofs.WrittenPieces.{across}
 use Rattle.guest_memory.proofs.pages.number_across.Goals as goal
 

@@ -1,5 +1,5 @@
 use Rattle.std.proofs.Common.{rules, ◌≡◌, ◌<◌, ◌≤◌, ◌+◌, ◌*◌, ◌-◌, ◌/◌, ◌%◌, arith, refl, length}
-use Rattle.guest_memory.specs.Pages.{bytes_of_pages}
+use Rattle.guest_memory.specs.inside.Pages.{bytes_of_pages}
 use Rattle.guest_memory.proofs.FlatPages.{flat-length}
 use Rattle.guest_memory.proofs.PageWrites.{puts-more, puts-none}
 use Rattle.guest_memory.proofs.pages.put_all.Goals as goal

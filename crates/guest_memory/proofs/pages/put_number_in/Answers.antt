@@ -1,7 +1,7 @@
 use Rattle.std.proofs.Common.{◌≡◌, ◌<◌, ◌≤◌, ◌+◌, ◌/◌, ◌%◌, ◌∙◌, ap, arith, length, get_or, List, ℕ}
 use Rattle.std.proofs.Math.ListN.{set}
 use Rattle.guest_memory.specs.LittleEndian.{low_bytes, IsWidth}
-use Rattle.guest_memory.specs.Pages.{AreWhole, put_in_page}
+use Rattle.guest_memory.specs.inside.Pages.{AreWhole, put_in_page}
 use Rattle.guest_memory.specs.declared.page.Page.{Page}
 use Rattle.guest_memory.proofs.NumberBytes.{length-low_bytes}
 use Rattle.guest_memory.proofs.FlatPages.{set-same}

@@ -2,7 +2,7 @@ use Rattle.std.proofs.Common.{◌≡◌, ◌<◌, ◌∷◌, [], List, Option, S
 use Rattle.std.specs.Prelude.{option_map, slice_set}
 use Rattle.std.specs.List.{list_all}
 use Rattle.page_watch.specs.declared.places.NodePlaces.{NodePlaces}
-use Rattle.page_watch.specs.Places.{AddsPlace, AreUnion, is_in_order, places_in}
+use Rattle.page_watch.specs.inside.Places.{AddsPlace, AreUnion, is_in_order, places_in}
 use Rattle.page_watch.specs.Touch.{node_of}
 use Rattle.page_watch.proofs.AddedPlaces.{node_at, on_ok, set_order, set_union}
 use Rattle.page_watch.proofs.places.add.Goals as goal

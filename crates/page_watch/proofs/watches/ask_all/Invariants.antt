@@ -1,5 +1,5 @@
 use Rattle.page_watch.specs.Touch.{meets}
-use Rattle.page_watch.specs.Watched.{watch_after_event}
+use Rattle.page_watch.specs.inside.Watching.{watch_after_event}
 use Rattle.page_watch.proofs.AskedWatches.{AreAsked}
 use Rattle.page_watch.proofs.watches.ask_all.Given as goal
 

@@ -1,7 +1,8 @@
 use Rattle.std.proofs.Common.{◌≡◌, Bool, length, None, Some, Ok, sym, ap, subst, ◌∙◌, arith}
 use Rattle.std.proofs.lemmas.Result.{err_from_is_err_and}
 use Rattle.schedule_text.specs.Outcome.{IsScheduleError}
-use Rattle.schedule_text.specs.Reading.{TakesLine, with_schedule_line, schedule_of}
+use Rattle.schedule_text.specs.inside.Reader.{TakesLine}
+use Rattle.schedule_text.specs.Reading.{with_schedule_line, schedule_of}
 use Rattle.schedule_text.proofs.OutcomeLemmas.{read_begins, read_on, read_bad, read_ends}
 use Rattle.schedule_text.proofs.read.read_lines.Goals as goal
 

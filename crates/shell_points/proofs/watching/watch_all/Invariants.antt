@@ -3,7 +3,7 @@ use Rattle.std.specs.Prelude.{All}
 use Rattle.group_state.specs.Seen.{nodes_at}
 use Rattle.page_watch.specs.Watched.{WatchStands, Watched}
 use Rattle.shell_points.specs.declared.point.Point.{Point as Held}
-use Rattle.shell_points.specs.Seen.{point}
+use Rattle.shell_points.specs.inside.Seen.{point}
 use Rattle.shell_points.specs.Watching.{watched_expressions}
 use Rattle.shell_points.proofs.watching.watch_all.Given as goal
 

@@ -1,7 +1,7 @@
 use Rattle.std.proofs.Common.{◌≡◌, Some, sym, ap, ◌∙◌, refl, arith}
 use Rattle.wasm_types.specs.Code.{tree, trees}
 use Rattle.wasm_stack.specs.Answer.{after_of, way_of}
-use Rattle.wasm_step.specs.Paused.{halt_of}
+use Rattle.wasm_step.specs.inside.Paused.{halt_of}
 use Rattle.wasm_step.specs.Burst.{burst, settle, spent_burst}
 use Rattle.wasm_stack.specs.Limits.{ThreadWithin}
 use Rattle.wasm_stack.specs.After.{Goes}

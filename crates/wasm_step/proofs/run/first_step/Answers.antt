@@ -3,7 +3,7 @@ use Rattle.wasm_types.specs.Code.{Trees, tree}
 use Rattle.wasm_stack.specs.declared.halt.Next.{Next}
 use Rattle.wasm_stack.specs.Answer.{after_of}
 use Rattle.wasm_step.specs.Burst.{Done, at_next_instruction, settle}
-use Rattle.wasm_step.specs.Paused.{settled_of}
+use Rattle.wasm_step.specs.inside.Paused.{settled_of}
 use Rattle.wasm_stack.specs.After.{Sticks}
 use Rattle.wasm_step.proofs.LevelRuns.{standing, settle_halts, burst_done, stopped_step, first_on}
 use Rattle.wasm_step.proofs.run.first_step.Goals as goal

@@ -1,6 +1,6 @@
 use Rattle.std.proofs.Common.{◌∙◌, ap, arith}
 use Rattle.std.proofs.lemmas.Grind.{common_steps}
-use Rattle.wasm_store.specs.Globals.{stamps_of_globals, values_of_globals}
+use Rattle.wasm_store.specs.inside.Globals.{stamps_of_globals, values_of_globals}
 use Rattle.wasm_store.proofs.GlobalViews.{first_stamps_are, first_values_are}
 use Rattle.wasm_store.proofs.start.begin.Goals as goal
 

@@ -1,5 +1,6 @@
 use Rattle.std.proofs.Common.{◌≡◌, ◌++◌, map, drop}
-use Rattle.wasm_types.specs.Context.{filled_runs, filled_locals}
+use Rattle.wasm_types.specs.Context.{filled_runs}
+use Rattle.wasm_types.specs.inside.Slots.{filled_locals}
 use Rattle.wasm_types.specs.Modules.{Func, func, module_of}
 use Rattle.wasm_types.proofs.valid.filled_locals.Given as goal
 

@@ -1,4 +1,4 @@
-use Rattle.wasm_validate.specs.Neighbors.{HasNoEqualNeighborsBelow}
+use Rattle.wasm_validate.specs.inside.Neighbors.{HasNoEqualNeighborsBelow}
 use Rattle.wasm_validate.proofs.exports.has_equal_neighbors.Given as goal
 
 abbrev pub invariant-loop-i : goal.invariant-loop-i

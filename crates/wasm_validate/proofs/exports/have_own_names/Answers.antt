@@ -1,7 +1,7 @@
 use Rattle.std.proofs.Common.{◌≡◌, ◌≢◌, Bool, true, false, not, map, refl, sym, ap, ◌∙◌, subst, arith, IsTrue, MatchBool, ◌↔◌, AllPairs}
 use Rattle.std.proofs.lemmas.List.{take_all}
 use Rattle.wasm_types.specs.declared.modules.Export.{Export}
-use Rattle.wasm_validate.specs.Neighbors.{HasEqualNeighbors, HasNoEqualNeighbors}
+use Rattle.wasm_validate.specs.inside.Neighbors.{HasEqualNeighbors, HasNoEqualNeighbors}
 use Rattle.wasm_validate.proofs.NameLemmas.{names_differ, names_repeat}
 use Rattle.wasm_validate.proofs.exports.have_own_names.Goals as goal
 

@@ -1,6 +1,6 @@
 use Rattle.std.proofs.Common.{sym, ◌∙◌, subst, map}
 use Rattle.wasm_types.specs.Modules.{func_type, import_of}
-use Rattle.wasm_validate.specs.Signatures.{HasTypeUnder}
+use Rattle.wasm_validate.specs.inside.Signatures.{HasTypeUnder}
 use Rattle.wasm_validate.proofs.LibraryLemmas.{of_library, imported_func, library-type}
 use Rattle.wasm_validate.proofs.imports.is_of_library.Goals as goal
 

@@ -1,5 +1,5 @@
 use Rattle.std.proofs.Common.{Option, ap, sym, ◌∙◌}
-use Rattle.byte_streams.specs.Keeping.{is_front_of_sent}
+use Rattle.byte_streams.specs.inside.Keeping.{is_front_of_sent}
 use Rattle.byte_streams.specs.Seen.{piece_of}
 use Rattle.byte_streams.specs.declared.send_map.SentChunk.{SentChunk}
 use Rattle.byte_streams.proofs.TreeMaps.{by_sender_exact, get-seen}

@@ -1,5 +1,5 @@
 use Rattle.std.proofs.Common.{None, Some, ap, sym, ◌∙◌, rules}
-use Rattle.byte_streams.specs.Keeping.{piece_stands_among}
+use Rattle.byte_streams.specs.inside.Keeping.{piece_stands_among}
 use Rattle.byte_streams.specs.Seen.{piece_of}
 use Rattle.byte_streams.proofs.PieceChanges.{taken_there}
 use Rattle.byte_streams.proofs.TreeMaps.{by_stream_exact, get-seen, insert-seen}

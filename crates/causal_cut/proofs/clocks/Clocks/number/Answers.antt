@@ -1,7 +1,7 @@
 use Rattle.std.proofs.Common.{◌≡◌, ◌∙◌, ◌<◌, ◌+◌, ℕ, List, [], length, get_or, sym, ap, subst, arith}
 use Rattle.std.specs.Prelude.{option_map}
 use Rattle.std.proofs.lemmas.List.{get_or-map, length-map}
-use Rattle.causal_cut.specs.Asks.{AreRisingClocks, number_among}
+use Rattle.causal_cut.specs.inside.Asks.{AreRisingClocks, number_among}
 use Rattle.causal_cut.proofs.ClockNumbers.{number_searched}
 use Rattle.causal_cut.proofs.clocks.Clocks.number.Goals as goal
 

@@ -3,7 +3,7 @@ use Rattle.std.proofs.lemmas.List.{take-map}
 use Rattle.std.specs.Global.{Vec}
 use Rattle.embed_cmds.proofs.MentionOrder.{front_stays}
 use Rattle.embed_cmds.specs.Faulty.{set_names}
-use Rattle.embed_cmds.specs.Kept.{variable, variables_of}
+use Rattle.embed_cmds.specs.inside.Kept.{variable, variables_of}
 use Rattle.embed_cmds.specs.Tree.{program_body}
 use Rattle.embed_cmds.specs.Variables.{Variable, mention_all}
 use Rattle.embed_cmds.proofs.variables.Vars.mention_all.Goals as goal

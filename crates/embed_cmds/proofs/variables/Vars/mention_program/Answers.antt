@@ -2,7 +2,7 @@ use Rattle.std.proofs.Common.{ℕ, length, take, Option, ℤ, sym, ap, ◌∙◌
 use Rattle.std.proofs.lemmas.List.{take-map}
 use Rattle.std.specs.Global.{Vec}
 use Rattle.embed_cmds.proofs.MentionOrder.{where_err}
-use Rattle.embed_cmds.specs.Kept.{variable, variables_of}
+use Rattle.embed_cmds.specs.inside.Kept.{variable, variables_of}
 use Rattle.embed_cmds.proofs.variables.Vars.mention_program.Goals as goal
 
 pub returns-then-is_err-clause-err : goal.returns-then-is_err-clause-err

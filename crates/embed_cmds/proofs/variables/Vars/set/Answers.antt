@@ -2,7 +2,7 @@ use Rattle.std.proofs.Common.{◌≡◌, ℕ, List, Option, ℤ, sym, ap, ◌∙
 use Rattle.std.specs.Global.{Vec}
 use Rattle.indexmap.specs.IndexMap.{IndexMap}
 use Rattle.embed_cmds.proofs.MapEntries.{inserted, written}
-use Rattle.embed_cmds.specs.Kept.{variables_of}
+use Rattle.embed_cmds.specs.inside.Kept.{variables_of}
 use Rattle.embed_cmds.specs.Variables.{Variable, with_value}
 use Rattle.embed_cmds.proofs.variables.Vars.set.Goals as goal
 

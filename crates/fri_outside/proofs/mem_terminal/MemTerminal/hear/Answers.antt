@@ -1,6 +1,7 @@
 use Rattle.std.proofs.Common.{◌≡◌, ◌∷◌, ◌++◌, ℕ, List, [], length, subst, sym, ap, ◌∙◌}
 use Rattle.std.specs.Prelude.{Ok}
-use Rattle.fri_outside.specs.Memory.{HearsInMemory, TerminalInMemory}
+use Rattle.fri_outside.specs.inside.Kept.{HearsInMemory}
+use Rattle.fri_outside.specs.Memory.{TerminalInMemory}
 use Rattle.fri_outside.specs.declared.mem_terminal.Mark.{Mark}
 use Rattle.fri_outside.proofs.GivenTimes.{hears_noted, told}
 use Rattle.fri_outside.proofs.mem_terminal.MemTerminal.hear.Goals as goal

@@ -1,5 +1,6 @@
 use Rattle.std.proofs.Common.{subst}
-use Rattle.fri_outside.specs.Memory.{SaysInMemory, TerminalInMemory}
+use Rattle.fri_outside.specs.inside.Kept.{SaysInMemory}
+use Rattle.fri_outside.specs.Memory.{TerminalInMemory}
 use Rattle.fri_outside.proofs.GivenTimes.{says_kept, told}
 use Rattle.fri_outside.proofs.mem_terminal.MemTerminal.say.Goals as goal
 

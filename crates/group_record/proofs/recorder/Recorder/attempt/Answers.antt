@@ -1,7 +1,7 @@
 use Rattle.std.proofs.Common.{◌≡◌, ◌∙◌, ◌+◌, Some, ap, refl, sym, arith}
 use Rattle.std.proofs.lemmas.Result.{err_from_is_err_and}
 use Rattle.group_record.specs.declared.member.Member.{Member}
-use Rattle.group_record.specs.Around.{env_of}
+use Rattle.group_record.specs.inside.Around.{env_of}
 use Rattle.group_record.specs.Run.{attempt}
 use Rattle.group_record.proofs.RecorderCounts.{counted_kept}
 use Rattle.group_record.proofs.GroupRunStops.{attempt_leads}

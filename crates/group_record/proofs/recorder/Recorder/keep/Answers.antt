@@ -2,12 +2,12 @@ use Rattle.std.proofs.Common.{◌≡◌, ◌∙◌, inr, ap, refl, sym, subst}
 use Rattle.std.specs.Prelude.{slice_set}
 use Rattle.std.proofs.lemmas.Result.{err_from_is_err_and}
 use Rattle.lib_calls.specs.declared.entry.Entry.{Entry}
-use Rattle.group_record.specs.Members.{CanKeepEntry, member_after}
+use Rattle.group_record.specs.inside.Members.{CanKeepEntry, member_after}
 use Rattle.group_record.specs.declared.member.Member.{Member}
 use Rattle.group_world.specs.World.{after_event}
 use Rattle.lib_calls.specs.Entry.{entry_of}
 use Rattle.lib_calls.specs.Traffic.{printed}
-use Rattle.group_record.specs.Recorded.{with_print}
+use Rattle.group_record.specs.inside.Recorded.{with_print}
 use Rattle.group_record.proofs.RecorderSteps.{stops_of, written_of}
 use Rattle.group_record.proofs.SharedLemmas.{at_place, only_one}
 use Rattle.group_record.proofs.recorder.Recorder.keep.Goals as goal

@@ -1,6 +1,6 @@
 use Rattle.std.proofs.Common.{◌∙◌, refl, sym}
 use Rattle.std.proofs.lemmas.Result.{err_from_is_err_and}
-use Rattle.group_record.specs.Recorded.{item_acts, after_act}
+use Rattle.group_record.specs.inside.Recorded.{item_acts, after_act}
 use Rattle.group_record.specs.Run.{after_item}
 use Rattle.group_record.proofs.RecorderCounts.{counted_other, few_other}
 use Rattle.group_record.proofs.GroupRunStops.{item_leads}

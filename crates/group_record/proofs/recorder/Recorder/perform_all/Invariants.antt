@@ -2,7 +2,7 @@ use Rattle.std.proofs.Common.{◌≡◌, ◌+◌, length, drop, Option}
 use Rattle.std.specs.Prelude.{sum_by}
 use Rattle.fri_outside.specs.Outside.{Folder}
 use Rattle.group_record.specs.Run.{GroupStart, RunProgress, after_items}
-use Rattle.group_record.specs.Recorded.{FilesOf, HasCountsFor, KeepsUpWithRun, RecordingUnderWay, counted_tries_of}
+use Rattle.group_record.specs.inside.Recorded.{FilesOf, HasCountsFor, KeepsUpWithRun, RecordingUnderWay, counted_tries_of}
 use Rattle.group_record.proofs.RecorderLoops.{ComesTo}
 use Rattle.group_record.proofs.recorder.Recorder.perform_all.Given as goal
 

@@ -1,7 +1,7 @@
 use Rattle.std.proofs.Common.{◌≡◌, ◌+◌, ◌-◌, length, Option}
 use Rattle.fri_outside.specs.Outside.{Folder}
 use Rattle.group_record.specs.Run.{GroupStart, RunProgress, run_attempts}
-use Rattle.group_record.specs.Recorded.{FilesOf, KeepsUpWithRun, RecordingUnderWay, total_counted_tries}
+use Rattle.group_record.specs.inside.Recorded.{FilesOf, KeepsUpWithRun, RecordingUnderWay, total_counted_tries}
 use Rattle.group_record.proofs.RecorderLoops.{ComesTo}
 use Rattle.group_record.proofs.recorder.Recorder.run.Given as goal
 

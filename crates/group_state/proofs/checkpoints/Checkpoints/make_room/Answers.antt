@@ -1,5 +1,5 @@
 use Rattle.std.proofs.Common.{subst, sym}
-use Rattle.group_state.specs.Stands.{AreStands}
+use Rattle.group_state.specs.inside.Stands.{AreStands}
 use Rattle.group_state.proofs.GroupCopies.{picked_stand}
 use Rattle.group_state.proofs.checkpoints.Checkpoints.make_room.Goals as goal
 

@@ -2,7 +2,8 @@ use Rattle.std.proofs.Common.{◌∙◌, ◌+◌, length, map, take, subst, sym,
 use Rattle.group_order.specs.Heads.{AreNoHeads}
 use Rattle.guest_memory.specs.Memory.{IsMemory}
 use Rattle.guest_process.specs.State.{State}
-use Rattle.group_state.specs.Place.{events_of_replays, head_of_replay}
+use Rattle.group_state.specs.Place.{events_of_replays}
+use Rattle.group_state.specs.inside.Turns.{head_of_replay}
 use Rattle.group_state.proofs.GroupCopies.{length_parts}
 use Rattle.group_state.proofs.AheadInOrder.{ends}
 use Rattle.group_state.proofs.GroupSteps.{forwarded, given, is_event, stands_on}

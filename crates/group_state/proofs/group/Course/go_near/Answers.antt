@@ -1,8 +1,8 @@
 use Rattle.std.proofs.Common.{◌∙◌, List, length, map, ap, subst, arith}
 use Rattle.std.specs.Prelude.{IfSome}
 use Rattle.proc_replay.specs.Replaying.{Replaying}
-use Rattle.group_state.specs.Place.{head_of_replay}
-use Rattle.group_state.specs.Stands.{IsStand}
+use Rattle.group_state.specs.inside.Turns.{head_of_replay}
+use Rattle.group_state.specs.inside.Stands.{IsStand}
 use Rattle.group_state.proofs.GroupCopies.{few_parts, kept_checkpoint}
 use Rattle.group_state.proofs.group.Course.go_near.Goals as goal
 

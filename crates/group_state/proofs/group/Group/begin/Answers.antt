@@ -1,10 +1,11 @@
 use Rattle.std.proofs.Common.{◌∙◌, List, length, map, ap, arith, subst, sym}
 use Rattle.std.proofs.lemmas.List.Elements.{All-nil}
 use Rattle.proc_replay.specs.Replaying.{Replaying}
-use Rattle.group_state.specs.At.{IsSoundCourse}
-use Rattle.group_state.specs.Motions.{no_motions}
-use Rattle.group_state.specs.Place.{PartsFit, head_of_replay}
-use Rattle.group_state.specs.Stands.{AreStands, IsStand}
+use Rattle.group_state.specs.inside.At.{IsSoundCourse}
+use Rattle.group_state.specs.inside.Motions.{no_motions}
+use Rattle.group_state.specs.Place.{PartsFit}
+use Rattle.group_state.specs.inside.Turns.{head_of_replay}
+use Rattle.group_state.specs.inside.Stands.{AreStands, IsStand}
 use Rattle.group_state.proofs.GroupCopies.{few_parts}
 use Rattle.group_state.proofs.AheadInOrder.{few_events}
 use Rattle.group_state.proofs.NodeMoves.{first_motions}

@@ -2,7 +2,7 @@ use Rattle.std.proofs.Common.{◌≡◌, ◌∙◌, length, arith, rules, refl, 
 use Rattle.std.proofs.lemmas.List.{with_items_is}
 use Rattle.guest_memory.specs.LittleEndian.{low_bytes}
 use Rattle.guest_memory.specs.Memory.{put_piece}
-use Rattle.guest_memory.specs.Pages.{bytes_of_pages, stamps_of}
+use Rattle.guest_memory.specs.inside.Pages.{bytes_of_pages, stamps_of}
 use Rattle.guest_memory.proofs.NumberBytes.{length-low_bytes}
 use Rattle.guest_memory.proofs.FlatPages.{flat-length}
 use Rattle.guest_memory.proofs.PageRanges.{one-inside, one-outside}

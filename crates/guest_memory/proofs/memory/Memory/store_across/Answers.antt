@@ -2,7 +2,7 @@ use Rattle.std.proofs.Common.{◌≡◌, ◌≤◌, ◌+◌, length, arith}
 use Rattle.std.proofs.lemmas.List.{with_items_is}
 use Rattle.std.proofs.lemmas.Bool.Decides.{nat_tests}
 use Rattle.guest_memory.specs.LittleEndian.{low_bytes}
-use Rattle.guest_memory.specs.Pages.{bytes_of_pages}
+use Rattle.guest_memory.specs.inside.Pages.{bytes_of_pages}
 use Rattle.guest_memory.proofs.NumberBytes.{length-low_bytes}
 use Rattle.guest_memory.proofs.PageRanges.{few-bytes}
 use Rattle.guest_memory.proofs.PageWrites.{on_err, prefix-seen}

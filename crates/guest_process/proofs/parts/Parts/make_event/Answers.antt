@@ -7,9 +7,10 @@ use Rattle.wasm_step.specs.Strand.{IsHandler, answered_strand}
 use Rattle.guest_process.specs.Answers.{exited_process}
 use Rattle.guest_process.specs.GoesOn.{after_running, with_event_counted, handler, with_handler_frame}
 use Rattle.guest_process.specs.Kinds.{reply_value}
-use Rattle.guest_process.specs.Seen.{state_of}
+use Rattle.guest_process.specs.inside.Seen.{state_of}
 use Rattle.guest_process.specs.Sound.{StandsAtKind}
-use Rattle.guest_process.specs.State.{awaits_event, pending_kind, thread_at, with_thread}
+use Rattle.guest_process.specs.State.{awaits_event, thread_at, with_thread}
+use Rattle.guest_process.specs.inside.Advancing.{pending_kind}
 use Rattle.guest_process.proofs.EventCode.{acted_events, acted_handlers, acted_module, exits, goes, goes_out, is_out, stands_at, still_live, taken_is}
 use Rattle.guest_process.proofs.LegalEntries.{is_answer_of}
 use Rattle.guest_process.proofs.parts.Parts.make_event.Goals as goal

@@ -1,5 +1,5 @@
 use Rattle.std.proofs.Common.{◌<◌, length, arith}
-use Rattle.page_watch.specs.Places.{places_in}
+use Rattle.page_watch.specs.inside.Places.{places_in}
 use Rattle.page_watch.proofs.AddedPlaces.{low_behind, union_more}
 use Rattle.page_watch.proofs.places.AllPlaces.with.Goals as goal
 

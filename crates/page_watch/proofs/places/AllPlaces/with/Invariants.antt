@@ -1,7 +1,7 @@
 use Rattle.std.proofs.Common.{◌≡◌, true, drop, take}
 use Rattle.std.specs.List.{list_all}
 use Rattle.watch_expr.specs.Reads.{is_low_place}
-use Rattle.page_watch.specs.Places.{AreUnion, is_in_order, places_in}
+use Rattle.page_watch.specs.inside.Places.{AreUnion, is_in_order, places_in}
 use Rattle.page_watch.proofs.places.AllPlaces.with.Given as goal
 
 -- the places so far are added, and those to come are of globals with low numbers too

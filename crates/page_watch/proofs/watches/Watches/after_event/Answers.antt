@@ -3,7 +3,7 @@ use Rattle.std.specs.Prelude.{All, count_by}
 use Rattle.std.specs.List.{list_any}
 use Rattle.watch_expr.specs.declared.reads.Place.{Place}
 use Rattle.watch_expr.specs.Reads.{reads_of_expression}
-use Rattle.page_watch.specs.Places.{places_of}
+use Rattle.page_watch.specs.inside.Places.{places_of}
 use Rattle.page_watch.specs.Touch.{meets}
 use Rattle.page_watch.specs.Watched.{WatchStands, Watched}
 use Rattle.page_watch.proofs.AskedWatches.{counts, none_counted, none_stand, same_expressions, stand_now}

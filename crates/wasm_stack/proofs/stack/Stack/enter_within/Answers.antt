@@ -5,7 +5,7 @@ use Rattle.std.specs.Prelude.{Option}
 use Rattle.wasm_types.specs.Calls.{result_of}
 use Rattle.wasm_types.specs.Locals.{zeros}
 use Rattle.wasm_types.specs.Modules.{func_type}
-use Rattle.wasm_stack.specs.View.{thread_of}
+use Rattle.wasm_stack.specs.inside.Stacks.{thread_of}
 use Rattle.wasm_stack.specs.Thread.{Thread, arguments, called_function, called_with, without_operands}
 use Rattle.wasm_stack.specs.declared.stack.StackFrame.{StackFrame}
 use Rattle.wasm_stack.proofs.EnteredFrames.{IsEntered, grown, height as height_of, entered_sound, entered_view, size_within, within_of}

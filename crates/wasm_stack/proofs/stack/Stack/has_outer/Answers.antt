@@ -3,7 +3,7 @@ use Rattle.std.specs.Prelude.{is_some, reverse}
 use Rattle.std.proofs.lemmas.Bool.{ltb_from_iff, ltb-true, lt-ltb}
 use Rattle.std.proofs.lemmas.List.{length-reverse}
 use Rattle.wasm_stack.specs.Thread.{closed_level}
-use Rattle.wasm_stack.specs.View.{thread_of}
+use Rattle.wasm_stack.specs.inside.Stacks.{thread_of}
 use Rattle.wasm_stack.proofs.LevelEnds.{outer_is}
 use Rattle.wasm_stack.proofs.stack.Stack.has_outer.Goals as goal
 

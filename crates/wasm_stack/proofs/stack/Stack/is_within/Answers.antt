@@ -2,7 +2,7 @@ use Rattle.std.proofs.Common.{sym, ap, ◌∙◌, arith, take}
 use Rattle.std.proofs.lemmas.List.{length-reverse}
 use Rattle.std.specs.Prelude.{reverse}
 use Rattle.wasm_stack.specs.Thread.{fits_limits}
-use Rattle.wasm_stack.specs.View.{thread_of}
+use Rattle.wasm_stack.specs.inside.Stacks.{thread_of}
 use Rattle.wasm_stack.proofs.WithinLimits.{within_is}
 use Rattle.wasm_stack.proofs.StackViews.{length_of_frames, size_view}
 use Rattle.wasm_stack.proofs.stack.Stack.is_within.Goals as goal

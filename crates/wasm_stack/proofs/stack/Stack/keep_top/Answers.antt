@@ -1,6 +1,6 @@
 use Rattle.std.proofs.Common.{◌-◌, ap, sym, ◌∙◌, take, arith}
 use Rattle.wasm_stack.specs.Thread.{Thread, with_operand}
-use Rattle.wasm_stack.specs.View.{IsStack, thread_of}
+use Rattle.wasm_stack.specs.inside.Stacks.{IsStack, thread_of}
 use Rattle.wasm_stack.proofs.StackViews.{IsSound-operands, keeps_cleared, keeps_pushed, cleared_view, pushed_view, stack_top}
 use Rattle.wasm_stack.proofs.stack.Stack.keep_top.Goals as goal
 

@@ -2,7 +2,7 @@ use Rattle.std.proofs.Common.{◌-◌, Some, sym, ap, ◌∙◌, arith}
 use Rattle.wasm_stack.specs.After.{Goes, on_top}
 use Rattle.wasm_stack.specs.Control.{resumed_caller}
 use Rattle.wasm_stack.specs.Thread.{Thread, left_frame}
-use Rattle.wasm_stack.specs.View.{IsStack, thread_of}
+use Rattle.wasm_stack.specs.inside.Stacks.{IsStack, thread_of}
 use Rattle.wasm_stack.specs.declared.stack.Stack.TheInside.{Inside}
 use Rattle.wasm_stack.proofs.StackViews.{IsLeft, IsSound-operands, floor_low, keeps_pushed, left_sound, left_view, pushed_view, some_operand, stack_top}
 use Rattle.wasm_stack.proofs.stack.Stack.leave_with_top.Goals as goal

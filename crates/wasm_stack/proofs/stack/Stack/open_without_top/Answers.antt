@@ -4,7 +4,8 @@ use Rattle.wasm_types.specs.Code.{tree, trees}
 use Rattle.wasm_stack.specs.declared.stack.StackFrame.{StackFrame}
 use Rattle.wasm_stack.specs.declared.stack.Stack.TheInside.{Inside}
 use Rattle.wasm_stack.specs.Limits.{ThreadWithin}
-use Rattle.wasm_stack.specs.View.{entered_by, IsStack, opened_by, thread_of}
+use Rattle.wasm_stack.specs.View.{entered_by, opened_by}
+use Rattle.wasm_stack.specs.inside.Stacks.{IsStack, thread_of}
 use Rattle.wasm_stack.specs.Thread.{Thread, size_of_thread, without_operands}
 use Rattle.wasm_stack.proofs.WithinLimits.{within_without, within_elsewhere, within_opened}
 use Rattle.wasm_stack.proofs.StackViews.{IsSound-operands, below_last, keeps_without, opened_sound, opened_view, without_view}

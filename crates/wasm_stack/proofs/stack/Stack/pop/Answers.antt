@@ -1,6 +1,6 @@
 use Rattle.std.proofs.Common.{sym, ap, ◌∙◌, arith}
 use Rattle.wasm_stack.specs.Thread.{with_operand}
-use Rattle.wasm_stack.specs.View.{thread_of}
+use Rattle.wasm_stack.specs.inside.Stacks.{thread_of}
 use Rattle.wasm_stack.proofs.StackViews.{IsSound-operands, keeps_popped, popped_view}
 use Rattle.wasm_stack.proofs.stack.Stack.pop.Goals as goal
 

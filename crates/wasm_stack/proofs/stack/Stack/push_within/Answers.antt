@@ -1,7 +1,7 @@
 use Rattle.std.proofs.Common.{◌≡◌, ◌<◌, sym, ap, ◌∙◌, subst, arith}
 use Rattle.wasm_stack.specs.Limits.{ThreadWithin}
 use Rattle.wasm_stack.specs.Thread.{Thread, size_of_thread, with_operand}
-use Rattle.wasm_stack.specs.View.{thread_of}
+use Rattle.wasm_stack.specs.inside.Stacks.{thread_of}
 use Rattle.wasm_stack.proofs.WithinLimits.{within_pushed}
 use Rattle.wasm_stack.proofs.StackViews.{IsSound-operands, keeps_pushed, pushed_view, size_view}
 use Rattle.wasm_stack.proofs.stack.Stack.push_within.Goals as goal

@@ -2,7 +2,8 @@ use Rattle.std.proofs.Common.{◌≡◌, ◌-◌, ap, sym, ◌∙◌, arith}
 use Rattle.wasm_types.specs.Code.{tree, trees}
 use Rattle.wasm_types.specs.CodeLaws.{tree-loop}
 use Rattle.wasm_stack.specs.Thread.{Thread, OpenedLevel}
-use Rattle.wasm_stack.specs.View.{opened_by, innermost_opened, frame_labels}
+use Rattle.wasm_stack.specs.View.{opened_by}
+use Rattle.wasm_stack.specs.inside.Stacks.{innermost_opened, frame_labels}
 use Rattle.wasm_stack.proofs.StackViews.{innermost_top, opens_none}
 use Rattle.wasm_stack.proofs.stack.Stack.target.Goals as goal
 use Rattle.wasm_stack.proofs.stack.Stack.target.Goals.{After-index}

@@ -1,6 +1,7 @@
 use Rattle.std.proofs.Common.{◌≡◌, ℕ, Option, Some, sym, ap, ◌∙◌, subst}
 use Rattle.wasm_types.specs.Modules.{Module, module_of}
-use Rattle.wasm_step.specs.Fits.{StandsFit, ThreadFits}
+use Rattle.wasm_step.specs.inside.Standing.{StandsFit}
+use Rattle.wasm_step.specs.Fits.{ThreadFits}
 use Rattle.wasm_stack.specs.Control.{with_result}
 use Rattle.wasm_step.specs.Strand.{Strand, IsResult, library_result}
 use Rattle.wasm_stack.specs.Thread.{Thread}

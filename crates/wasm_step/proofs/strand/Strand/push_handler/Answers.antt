@@ -1,7 +1,7 @@
 use Rattle.std.proofs.Common.{◌≡◌, ℕ, [], ◌∷◌, Option, Some, None, sym, ap, ◌∙◌, subst}
 use Rattle.wasm_types.specs.declared.code.Value.TheVariants.{I32}
 use Rattle.wasm_types.specs.Modules.{Func, Module, module_of}
-use Rattle.wasm_step.specs.Fits.{StandsFit}
+use Rattle.wasm_step.specs.inside.Standing.{StandsFit}
 use Rattle.wasm_step.specs.Strand.{Strand, IsHandler, thread_in_handler, started_above}
 use Rattle.wasm_stack.specs.Thread.{Thread, waiting_frame}
 use Rattle.wasm_step.proofs.FirstThreads.{handler_fits}

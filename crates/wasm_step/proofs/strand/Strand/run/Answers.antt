@@ -3,8 +3,9 @@ use Rattle.wasm_types.specs.declared.modules.Module.{Module as RustModule}
 use Rattle.wasm_types.specs.Modules.{module_of}
 use Rattle.wasm_types.specs.Valid.{IsValid}
 use Rattle.wasm_step.specs.declared.run.Stopped.{Stopped}
-use Rattle.wasm_step.specs.Paused.{stopped_of}
-use Rattle.wasm_step.specs.Fits.{HaltFits, StandsFit}
+use Rattle.wasm_step.specs.inside.Paused.{stopped_of}
+use Rattle.wasm_step.specs.Fits.{HaltFits}
+use Rattle.wasm_step.specs.inside.Standing.{StandsFit}
 use Rattle.wasm_step.specs.Strand.{Strand}
 use Rattle.wasm_stack.specs.Thread.{Thread}
 use Rattle.wasm_step.proofs.BurstsFit.{leaving}

@@ -2,7 +2,7 @@ use Rattle.std.proofs.Common.{◌≡◌, ℕ, not, nat_lt, nat_eq, length, map, 
 use Rattle.std.proofs.lemmas.Bool.Decides.{nat_tests}
 use Rattle.std.proofs.lemmas.Simd.{map-map}
 use Rattle.wasm_types.specs.Modules.{global_def, global_type}
-use Rattle.wasm_typing.specs.Views.{global_of}
+use Rattle.wasm_typing.specs.inside.Views.{global_of}
 use Rattle.wasm_typing.proofs.context.Context.new.Goals as goal
 
 some_there : (n : ℕ) → not (nat_eq n 0) ≡ nat_lt 0 n

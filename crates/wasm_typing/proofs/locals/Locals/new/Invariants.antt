@@ -1,5 +1,5 @@
 use Rattle.std.proofs.Common.{◌≡◌, ◌++◌, drop}
-use Rattle.wasm_typing.specs.Locals.{ends_from}
+use Rattle.wasm_typing.specs.inside.Locals.{ends_from}
 use Rattle.wasm_typing.proofs.locals.Locals.new.Given as goal
 
 abbrev pub invariant-loop-run : goal.invariant-loop-run

@@ -14,8 +14,8 @@ use Rattle.group_record.specs.declared.recorder.Recorder.{Recorder}
 use Rattle.group_record.specs.Run.{GroupStart, head_of_log, name_of_process, no_progress_yet, processes_in_group}
 use Rattle.group_record.specs.Logs.{files_of, log_name}
 use Rattle.group_record.specs.Files.{IsStoppedRecording}
-use Rattle.group_record.specs.Members.{IsFreshMember}
-use Rattle.group_record.specs.Recorded.{FilesOf, KeepsUpWithRun, prints_kept_for}
+use Rattle.group_record.specs.inside.Members.{IsFreshMember}
+use Rattle.group_record.specs.inside.Recorded.{FilesOf, KeepsUpWithRun, prints_kept_for}
 use Rattle.group_record.specs.Answer.{group_of}
 
 -- ---- the processes

@@ -2,9 +2,10 @@
 use Rattle.std.specs.Prelude.{◌≡◌, ◌<◌, ◌≤◌, ◌^◌, length, map}
 use Rattle.group_state.specs.declared.group.Course.{Course}
 use Rattle.group_state.specs.declared.group.Group.TheInside.{Inside}
-use Rattle.group_state.specs.Place.{AreParts, PartsFit, GroupPlace, events_of_replays, head_of_replay}
-use Rattle.group_state.specs.Motions.{AreMotions}
-use Rattle.group_state.specs.Stands.{AreStands, IsStand}
+use Rattle.group_state.specs.Place.{AreParts, PartsFit, GroupPlace, events_of_replays}
+use Rattle.group_state.specs.inside.Turns.{head_of_replay}
+use Rattle.group_state.specs.inside.Motions.{AreMotions}
+use Rattle.group_state.specs.inside.Stands.{AreStands, IsStand}
 
 abbrev pub place_of_course : Course → GroupPlace
 place_of_course g = record { start = g.first.items; at = g.here.at }

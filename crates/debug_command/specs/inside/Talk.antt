@@ -14,7 +14,8 @@ use Rattle.friday_shell.specs.Session.{answers_of_lines, ends_session, opening_s
 use Rattle.debug_command.specs.declared.converse.Ended.{Ended}
 use Rattle.debug_command.specs.declared.converse.Ended.TheVariants as cause
 use Rattle.debug_command.specs.declared.converse.Talk.{Talk as TalkOfCode}
-use Rattle.debug_command.specs.Conversation.{AreAskedInTurn, AsksAtTerminal, TakesOfInput, TerminalState}
+use Rattle.debug_command.specs.Conversation.{AreAskedInTurn, AsksAtTerminal, TakesOfInput}
+use Rattle.debug_command.specs.inside.Conversing.{TerminalState}
 use Rattle.debug_command.specs.Debug.{early_lines, is_large_input, session_outcome, whole_lines, whole_part}
 use Rattle.debug_command.specs.Limits.{most_input}
 use Rattle.command_run.specs.Outcome.{outcome_text}

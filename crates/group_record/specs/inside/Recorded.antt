@@ -30,7 +30,7 @@ use Rattle.group_record.specs.Logs.{log_name, logs_of_steps}
 use Rattle.group_record.specs.Files.{FolderChange, IsStoppedRecording, change}
 use Rattle.group_record.specs.Images.{images_of}
 use Rattle.process_files.specs.Parts.{AreMadeInPart}
-use Rattle.group_record.specs.Members.{member_after}
+use Rattle.group_record.specs.inside.Members.{member_after}
 use Rattle.group_record.specs.Answer.{IsSummary}
 
 -- ---- the counts

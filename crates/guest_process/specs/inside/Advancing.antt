@@ -1,5 +1,5 @@
 -- Inside: the parts of an event in the order in which the code makes them, which no law and no public call speaks of.
-use Rattle.std.specs.Prelude.{ℕ, Option, Some}
+use Rattle.std.specs.Prelude.{ℕ, Option, Some, option_map}
 use Rattle.call_table.specs.declared.kind.Kind.{Kind}
 use Rattle.call_table.specs.declared.kind.Kind.TheVariants.{Spawn, Lock, Unlock, OnSignal}
 use Rattle.lib_calls.specs.declared.entry.Call.{Call}
@@ -10,7 +10,7 @@ use Rattle.guest_process.specs.declared.waiting.Waiting.{Waiting}
 use Rattle.guest_process.specs.Answers.{after_need, handled, locked, narrow, spawned, unlocked, with_answer}
 use Rattle.guest_process.specs.GoesOn.{after_running, handler, with_handler_frame}
 use Rattle.guest_process.specs.Kinds.{reply_value}
-use Rattle.guest_process.specs.State.{State, pending_kind}
+use Rattle.guest_process.specs.State.{State, thread_at}
 
 -- the state after an answer, but for the end of a thread that calls `exit`
 abbrev pub acted_on_answer : Option Kind → State → ℕ → Call → Answer → State
@@ -20,11 +20,15 @@ acted_on_answer (Some Unlock) S t c a = after_need (unlocked S (narrow c.a0) t) 
 acted_on_answer (Some OnSignal) S t c a = after_need (handled S (narrow c.a0) (narrow c.a1)) S
 acted_on_answer _ S t c a = with_answer S c a
 
--- the state after what the answer does, but for the end of a thread that calls `exit`
-abbrev pub acted_by_entry : State → Entry → State
-acted_by_entry S e = acted_on_answer (pending_kind S e.thread) S e.thread e.call (answer_of e)
-
 -- the state once the thread of an entry went on, from one in which it was taken out and its answer has had its effects
 abbrev pub thread_gone_on : State → Waiting → Entry → State
 thread_gone_on S w e =
     after_running S e.thread (with_handler_frame S.store.«module» (answered_strand w.strand (reply_value w.kind e.reply)) e.signal (handler S.handlers e.signal))
+
+-- the kind of the call at which it is
+abbrev pub pending_kind : State → ℕ → Option Kind
+pending_kind S t = option_map (λ w. w.kind) (thread_at S t)
+
+-- the state after what the answer does, but for the end of a thread that calls `exit`
+abbrev pub acted_by_entry : State → Entry → State
+acted_by_entry S e = acted_on_answer (pending_kind S e.thread) S e.thread e.call (answer_of e)

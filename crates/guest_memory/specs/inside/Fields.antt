@@ -1,7 +1,7 @@
 -- The fields of a memory.
 use Rattle.std.specs.Prelude.{◌≡◌, ◌≤◌, ◌*◌, ◌%◌, length}
 use Rattle.guest_memory.specs.Memory.{Memory}
-use Rattle.guest_memory.specs.Pages.{AreWhole, bytes_of_pages, stamps_of}
+use Rattle.guest_memory.specs.inside.Pages.{AreWhole, bytes_of_pages, stamps_of}
 use Rattle.guest_memory.specs.declared.memory.Memory.TheInside.{Inside}
 
 -- the memory that the fields tell

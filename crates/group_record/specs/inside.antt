@@ -1,0 +1,5 @@
+-- What no public contract cites.
+pub mod Around
+pub mod Begun
+pub mod Members
+pub mod Recorded

@@ -1,0 +1,6 @@
+-- What no public contract cites.
+pub mod At
+pub mod Motions
+pub mod Stands
+pub mod Tallying
+pub mod Turns

@@ -1,0 +1,27 @@
+-- The state that the parts of a process stand for.
+use Rattle.std.specs.Prelude.{◌≡◌}
+use Rattle.guest_process.specs.declared.parts.Parts.{Parts}
+use Rattle.wasm_types.specs.Modules.{module_of}
+use Rattle.wasm_step.specs.Suits.{SuitsModule}
+use Rattle.guest_process.specs.State.{State}
+use Rattle.guest_process.specs.Fits.{StateFits}
+use Rattle.guest_process.specs.Sound.{IsSoundProcess}
+
+abbrev pub state_of : Parts → State
+state_of p = record {
+  who = p.who;
+  count = p.count;
+  store = p.store;
+  crew = p.crew;
+  handlers = p.handlers;
+  clock = p.clock;
+  events = p.events;
+  end = p.end;
+}
+
+-- what holds of each process of a valid module
+pub record IsOfModule (p : Parts) : Type 0 where
+  pub same_module : module_of p.«module».now ≡ p.store.«module»
+  pub suits : SuitsModule p.store
+  pub fits : StateFits (state_of p)
+  pub sound : IsSoundProcess (state_of p)

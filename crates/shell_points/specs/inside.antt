@@ -1,0 +1,4 @@
+-- What no public contract cites.
+pub mod Reading
+pub mod Seen
+pub mod Watches
