@@ -180,17 +180,17 @@ module _ (strange : StrangeBySend) where
   count_is group steps cut (q ∷ ps) (r ∷ rs) each node p at = ap (λ (h : Head). h.count) each.0.head
 
   pub recorded_streams : RecordedStreams
-  recorded_streams group steps cut folder ps pairs s j node p e at here taken (FromOutside bytes given tag payload) = tt
-  recorded_streams group steps cut folder ps pairs s j node p e at here taken (FromSend q k sent is_entry is_sent_into to tells stands) = λ small other other_at.
+  recorded_streams run cut folder ps pairs s j node p e at here taken (FromOutside bytes given tag payload) = tt
+  recorded_streams run cut folder ps pairs s j node p e at here taken (FromSend q k sent is_entry is_sent_into to tells stands) = λ small other other_at.
       let start = s.start in
       let order = events_of_replays start in
       let told_by = tells small in
       let place = stands small other other_at in
       let send_event : NodeEvent Entry = node_event other sent in
-      let in_range = none_beyond (length s.sorted) order (λ n above. s.shows.order.own n ∙ list_beyond (map (entries_of_steps steps) s.sorted) n (omega (arith, above, length_lists steps s.sorted))) in
+      let in_range = none_beyond (length s.sorted) order (λ n above. s.shows.order.own n ∙ list_beyond (map (entries_of_steps run.steps) s.sorted) n (omega (arith, above, length_lists run.steps s.sorted))) in
       let b = between (λ x. x.node < length s.sorted) order s.shows.order.sorted in_range place.0 j send_event place.1 place.2 in
-      let processes = processes_are group steps cut s.sorted start s.each in
-      let count = count_is group steps cut s.sorted start s.each other q other_at in
+      let processes = processes_are run.group run.steps cut s.sorted start s.each in
+      let count = count_is run.group run.steps cut s.sorted start s.each other q other_at in
       let of_other : process_at start other ≡ q = ap (λ (qs : List ℕ). slice_index_or qs other 0) processes ∙ index_at s.sorted other q other_at in
       let within = slice_get_within s.sorted other q other_at in
       let sending = sending_of q sent in

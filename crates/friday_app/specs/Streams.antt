@@ -5,14 +5,14 @@ use Rattle.lamport_tag.specs.declared.Tag.{Tag}
 use Rattle.lib_calls.specs.Traffic.{is_taken}
 use Rattle.lib_calls.specs.declared.entry.Entry.{Entry}
 use Rattle.group_order.specs.Order.{node_event}
-use Rattle.group_record.specs.Run.{GroupStart, RunStep}
 use Rattle.group_state.specs.Place.{events_of_replays}
+use Rattle.group_state.specs.Tally.{AcceptedEvent}
 use Rattle.proc_replay.specs.Replaying.{Replaying}
 use Rattle.log_pairs.specs.Pairs.{Pair}
 use Rattle.byte_streams.specs.declared.mark.PayloadMark.TheVariants.{Strange}
 use Rattle.byte_streams.specs.Traffic.{ReceivedPayload, SentPayload, SendOrReceive, mark_of_receive, mark_of_send}
 use Rattle.headline.specs.Headline.{IsShown}
-use Rattle.headline.specs.Shown.{FromOutside, FromSend, ReceivedDatagram}
+use Rattle.headline.specs.Shown.{FromOutside, FromSend, ReceivedDatagram, RecordedRun}
 use Rattle.streams_command.specs.Streams.{traffic_of_events}
 
 -- what process q sent by this event
@@ -31,24 +31,26 @@ receiving_of p tag e = record { by = p; tag = tag; payload = e.incoming }
 abbrev pub traffic_before : List Replaying → ℕ → List SendOrReceive
 traffic_before start k = traffic_of_events start (take k (events_of_replays start))
 
--- The send of process q comes before place j of the order. There process p took what it sent, under its name; and to the
+-- The send, an event of a node, comes before place j of the order. There what it sent was taken, under its name; and to the
 -- streams this is not strange, unless the send is.
-pub record IsSendTaken (start : List Replaying) (j p : ℕ) (e : Entry) (q node : ℕ) (sent : Entry) : Type 0 where
+pub record IsSendTaken (start : List Replaying) (j : ℕ) (taken : AcceptedEvent) (node : ℕ) (sent : AcceptedEvent) : Type 0 where
   pub place : ℕ
   pub before : place < j
-  pub stands : slice_get (events_of_replays start) place ≡ Some (node_event node sent)
-  pub named : e.tag ≡ Some (tag_of q sent)
-  pub marks : mark_of_send (sending_of q sent) (traffic_before start place) ≢ Strange
-      → mark_of_receive (receiving_of p (tag_of q sent) e) (traffic_before start j) ≢ Strange
+  pub stands : slice_get (events_of_replays start) place ≡ Some (node_event node sent.entry)
+  pub named : taken.entry.tag ≡ Some (tag_of sent.process sent.entry)
+  pub marks : mark_of_send (sending_of sent.process sent.entry) (traffic_before start place) ≢ Strange
+      → mark_of_receive (receiving_of taken.process (tag_of sent.process sent.entry) taken.entry) (traffic_before start j) ≢ Strange
 
 -- this holds of a datagram that a process sent whose log is given, where its clock is one that a tag can bear
-abbrev pub ReadsRecordedSend : (start : List Replaying) (group : GroupStart) (steps : List RunStep) (ps : List ℕ) (j p : ℕ) (e : Entry) → ReceivedDatagram group steps ps (events_of_replays start) j p e → Type 0
-ReadsRecordedSend start group steps ps j p e (FromOutside bytes given tag payload) = Unit {0}
-ReadsRecordedSend start group steps ps j p e (FromSend q k sent at is to tells before) = sent.clock ≤ 2 ^ 62 → (node : ℕ) → slice_get ps node ≡ Some q → IsSendTaken start j p e q node sent
+abbrev pub ReadsRecordedSend : {run : RecordedRun} {ps : List ℕ} {j : ℕ} {taken : AcceptedEvent} → (start : List Replaying)
+    → ReceivedDatagram run ps (events_of_replays start) j taken → Type 0
+ReadsRecordedSend start (FromOutside bytes given tag payload) = Unit {0}
+ReadsRecordedSend {ps = ps} {j = j} {taken = taken} start (FromSend q k sent at is to tells before) =
+    sent.clock ≤ 2 ^ 62 → (node : ℕ) → slice_get ps node ≡ Some q → IsSendTaken start j taken node (record { process = q; entry = sent })
 
 -- wherever the logs of a recording are shown, each taken datagram that was sent is read so
 abbrev pub RecordedStreams : Type 0
 RecordedStreams =
-    (group : GroupStart) (steps : List RunStep) (cut : ℕ → List ℕ) (folder : Folder) (ps : List ℕ) (pairs : List Pair) → (s : IsShown group steps cut folder ps pairs)
+    (run : RecordedRun) (cut : ℕ → List ℕ) (folder : Folder) (ps : List ℕ) (pairs : List Pair) → (s : IsShown run cut folder ps pairs)
     → (j node p : ℕ) (e : Entry) → slice_get s.sorted node ≡ Some p → slice_get (events_of_replays s.start) j ≡ Some (node_event node e) → IsTrue (is_taken e)
-    → (r : ReceivedDatagram group steps s.sorted (events_of_replays s.start) j p e) → ReadsRecordedSend s.start group steps s.sorted j p e r
+    → (r : ReceivedDatagram run s.sorted (events_of_replays s.start) j (record { process = p; entry = e })) → ReadsRecordedSend s.start r

@@ -19,7 +19,7 @@ use Rattle.group_record.specs.Run.{GroupStart, Had, RunStep, act_of, entries_of_
 use Rattle.group_record.specs.Standing.{IsRun}
 use Rattle.group_state.specs.Laws.{SendsFirst}
 use Rattle.group_state.specs.Place.{PartsFit, entry_clock, events_of_replays}
-use Rattle.headline.specs.Shown.{FromOutside, FromSend, ReceivedDatagram, StandsBefore}
+use Rattle.headline.specs.Shown.{FromOutside, FromSend, ReceivedDatagram, StandsBefore, recorded_run}
 use Rattle.headline.proofs.RecordedCourse.{entries_stay}
 use Rattle.headline.proofs.RecordedOrder.{own_is, own_of, place_of}
 use Rattle.headline.proofs.ToldEntries.{nth_is_sent, was_had}
@@ -65,7 +65,7 @@ module _ (group : GroupStart) (steps : List RunStep) (ps : List ℕ) (start : Li
 
   module _ (j node p : ℕ) (e : Entry) (at : slice_get (events_of_replays start) j ≡ Some (node_event node e)) (later early : List RunStep) (event : Event) (split : steps ≡ later ++ (Had p event ∷ early)) (is : event.entry ≡ e)
       (t : TakesDatagram (processes_in_group group) early p event) where
-    from_send : (q n : ℕ) → t.giver.act ≡ Deliver q n → ReceivedDatagram group steps ps (events_of_replays start) j p e
+    from_send : (q n : ℕ) → t.giver.act ≡ Deliver q n → ReceivedDatagram (recorded_run group steps) ps (events_of_replays start) j (record { process = p; entry = e })
     from_send q n act =
         let s = t.sent q n act in
         let told = t.told q n act in
@@ -76,7 +76,7 @@ module _ (group : GroupStart) (steps : List RunStep) (ps : List ℕ) (start : Li
         let named : s.sent.clock ≤ 2 ^ 62 → TellsSend e q s.sent = λ low. subst (λ (e : Entry). TellsSend e q s.sent) is (s.named low) in
         FromSend q told.0 s.sent among (nth_is_sent (processes_in_group group) t.giver.earlier q n s.sent s.is) s.to named (λ low. before j node q told.0 e s.sent at among (named low).tag)
 
-    from_outside : (q : ℕ) (given : List ℕ) → t.giver.act ≡ Inject q given → Injects q p given t.bytes → ReceivedDatagram group steps ps (events_of_replays start) j p e
+    from_outside : (q : ℕ) (given : List ℕ) → t.giver.act ≡ Inject q given → Injects q p given t.bytes → ReceivedDatagram (recorded_run group steps) ps (events_of_replays start) j (record { process = p; entry = e })
     from_outside q given act in_it =
         let there : t.giver.act ≡ Inject p t.bytes = act ∙ ap (λ (n : ℕ). Inject n given) in_it.to ∙ ap (Inject p) in_it.same in
         FromOutside t.bytes
@@ -84,7 +84,7 @@ module _ (group : GroupStart) (steps : List RunStep) (ps : List ℕ) (start : Li
         (subst (λ (e : Entry). e.tag ≡ (read_datagram (processes_in_group group) t.bytes).0) is t.tag)
         (subst (λ (e : Entry). e.incoming ≡ take e.call.a1 (read_datagram (processes_in_group group) t.bytes).1) is t.payload)
 
-    by_act : (act : Act) → t.giver.act ≡ act → gives (processes_in_group group) t.giver.earlier act p ≡ t.bytes ∷ [] → ReceivedDatagram group steps ps (events_of_replays start) j p e
+    by_act : (act : Act) → t.giver.act ≡ act → gives (processes_in_group group) t.giver.earlier act p ≡ t.bytes ∷ [] → ReceivedDatagram (recorded_run group steps) ps (events_of_replays start) j (record { process = p; entry = e })
     by_act (world.Deliver q n) act given = from_send q n act
     by_act (world.Inject q bytes) act given = from_outside q bytes act (injects q p bytes t.bytes given)
     by_act (world.Event q x) act given = cc
@@ -93,11 +93,11 @@ module _ (group : GroupStart) (steps : List RunStep) (ps : List ℕ) (start : Li
     by_act (world.Signal q signal) act given = cc
     by_act (world.Kill q) act given = cc
 
-    came : ReceivedDatagram group steps ps (events_of_replays start) j p e
+    came : ReceivedDatagram (recorded_run group steps) ps (events_of_replays start) j (record { process = p; entry = e })
     came = by_act t.giver.act refl t.giver.gives_it
 
   pub received : ((later early : List RunStep) (p : ℕ) (e : Event) → steps ≡ later ++ (Had p e ∷ early) → IsTrue (is_taken e.entry) → TakesDatagram (processes_in_group group) early p e)
-      → (j node p : ℕ) (e : Entry) → slice_get ps node ≡ Some p → slice_get (events_of_replays start) j ≡ Some (node_event node e) → IsTrue (is_taken e) → ReceivedDatagram group steps ps (events_of_replays start) j p e
+      → (j node p : ℕ) (e : Entry) → slice_get ps node ≡ Some p → slice_get (events_of_replays start) j ≡ Some (node_event node e) → IsTrue (is_taken e) → ReceivedDatagram (recorded_run group steps) ps (events_of_replays start) j (record { process = p; entry = e })
   received takes j node p e is_node at taken =
       let own = own_of (events_of_replays start) j node e at in
       let was = was_had group steps p own.0 e run (ap (λ (es : List Entry). slice_get es own.0) (sym (own_is steps ps (events_of_replays start) order node p is_node)) ∙ own.1) in

@@ -11,7 +11,7 @@ use Rattle.proc_replay.specs.Replaying.{Replaying}
 use Rattle.group_record.specs.Run.{GroupStart, RunStep, entries_of_steps}
 use Rattle.group_state.specs.Laws.{Ordered}
 use Rattle.group_state.specs.Place.{PartsFit, after_entries, entry_clock, events_of_replays, node_event_count, states_of_nodes, states_from}
-use Rattle.headline.specs.Shown.{AreShown, IsRecorded, ShowsProcess}
+use Rattle.headline.specs.Shown.{AreShown, IsRecorded, ShowsProcess, recorded_run}
 
 -- ---- the replay of a process
 
@@ -73,7 +73,7 @@ state_at a (s ∷ rs) es (suc i) r at =
     state_at (suc a) rs es i r at ∙ ap (λ (n : ℕ). Some (after_entries r (node_event_count n es))) here
 
 pub is_recorded : (group : GroupStart) (steps : List RunStep) (cut : ℕ → List ℕ) (ps : List ℕ) (start : List Replaying) → AreShown group steps cut ps start → IsOrder entry_clock (map (entries_of_steps steps) ps) (events_of_replays start)
-    → (k node p : ℕ) → slice_get ps node ≡ Some p → IsRecorded group steps p (node_event_count node (take k (events_of_replays start))) (states_of_nodes start k) node
+    → (k node p : ℕ) → slice_get ps node ≡ Some p → IsRecorded (recorded_run group steps) p (node_event_count node (take k (events_of_replays start))) (states_of_nodes start k) node
 is_recorded group steps cut ps start shown order k node p at =
     let n = node_at group steps cut ps start shown node p at in
     let count = node_event_count node (take k (events_of_replays start)) in

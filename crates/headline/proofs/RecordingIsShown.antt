@@ -30,7 +30,7 @@ use Rattle.record_command.specs.Agreement.{IsRecordable, LogsAgree, MayFollowLog
 use Rattle.replay_command.specs.Report.{replay_work}
 use Rattle.debug_command.specs.Debug.{opened_outcome}
 use Rattle.headline.specs.Headline.{AreDistinct, AreProcesses, Headline, HoldsProcess, IsShown, pairs_of_processes}
-use Rattle.headline.specs.Shown.{AreShown, ShowsProcess}
+use Rattle.headline.specs.Shown.{AreShown, ShowsProcess, recorded_run}
 use Rattle.headline.proofs.RecordedGroup.{HasBegun, has_begun, pair_stands, schedule_formed, together}
 use Rattle.headline.proofs.LoadedPairs.{AllStand, AllTogether, opened}
 use Rattle.headline.proofs.RecordedOrder.{is_recorded, order_is}
@@ -159,7 +159,7 @@ module _ (reads : ReadsModules) (gives : GivesSchedules) (beginning : Beginning)
   all_together [] below holds apart = tt
   all_together (p ∷ ps) below holds apart = (one_together p below.0 ps below.1 holds.1 apart.0, all_together ps below.1 holds.1 apart.1)
 
-  pub is_shown : (ps : List ℕ) → AreProcesses (processes_in_group (group_in r)) ps → AllByRecursion (HoldsProcess r steps cut folder) ps → IsShown (group_in r) steps cut folder ps (pairs_of_processes r.schedule ps)
+  pub is_shown : (ps : List ℕ) → AreProcesses (processes_in_group (group_in r)) ps → AllByRecursion (HoldsProcess r steps cut folder) ps → IsShown (recorded_run (group_in r) steps) cut folder ps (pairs_of_processes r.schedule ps)
   is_shown ps are holds =
       let pairs = pairs_of_processes r.schedule ps in
       let unsorted = replays ps are.within holds in

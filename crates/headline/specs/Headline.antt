@@ -7,7 +7,7 @@ use Rattle.schedule_text.specs.Schedule.{Schedule}
 use Rattle.group_record.specs.Answer.{names_of}
 use Rattle.group_record.specs.Images.{images as all_images}
 use Rattle.group_record.specs.Logs.{log_name}
-use Rattle.group_record.specs.Run.{GroupStart, IsMoment, RunStep, log_of, name_of_process, processes_in_group}
+use Rattle.group_record.specs.Run.{IsMoment, RunStep, log_of, name_of_process, processes_in_group}
 use Rattle.proc_replay.specs.Replaying.{Replaying}
 use Rattle.command_run.specs.declared.status.Status.{Status}
 use Rattle.command_run.specs.Call.{IsAnswerStatus}
@@ -16,7 +16,7 @@ use Rattle.record_command.specs.Agreement.{IsAtMomentOfRun, IsStoppedInHeads, Is
 use Rattle.record_command.specs.Expected.{module_name}
 use Rattle.replay_command.specs.Report.{replay_outcome}
 use Rattle.debug_command.specs.Debug.{debug_outcome, session_outcome}
-use Rattle.headline.specs.Shown.{AreShown, ShowsGroup, no_cut, recorded_images, recorded_report}
+use Rattle.headline.specs.Shown.{AreShown, RecordedRun, ShowsGroup, no_cut, recorded_images, recorded_report, recorded_run}
 
 -- ---- the words that name some of a recording
 
@@ -61,26 +61,26 @@ pub record HoldsProcess {before : Folder} {schedule_name : List ℕ} (r : IsReco
 -- ---- the whole
 
 -- the pairs of these processes are read to replays, which show what was recorded
-pub record IsShown (group : GroupStart) (steps : List RunStep) (cut : ℕ → List ℕ) (folder : Folder) (ps : List ℕ) (pairs : List Pair) : Type 0 where
+pub record IsShown (run : RecordedRun) (cut : ℕ → List ℕ) (folder : Folder) (ps : List ℕ) (pairs : List Pair) : Type 0 where
   -- the processes in the order of their numbers, and their replays
   pub sorted : List ℕ
   pub in_order : AreInOrder ps sorted
   pub start : List Replaying
   pub opened : replays_of_pairs folder pairs ≡ Ok start
-  pub each : AreShown group steps cut sorted start
+  pub each : AreShown run.group run.steps cut sorted start
   -- `replay` says what was recorded, and leaves the images of it: with all processes those of the recording
-  pub replay : (images : Bool) → replay_outcome images pairs folder ≡ Ok (recorded_report images group steps cut sorted)
-  pub images : length ps ≡ processes_in_group group → recorded_images group steps sorted ≡ all_images group steps
+  pub replay : (images : Bool) → replay_outcome images pairs folder ≡ Ok (recorded_report images run.group run.steps cut sorted)
+  pub images : length ps ≡ processes_in_group run.group → recorded_images run.group run.steps sorted ≡ all_images run.group run.steps
   -- `debug` answers each line by the group of these replays alone, which shows the recording
   pub debug : (input : List ℕ) → debug_outcome pairs (Some input) folder ≡ Some (session_outcome start input)
-  pub shows : ShowsGroup group steps sorted start
+  pub shows : ShowsGroup run.group run.steps sorted start
 
 -- At each moment of the run of a schedule that can be recorded, so also where the recording was stopped or a log was full:
 -- in every folder that holds the modules and the logs of some processes, these are shown as they were recorded
 abbrev pub Headline : Type 0
 Headline = (before folder : Folder) (schedule_name : List ℕ) (r : IsRecordable before schedule_name) (steps : List RunStep) → IsMoment steps (steps_in r)
     → (cut : ℕ → List ℕ) (ps : List ℕ) → AreProcesses (processes_in_group (group_in r)) ps → AllByRecursion (HoldsProcess r steps cut folder) ps
-    → IsShown (group_in r) steps cut folder ps (pairs_of_processes r.schedule ps)
+    → IsShown (recorded_run (group_in r) steps) cut folder ps (pairs_of_processes r.schedule ps)
 
 -- ---- what a recording leaves
 
@@ -93,7 +93,7 @@ pub record HasFiles {before : Folder} {schedule_name : List ℕ} (r : IsRecordab
 abbrev pub ShowsSteps : {before : Folder} {schedule_name : List ℕ} → IsRecordable before schedule_name → List RunStep → (ℕ → List ℕ) → Folder → Type 0
 ShowsSteps r steps cut after =
     (folder : Folder) (ps : List ℕ) → AreProcesses (processes_in_group (group_in r)) ps → AllByRecursion (HasFiles r after folder) ps
-    → IsShown (group_in r) steps cut folder ps (pairs_of_processes r.schedule ps)
+    → IsShown (recorded_run (group_in r) steps) cut folder ps (pairs_of_processes r.schedule ps)
 
 -- a moment of the run, which is shown
 pub record ShowsMoment {before : Folder} {schedule_name : List ℕ} (r : IsRecordable before schedule_name) (after : Folder) : Type 0 where

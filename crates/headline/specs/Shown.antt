@@ -22,6 +22,14 @@ use Rattle.group_state.specs.Tally.{AcceptedEvent, of_process, tally_of_events}
 use Rattle.command_run.specs.Outcome.{CommandWork}
 use Rattle.replay_command.specs.Report.{report_text}
 
+-- a recording as far as it came: its group, and the steps of the run
+pub record RecordedRun : Type 0 where
+  pub group : GroupStart
+  pub steps : List RunStep
+
+abbrev pub recorded_run : GroupStart → List RunStep → RecordedRun
+recorded_run group steps = record { group = group; steps = steps }
+
 -- ---- one process
 
 -- after no log anything stands
@@ -76,25 +84,28 @@ recorded_report images group steps cut ps = record {
 -- ---- what `debug` shows
 
 -- after n events a process stood in the recording as this node does
-pub record IsRecorded (group : GroupStart) (steps : List RunStep) (p n : ℕ) (now : List State) (node : ℕ) : Type 0 where
+pub record IsRecorded (run : RecordedRun) (p n : ℕ) (now : List State) (node : ℕ) : Type 0 where
   pub state : State
   pub shown : slice_get now node ≡ Some state
-  pub recorded : slice_get (recorded_states group steps p) n ≡ Some state
+  pub recorded : slice_get (recorded_states run.group run.steps p) n ≡ Some state
 
 -- where the process q is one of these, this event of its own comes before place j of the order
 abbrev pub StandsBefore : List ℕ → List (NodeEvent Entry) → ℕ → ℕ → Entry → Type 0
 StandsBefore ps order j q sent =
     (node : ℕ) → slice_get ps node ≡ Some q → (i : ℕ) × (i < j) × (slice_get order i ≡ Some (node_event node sent))
 
--- the datagram that an event of process p took, at place j of the order, came from outside, or a process had sent it to p.
--- Then the event names the send and tells a first part of what went out, and the send comes before it, unless the
+-- the datagram that an event took, at place j of the order, came from outside, or a process had sent it to that of the
+-- event. Then the event names the send and tells a first part of what went out, and the send comes before it, unless the
 -- send's clock is past those that a tag can bear
-pub data ReceivedDatagram (group : GroupStart) (steps : List RunStep) (ps : List ℕ) (order : List (NodeEvent Entry)) (j p : ℕ) (e : Entry) : Type 0 where
-  FromOutside : (bytes : List ℕ) → Contains (history_of_steps steps) (Inject p bytes) → e.tag ≡ (read_datagram (processes_in_group group) bytes).0
-      → e.incoming ≡ take e.call.a1 (read_datagram (processes_in_group group) bytes).1 → ReceivedDatagram group steps ps order j p e
-  FromSend : (q k : ℕ) → (sent : Entry) → slice_get (entries_of_steps steps q) k ≡ Some sent → IsTrue (is_sent (processes_in_group group) sent) → sent.call.a0 ≡ p
-      → (sent.clock ≤ 2 ^ 62 → TellsSend e q sent) → (sent.clock ≤ 2 ^ 62 → StandsBefore ps order j q sent)
-      → ReceivedDatagram group steps ps order j p e
+pub data ReceivedDatagram (run : RecordedRun) (ps : List ℕ) (order : List (NodeEvent Entry)) (j : ℕ) (taken : AcceptedEvent) : Type 0 where
+  FromOutside : (bytes : List ℕ) → Contains (history_of_steps run.steps) (Inject taken.process bytes)
+      → taken.entry.tag ≡ (read_datagram (processes_in_group run.group) bytes).0
+      → taken.entry.incoming ≡ take taken.entry.call.a1 (read_datagram (processes_in_group run.group) bytes).1
+      → ReceivedDatagram run ps order j taken
+  FromSend : (q k : ℕ) → (sent : Entry) → slice_get (entries_of_steps run.steps q) k ≡ Some sent
+      → IsTrue (is_sent (processes_in_group run.group) sent) → sent.call.a0 ≡ taken.process
+      → (sent.clock ≤ 2 ^ 62 → TellsSend taken.entry q sent) → (sent.clock ≤ 2 ^ 62 → StandsBefore ps order j q sent)
+      → ReceivedDatagram run ps order j taken
 
 -- replays of these processes, as one group
 pub record ShowsGroup (group : GroupStart) (steps : List RunStep) (ps : List ℕ) (start : List Replaying) : Type 0 where
@@ -103,7 +114,7 @@ pub record ShowsGroup (group : GroupStart) (steps : List RunStep) (ps : List ℕ
   pub only : (es : List (NodeEvent Entry)) → IsOrder entry_clock (map (entries_of_steps steps) ps) es → es ≡ events_of_replays start
   -- at position k each process is as it was in the recording after as many of its events as stand among the first k
   pub moments : (k node p : ℕ) → slice_get ps node ≡ Some p
-      → IsRecorded group steps p (node_event_count node (take k (events_of_replays start))) (states_of_nodes start k) node
+      → IsRecorded (recorded_run group steps) p (node_event_count node (take k (events_of_replays start))) (states_of_nodes start k) node
   -- each taken datagram is one from outside, or its send comes before it
   pub receives : (j node p : ℕ) (e : Entry) → slice_get ps node ≡ Some p → slice_get (events_of_replays start) j ≡ Some (node_event node e)
-      → IsTrue (is_taken e) → ReceivedDatagram group steps ps (events_of_replays start) j p e
+      → IsTrue (is_taken e) → ReceivedDatagram (recorded_run group steps) ps (events_of_replays start) j (record { process = p; entry = e })

@@ -83,7 +83,7 @@ came_to command outcome folder printed middle new answer run known told said ans
 }
 
 these : GivesSchedules → (images : Bool) (before : Folder) (name : List ℕ) (r : IsRecordable before name) (second : Option Command) (old middle new : Outside) (answer : Status) → old.told ≡ Some before
-    → CommandRun (Some (Record images name)) old middle ends.Done → CommandRun second middle new answer → (ps : List ℕ) → AreProcesses (processes_in_group (group_in r)) ps → ShowsThese images r ps second old new answer
+    → CommandRun (Some (Record images name)) old middle ends.Done → CommandRun second middle new answer → (ps : List ℕ) → AreProcesses (processes_in_group (group_in r)) ps → ShowsThese images r ps (record { command = second; old = old; new = new; answer = answer })
 these gives images before name r second old middle new answer is first run ps are =
     let rec = recorded gives images before name r old middle is first in
     let pairs = pairs_of_processes r.schedule ps in

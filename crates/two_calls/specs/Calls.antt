@@ -15,7 +15,7 @@ use Rattle.record_command.specs.Record.{recorded_work}
 use Rattle.debug_command.specs.Debug.{session_outcome}
 use Rattle.friday_app.specs.Command.{Command, Debug, Record, Replay}
 use Rattle.headline.specs.Headline.{AreProcesses, IsShown, pairs_of_processes}
-use Rattle.headline.specs.Shown.{no_cut, recorded_report}
+use Rattle.headline.specs.Shown.{no_cut, recorded_report, recorded_run}
 
 -- a call had this outcome: its text follows what was printed before, and its files in the folder that was there
 pub record CameTo (outcome : CommandOutcome) (folder : Folder) (printed : Option (List ℕ)) (new : Outside) (answer : Status) : Type 0 where
@@ -27,23 +27,30 @@ pub record CameTo (outcome : CommandOutcome) (folder : Folder) (printed : Option
 abbrev pub printed_by : {before : Folder} {schedule_name : List ℕ} → Bool → IsRecordable before schedule_name → Option (List ℕ) → Option (List ℕ)
 printed_by images r printed = append_known printed (recorded_work images (group_in r) (run_in r)).text
 
+-- a call that shows a recording: its command, the outside before the recording and after the call, and the status
+pub record ShowingCall : Type 0 where
+  pub command : Option Command
+  pub old : Outside
+  pub new : Outside
+  pub answer : Status
+
 -- A recording was done. The folder that it left shows these processes as they were recorded, and the second command, where
 -- it names their pairs, comes to what that is: to the report of the recorded lines, or to the session over the replays
 -- that show the recording
 pub record ShowsThese {before : Folder} {schedule_name : List ℕ} (images : Bool) (r : IsRecordable before schedule_name) (ps : List ℕ)
-    (second : Option Command) (old new : Outside) (answer : Status) : Type 0 where
+    (second : ShowingCall) : Type 0 where
   pub whole : (run_in r).full ≡ None
   pub folder : Folder
   pub left : with_files (logs_of_steps (group_in r) (steps_in r) ++ images_of images (group_in r) (run_in r)) (Some before) ≡ Some folder
-  pub shown : IsShown (group_in r) (steps_in r) no_cut folder ps (pairs_of_processes r.schedule ps)
-  pub replayed : (asked : Bool) → second ≡ Some (Replay asked (pairs_of_processes r.schedule ps)) → IsAnswerStatus answer
-      → CameTo (Ok (recorded_report asked (group_in r) (steps_in r) no_cut shown.sorted)) folder (printed_by images r old.taken) new answer
-  pub debugged : second ≡ Some (Debug (pairs_of_processes r.schedule ps)) → IsAnswerStatus answer
-      → WhenTold old.hearing.left (λ input. CameTo (session_outcome shown.start input) folder (printed_by images r old.taken) new answer)
+  pub shown : IsShown (recorded_run (group_in r) (steps_in r)) no_cut folder ps (pairs_of_processes r.schedule ps)
+  pub replayed : (asked : Bool) → second.command ≡ Some (Replay asked (pairs_of_processes r.schedule ps)) → IsAnswerStatus second.answer
+      → CameTo (Ok (recorded_report asked (group_in r) (steps_in r) no_cut shown.sorted)) folder (printed_by images r second.old.taken) second.new second.answer
+  pub debugged : second.command ≡ Some (Debug (pairs_of_processes r.schedule ps)) → IsAnswerStatus second.answer
+      → WhenTold second.old.hearing.left (λ input. CameTo (session_outcome shown.start input) folder (printed_by images r second.old.taken) second.new second.answer)
 
 -- this holds of each schedule that can be recorded, and of the pairs of any of its processes, in any order
 abbrev pub ShowsRecorded : Option Command → Option Command → Outside → Outside → Status → Type 0
 ShowsRecorded first second old new answer =
     (images : Bool) (schedule_name : List ℕ) → first ≡ Some (Record images schedule_name)
     → WhenTold old.told (λ before. (r : IsRecordable before schedule_name) (ps : List ℕ) → AreProcesses (processes_in_group (group_in r)) ps
-    → ShowsThese images r ps second old new answer)
+    → ShowsThese images r ps (record { command = second; old = old; new = new; answer = answer }))
