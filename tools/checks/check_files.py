@@ -29,11 +29,14 @@ def text_of(path):
 
 
 def in_order(crate):
-    """The files of a crate's specs, as its Lib lists them."""
+    """The files of a crate's specs, as its Lib lists them, and after them those of specs/inside."""
     folder = os.path.join(TOP, "crates", crate, "specs")
-    path = os.path.join(folder, "Lib.antt")
-    names = re.findall(r"^pub mod (\w+)", text_of(path), re.M) if os.path.exists(path) else []
-    return [(name, os.path.join(folder, name + ".antt")) for name in names]
+    files = []
+    for path, at in (("Lib.antt", ""), ("inside.antt", "inside/")):
+        path = os.path.join(folder, path)
+        names = re.findall(r"^pub mod (\w+)", text_of(path), re.M) if os.path.exists(path) else []
+        files += [(at + name, os.path.join(folder, at + name + ".antt")) for name in names if name != "inside"]
+    return files
 
 
 def first_sentence(path):
