@@ -1,4 +1,5 @@
 pub mod BegunReplays
+pub mod FirstReplays
 pub mod LogClashes
 pub mod GroupBegins
 pub mod LoadedPairs
