@@ -15,7 +15,7 @@ invariant-positions g l = record {
   within : l.group.at ≤ l.count;
   read : IsWatching l.fn.group.start l.group.at (map {A = Held} point l.points) l.watching;
   last : return_of l.last ≡ return_from (place_at l.fn.group.start (suc l.group.at)) (map {A = Held} point l.points);
-  watch_ticks : l.steps ≡ l.fn.steps + watch_ticks l.fn.group.start (watched_expressions (map {A = Held} point l.points)) 0 l.group.at;
+  ticks : l.steps ≡ l.fn.steps + watch_ticks l.fn.group.start (watched_expressions (map {A = Held} point l.points)) 0 l.group.at;
 }
 
 abbrev pub decreases-positions : goal.decreases-positions

@@ -18,7 +18,7 @@ invariant-positions g l = record {
   said : l.said ≡ lines_in l.walked.text;
   ahead : walk_over l.fn.group.start (map {A = Held} point l.points) l.walked.group.at (length (events_of_replays l.fn.group.start) - l.walked.group.at) l.walked.variables l.walked.text
       ≡ walk_from l.fn.group (map {A = Held} point l.points) l.fn.variables;
-  watch_ticks : l.steps ≡ l.fn.steps + watch_ticks l.fn.group.start (watched_expressions (map {A = Held} point l.points)) l.fn.group.at (l.walked.group.at - l.fn.group.at);
+  ticks : l.steps ≡ l.fn.steps + watch_ticks l.fn.group.start (watched_expressions (map {A = Held} point l.points)) l.fn.group.at (l.walked.group.at - l.fn.group.at);
 }
 
 abbrev pub decreases-positions : goal.decreases-positions
