@@ -52,6 +52,14 @@ pub log_found : (steps : List RunStep) (files : FilesInMemory) → HoldLogs step
 log_found steps files holds p below name bytes named found =
     same_Some bytes (log_of drill_group steps p) (sym found ∙ ap (get files.folder) named ∙ holds.logs p below)
 
+pub never_absent : (steps : List RunStep) (files : FilesInMemory) → HoldLogs steps files → (p : ℕ) → p < 4 → (name : List ℕ)
+    → name ≡ log_name (name_of_process drill_group p) → get files.folder name ≡ None → ⊥
+never_absent steps files holds p below name named missing =
+    refuted (log_of drill_group steps p) (sym (holds.logs p below) ∙ ap (get files.folder) (sym named) ∙ missing)
+  where
+    refuted : (x : List ℕ) → Some x ≡ None → ⊥
+    refuted x e = cc
+
 pub never_headless : (steps : List RunStep) (files : FilesInMemory) → HoldLogs steps files → (p : ℕ) → p < 4 → (name bytes : List ℕ)
     → name ≡ log_name (name_of_process drill_group p) → get files.folder name ≡ Some bytes → head_at bytes ≡ None → ⊥
 never_headless steps files holds p below name bytes named found missing =

@@ -4,8 +4,13 @@ use Rattle.call_log.specs.Head.{Head}
 use Rattle.wasm_types.specs.Modules.{module_of}
 use Rattle.group_record.specs.Run.{RunStep}
 use Rattle.drill_command.specs.inside.Seen.{HoldLogs}
-use Rattle.drill_command.proofs.LogReplays.{begins_as, never_headless, opened_as, replay_is}
+use Rattle.drill_command.proofs.LogReplays.{begins_as, never_absent, never_headless, opened_as, replay_is}
 use Rattle.drill_command.proofs.replays.begin.Goals as goal
+
+pub unreachable-requires : goal.unreachable-requires
+unreachable-requires c =
+    never_absent c.requires.held.0 c.args.files.now c.requires.held.1 c.args.p c.requires.process c.args.log.now c.requires.log
+    (sym c.bytes.ensures ∙ ap option_copied c.in_default.is)
 
 pub unreachable-requires-in_default-begin : goal.unreachable-requires-in_default-begin
 unreachable-requires-in_default-begin c =
