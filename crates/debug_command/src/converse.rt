@@ -135,7 +135,7 @@ fn take_byte<'m, 'a, K: Sink, L: Ledger>(
         (λ next. SessionGoesOn (b ∷ []) (K.taken out.old) (K.taken out.new) (session_talk_of talk.entry) (session_talk_of next))
         (SessionStopsIn (b ∷ []) (K.taken out.old) (K.taken out.new) (session_talk_of talk.entry)) }
     ensures count { IfOk result (λ new. new.count ≡ talk.entry.count + 1) }
-    ensures within { IfOk result (λ new. new.count ≤ INPUT_LIMIT) }
+    ensures within { IfOk result (λ new. new.count ≤ MOST_INPUT) }
     ensures counted { K.faults out.new ≡ failed_says_of_session (K.faults out.old) result }
     ensures heard { K.hearing out.new ≡ K.hearing out.old }
 {
@@ -172,12 +172,12 @@ fn take_piece<'m, 'a, K: Sink, L: Ledger>(
     out: &mut K,
     steps: &mut Steps<L>,
 ) -> Result<Talk<'m, 'a>, Ended>
-    requires { talk.count ≤ INPUT_LIMIT }
+    requires { talk.count ≤ MOST_INPUT }
     ensures said { MatchResult result
         (λ next. SessionGoesOn piece.now (K.taken out.old) (K.taken out.new) (session_talk_of talk.entry) (session_talk_of next))
         (SessionStopsIn piece.now (K.taken out.old) (K.taken out.new) (session_talk_of talk.entry)) }
     ensures count { IfOk result (λ new. new.count ≡ talk.entry.count + length piece.now) }
-    ensures within { IfOk result (λ new. new.count ≤ INPUT_LIMIT) }
+    ensures within { IfOk result (λ new. new.count ≤ MOST_INPUT) }
     ensures counted { K.faults out.new ≡ failed_says_of_session (K.faults out.old) result }
     ensures heard { K.hearing out.new ≡ K.hearing out.old }
 {
@@ -196,14 +196,14 @@ fn hear<'m, 'a, T: Terminal, L: Ledger>(
     io: &mut T,
     steps: &mut Steps<L>,
 ) -> Result<(Talk<'m, 'a>, bool), Ended>
-    requires within { talk.count ≤ INPUT_LIMIT }
+    requires within { talk.count ≤ MOST_INPUT }
     requires room { 0 < length piece.old }
     ensures said { let terminal = terminal_at T.hearing T.taken T.faults in
         let exchange = exchange_of (length piece.old) (terminal io.old) (terminal io.new) in MatchResult result
         (λ heard. SessionHearsFrom exchange (session_talk_of talk.entry) (heard_of heard))
         (SessionBreaksFrom exchange (session_talk_of talk.entry)) }
     ensures count { IfOk result (λ heard. IsTrue heard.1 → talk.entry.count < heard.0.count) }
-    ensures within { IfOk result (λ heard. heard.0.count ≤ INPUT_LIMIT) }
+    ensures within { IfOk result (λ heard. heard.0.count ≤ MOST_INPUT) }
     ensures reads { (T.hearing io.new).faults ≡ listened_after (T.hearing io.old).faults result }
     ensures counted { T.faults io.new ≡ failed_says_of_session (T.faults io.old) result }
 {
