@@ -18,6 +18,7 @@ use Rattle.guest_process.specs.State.{State}
 use Rattle.proc_replay.specs.Replaying.{Replaying}
 use Rattle.group_record.specs.Laws.{Beginning, TakesDatagram, TellsCutLogs}
 use Rattle.group_record.specs.Logs.{IsLogOfRun, TellsBeforeRest, TellsEvents}
+use Rattle.group_record.specs.RunLaws.{before_steps}
 use Rattle.group_record.specs.Run.{GroupStart, Had, IsMoment, RunStep, entries_of_steps, entry_bytes, head_of_log, log_of, processes_in_group}
 use Rattle.group_record.specs.Standing.{RunStandsAs, Standing}
 use Rattle.group_state.specs.Laws.{Ordered, SendsFirst}
@@ -121,7 +122,7 @@ module _ (reads : ReadsModules) (gives : GivesSchedules) (beginning : Beginning)
   first_fits : (p : ℕ) → p < processes_in_group (group_in r) → (S : State) → slice_get (group_in r).first p ≡ Some S → StateFits S
   first_fits p below S at =
       let s = (standing (group_in r) r.schedule.items begun.begun begun.fits [] (steps_in r, sym (append-nil (steps_in r)))).processes p below in
-      subst StateFits (same_Some s.last S (sym s.stands ∙ at)) s.fits
+      subst StateFits (same_Some s.last S (sym s.stands ∙ before_steps (group_in r) p ∙ at)) s.fits
 
   known : (p : ℕ) (below : p < processes_in_group (group_in r)) (holds : HoldsProcess r steps cut folder p) → Known (group_in r) steps cut p (replay_of (group_in r) steps cut p (tells p below holds))
   known p below holds = record {
