@@ -6,6 +6,7 @@ use Rattle.fri_text.specs.Name.{is_name}
 use Rattle.call_log.specs.declared.head.LogHead.{LogHead}
 use Rattle.call_log.specs.declared.version.Version.{Version}
 use Rattle.call_log.specs.Version.{version_number}
+use Rattle.lamport_tag.specs.Limits.{most_processes}
 
 -- the version of the log, the number of processes in the group, the process's own number, and its name
 pub record Head : Type 0 where
@@ -21,7 +22,7 @@ head_of h = record { version = h.version; count = h.count; process = h.process; 
 -- a group has 1 to 16 processes, which are numbered from 0
 pub record IsHead (h : Head) : Type 0 where
   pub some : 1 ≤ h.count
-  pub few : h.count ≤ 16
+  pub few : h.count ≤ most_processes
   pub within : h.process < h.count
   pub named : is_name h.name ≡ true
 

@@ -3,11 +3,13 @@ use Rattle.std.specs.Prelude.{◌≡◌, ℕ, ◌+◌, ◌^◌, ◌<◌, ◌≤�
 use Rattle.lamport_tag.specs.declared.Tag.{Tag}
 use Rattle.lib_calls.specs.declared.entry.Entry.{Entry}
 use Rattle.lib_calls.specs.Entry.{IsShaped}
+use Rattle.lib_calls.specs.Limits.{most_call_bytes}
 use Rattle.call_log.specs.declared.version.Version.{Version}
 use Rattle.call_log.specs.declared.version.Version.TheVariants.{One, Two}
 use Rattle.call_log.specs.Entry.{clock_after, encoding, encodings}
 use Rattle.call_log.specs.Head.{Head, IsHead, head_bytes}
 use Rattle.call_log.specs.Log.{HoldsEntries, Unread, unread_after_head, entries_of, entry_at, head_at, unread_after_entry, rest_of_log, rewritten_log}
+use Rattle.lamport_tag.specs.Limits.{most_clock}
 
 -- ---- reading
 
@@ -45,16 +47,16 @@ pub record ExactLogs : Type 0 where
 -- a tag that a process can have sent, and a datagram with it that was taken
 pub record IsNearTag (last : ℕ) (e : Entry) (tag : Tag) : Type 0 where
   pub sender : tag.sender < 128
-  pub sent : tag.clock ≤ 2 ^ 62
-  pub reply : e.reply ≤ 60000
-  pub clock : e.clock ≤ last + (2 ^ 62 + 1)
+  pub sent : tag.clock ≤ most_clock
+  pub reply : e.reply ≤ most_call_bytes
+  pub clock : e.clock ≤ last + (most_clock + 1)
 
 -- An entry whose numbers are no greater than those of an event, after an entry with the clock `last`. Arguments, the
 -- signal and the reply of an entry without a tag may be any.
 pub record IsCommonEntry (last : ℕ) (e : Entry) : Type 0 where
   pub thread : e.thread < 128
-  pub outgoing : length e.outgoing ≤ 60000
-  pub incoming : length e.incoming ≤ 60000
+  pub outgoing : length e.outgoing ≤ most_call_bytes
+  pub incoming : length e.incoming ≤ most_call_bytes
   pub later : last ≤ e.clock
   pub plain : e.tag ≡ None → e.clock < last + 2 ^ 14
   pub tagged : (tag : Tag) → e.tag ≡ Some tag → IsNearTag last e tag

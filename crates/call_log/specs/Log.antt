@@ -13,6 +13,7 @@ use Rattle.call_log.specs.Entry.{BeginsNoEntry, clock_after, encoding, encodings
 use Rattle.call_log.specs.Head.{Head, head_bytes}
 use Rattle.fri_text.specs.Name.{is_name}
 use Rattle.call_log.specs.Reading.{read_entry, read_head}
+use Rattle.lamport_tag.specs.Limits.{most_processes}
 
 -- What was not read of a log: its version, the clock of the entry that was read last, or 0 before the first,
 -- and the bytes that are left.
@@ -119,7 +120,7 @@ rest_of_log left = (entries_walk_within (length left.bytes) left).rest
 
 -- the test of `IsHead`
 unfoldable pub is_head : Head → Bool
-is_head h = nat_le 1 h.count && nat_le h.count 16 && nat_lt h.process h.count && is_name h.name
+is_head h = nat_le 1 h.count && nat_le h.count most_processes && nat_lt h.process h.count && is_name h.name
 
 -- the head, where it is one and the bytes begin with its spelling, and what is left after it
 unfoldable pub head_in : List ℕ → Head → Option (Head × Unread)

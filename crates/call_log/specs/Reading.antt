@@ -13,6 +13,7 @@ use Rattle.call_log.specs.declared.version.Version.{Version}
 use Rattle.call_log.specs.Version.{clock_at, number_at, version_numbered}
 use Rattle.call_log.specs.Head.{Head}
 use Rattle.fri_text.specs.Name.{is_name}
+use Rattle.lamport_tag.specs.Limits.{most_processes}
 
 infixl 10 ◌>>=◌
 -- a step, and the next one where it gave something
@@ -116,6 +117,6 @@ read_head bytes = do
   count ← le_at w32 number.1
   process ← le_at w32 count.1
   name ← name_at process.1
-  if nat_le 1 count.0 && nat_le count.0 16 && nat_lt process.0 count.0
+  if nat_le 1 count.0 && nat_le count.0 most_processes && nat_lt process.0 count.0
       then Some (record { version = version; count = count.0; process = process.0; name = name.0 }, name.1)
       else None

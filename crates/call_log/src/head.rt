@@ -7,6 +7,7 @@ ghost use Rattle.call_log.specs.Reading.{name_at, read_head as head_read};
 use crate::version::Version;
 use fri_bytes::Cursor;
 use fri_text::is_name;
+use lamport_tag::MOST_PROCESSES;
 use thiserror::Error;
 
 // The bytes that a log begins with.
@@ -50,7 +51,7 @@ fn read_fields<'a>(cursor: &mut Cursor<'a>) -> Option<LogHead<'a>>
     let count = cursor.u32_le()?;
     let process = cursor.u32_le()?;
     let name = read_name(cursor)?;
-    if 1 <= count && count <= 16 && process < count {
+    if 1 <= count && count as usize <= MOST_PROCESSES && process < count {
         Some(LogHead {
             version,
             count,

@@ -1,6 +1,7 @@
 // What the events of a group ask of each other.
 ghost use Rattle.std.specs.Prelude.{◌≡◌, ◌==◌, ◌<◌, ◌≤◌, ◌++◌, IfOk, OnOk, length, position};
 ghost use Rattle.std.specs.Option.{option_to_list};
+ghost use Rattle.lamport_tag.specs.Limits.{most_processes};
 ghost use Rattle.group_state.specs.Moves.{event_of};
 ghost use Rattle.causal_cut.specs.inside.Asks.{AreClocks, ask_of, process_numbers};
 
@@ -43,7 +44,7 @@ fn node_of(processes: &[u32], process: u32) -> Option<usize>
 // What an event asks for that comes after events with these clocks. The event that a tag names has had its place before, so
 // that a clock that is not among them is of no accepted event.
 fn ask_of(processes: &[u32], clocks: &Clocks, event: &GroupEvent<'_>) -> Option<Ask>
-    requires few { length processes.now ≤ 16 }
+    requires few { length processes.now ≤ most_processes }
     requires clocks { AreClocks (length processes.now) clocks.now }
     requires node { event.now.node < length processes.now }
     ensures { result ≡ ask_of processes.now clocks.now (event_of event.now) }
@@ -66,7 +67,7 @@ pub(crate) fn push_ask(
     clocks: &Clocks,
     event: &GroupEvent<'_>,
 ) -> Result<(), AllocError>
-    requires few { length processes.now ≤ 16 }
+    requires few { length processes.now ≤ most_processes }
     requires clocks { AreClocks (length processes.now) clocks.now }
     requires node { event.now.node < length processes.now }
     ensures { OnOk result (asks.new.items ≡ asks.old.items ++ option_to_list (ask_of processes.now clocks.now (event_of event.now))) }

@@ -1,5 +1,6 @@
 // Reads files, and the modules in them.
 ghost use Rattle.std.specs.Prelude.{◌≡◌, ℕ, ◌<◌, ◌≤◌, vec_len, IfOk, IfErr};
+ghost use Rattle.lamport_tag.specs.Limits.{most_processes};
 ghost use Rattle.fri_outside.specs.Outside.{WhenTold, Counts};
 ghost use Rattle.wasm_types.specs.Modules.{module_of as shown};
 ghost use Rattle.wasm_decode.specs.Sections.{module_of_bytes};
@@ -107,7 +108,7 @@ pub fn begin_process<'m>(
     count: u32,
 ) -> Result<Process<'m>, StopCause>
     requires who { who < count }
-    requires count { count ≤ 16 }
+    requires count { count ≤ most_processes }
     ensures answer { TellsResult (λ begun. begun) (first_state_of name.now (shown «module».now) who count) result }
     ensures fresh { IfOk result (IsFresh who count) }
     ensures cause { (old new : Counts) → IfErr result (RaisesCount old new) }

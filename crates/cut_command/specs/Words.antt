@@ -2,9 +2,10 @@
 use Rattle.std.specs.Prelude.{ℕ, ◌-◌, ◌^◌, ◌==◌, if◌then◌else◌, List, Option, Some, None, option_and_then}
 use Rattle.std.specs.Result.{result_ok}
 use Rattle.fri_text.specs.Decimal.{decimal_of, up_to}
+use Rattle.lamport_tag.specs.Limits.{most_processes}
 
 abbrev pub most_process : ℕ
-most_process = 15
+most_process = most_processes - 1
 
 abbrev pub most_event : ℕ
 most_event = 2 ^ 63 - 1

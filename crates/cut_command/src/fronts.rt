@@ -1,6 +1,7 @@
 // The first parts of a group's logs that are kept.
 ghost use Rattle.std.specs.Prelude.{◌≡◌, ◌++◌, ◌≤◌, IfOk, OnOk, length, map};
 ghost use Rattle.std.specs.List.{flat_map};
+ghost use Rattle.lamport_tag.specs.Limits.{most_processes};
 ghost use Rattle.cut_command.specs.Cut.{cut_line};
 ghost use Rattle.cut_command.specs.inside.Seen.{fronts_of, front_line, log_of_replay};
 
@@ -38,7 +39,7 @@ pub(crate) fn fronts_of<'m>(
     logs: &[LogView<'m>],
     cut: &Cut,
 ) -> Result<Vec<Front<'m>>, AllocError>
-    requires few { length logs.now ≤ 16 }
+    requires few { length logs.now ≤ most_processes }
     requires kept { length cut.now.kept ≡ length logs.now }
     requires accepted { length cut.now.accepted ≡ length logs.now }
     ensures { IfOk result (λ fronts. fronts.items ≡ fronts_of logs.now cut.now.kept cut.now.accepted) }

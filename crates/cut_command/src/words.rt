@@ -3,8 +3,9 @@ ghost use Rattle.std.specs.Prelude.{◌≡◌};
 ghost use Rattle.cut_command.specs.Words.{event_number_of, process_of};
 
 use fri_text::read_decimal;
+use lamport_tag::MOST_PROCESSES;
 
-const MOST_PROCESS: u64 = 15;
+const MOST_PROCESS: u64 = MOST_PROCESSES as u64 - 1;
 
 const MOST_EVENT: u64 = (1 << 63) - 1;
 

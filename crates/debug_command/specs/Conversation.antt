@@ -10,7 +10,7 @@ use Rattle.command_run.specs.declared.status.Status.TheVariants as status
 use Rattle.command_run.specs.Run.{Outside}
 use Rattle.log_pairs.specs.Pairs.{Pair, WasOpened}
 use Rattle.debug_command.specs.Debug.{input_name, is_large_input, whole_lines}
-use Rattle.debug_command.specs.Limits.{most_input}
+use Rattle.debug_command.specs.Limits.{most_input, most_piece}
 
 -- ---- what was taken of an input
 
@@ -26,7 +26,7 @@ pub record AsksAtTerminal (start : List Replaying) (taken : List ℕ) : Type 0 w
   pub earlier : List ℕ
   pub piece : List ℕ
   pub parts : taken ≡ earlier ++ piece
-  pub short : length piece ≤ 4096
+  pub short : length piece ≤ most_piece
   pub within : length taken ≤ most_input + 1
   pub goes_on : ends_session (opening_session start) (whole_lines earlier) ≡ false
 
@@ -51,7 +51,7 @@ pub record HasAnsweredLines (start : List Replaying) (input : List ℕ) (after p
 pub record IsAskedInTurn (start : List Replaying) (printed : Option (List ℕ)) (typed : List ℕ) (asking : Asking) : Type 0 where
   pub answered : asking.said ≡ append_known printed (session_text start (whole_lines typed))
   pub goes_on : ends_session (opening_session start) (whole_lines typed) ≡ false
-  pub short : length asking.given ≤ 4096
+  pub short : length asking.given ≤ most_piece
 
 -- so it was each time, where this had been typed before the first
 abbrev pub AreAskedInTurn : List Replaying → Option (List ℕ) → List ℕ → List Asking → Type 0

@@ -91,14 +91,22 @@ depth_after depth text =
     if bytes_eq text (codes "(") || bytes_eq text (codes "[") || bytes_eq text (codes "{") then depth + 1 else
     (if bytes_eq text (codes ")") || bytes_eq text (codes "]") || bytes_eq text (codes "}") then depth - 1 else depth)
 
--- where so many are open, more than 64 are at some place
+-- how many brackets may be open at once
+abbrev pub most_open : ℕ
+most_open = 64
+
+-- how many tokens a line may have
+abbrev pub most_tokens : ℕ
+most_tokens = 512
+
+-- where so many are open, more than may be are at some place
 abbrev pub brackets_go_deep : ℕ → List (List ℕ) → Bool
 brackets_go_deep depth [] = false
-brackets_go_deep depth (text ∷ texts) = nat_lt 64 (depth_after depth text) || brackets_go_deep (depth_after depth text) texts
+brackets_go_deep depth (text ∷ texts) = nat_lt most_open (depth_after depth text) || brackets_go_deep (depth_after depth text) texts
 
--- more than 512 tokens, or more than 64 brackets that are open at once
+-- too many tokens, or too many brackets that are open at once
 abbrev pub is_too_deep : List (List ℕ) → Bool
-is_too_deep texts = nat_lt 512 (length texts) || brackets_go_deep 0 texts
+is_too_deep texts = nat_lt most_tokens (length texts) || brackets_go_deep 0 texts
 
 -- What is answered of a line, but for memory.
 abbrev pub LexedAs : List ℕ → Result LexedLine ExprError → Type 0

@@ -13,6 +13,7 @@ use Rattle.byte_streams.specs.declared.mark.PayloadMark.TheVariants.{Strange}
 use Rattle.byte_streams.specs.Traffic.{ReceivedPayload, SentPayload, SendOrReceive, mark_of_receive, mark_of_send}
 use Rattle.headline.specs.Headline.{IsShown}
 use Rattle.headline.specs.Shown.{FromOutside, FromSend, ReceivedDatagram, RecordedRun}
+use Rattle.lamport_tag.specs.Limits.{most_clock}
 use Rattle.streams_command.specs.Streams.{traffic_of_events}
 
 -- what process q sent by this event
@@ -46,7 +47,7 @@ abbrev pub ReadsRecordedSend : {run : RecordedRun} {ps : List ℕ} {j : ℕ} {ta
     → ReceivedDatagram run ps (events_of_replays start) j taken → Type 0
 ReadsRecordedSend start (FromOutside bytes given tag payload) = Unit {0}
 ReadsRecordedSend {ps = ps} {j = j} {taken = taken} start (FromSend q k sent at is to tells before) =
-    sent.clock ≤ 2 ^ 62 → (node : ℕ) → slice_get ps node ≡ Some q → IsSendTaken start j taken node (record { process = q; entry = sent })
+    sent.clock ≤ most_clock → (node : ℕ) → slice_get ps node ≡ Some q → IsSendTaken start j taken node (record { process = q; entry = sent })
 
 -- wherever the logs of a recording are shown, each taken datagram that was sent is read so
 abbrev pub RecordedStreams : Type 0

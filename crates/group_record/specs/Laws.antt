@@ -22,11 +22,12 @@ use Rattle.group_world.specs.Laws.{GiverOfDatagram, OriginOfDatagram}
 use Rattle.group_record.specs.Run.{GroupStart, Had, IsMoment, RunStep, entries_of_steps, entry_bytes, history_of_steps, process_after, run, processes_in_group}
 use Rattle.group_record.specs.Logs.{TellsEvents, TellsBeforeRest}
 use Rattle.group_record.specs.Answer.{first_states, group_of}
+use Rattle.lamport_tag.specs.Limits.{most_clock, most_processes}
 
 -- a group of 1 to 16 named processes of valid modules, before its first event
 pub record IsBegun (group : GroupStart) : Type 0 where
   pub some : 1 ≤ processes_in_group group
-  pub few : processes_in_group group ≤ 16
+  pub few : processes_in_group group ≤ most_processes
   pub first : length group.first ≡ processes_in_group group
   pub names : All (λ name. IsTrue (is_name name)) group.names
   pub starts : (p : ℕ) (S : State) → slice_get group.first p ≡ Some S → (m : Module) × IsValid m × (start m p (processes_in_group group) ≡ Some S)
@@ -63,7 +64,7 @@ pub record IsSendInHistory (found : Option Entry) (q p : ℕ) (e : Entry) : Type
   pub sent : Entry
   pub is : found ≡ Some sent
   pub to : sent.call.a0 ≡ p
-  pub named : sent.clock ≤ 2 ^ 62 → TellsSend e q sent
+  pub named : sent.clock ≤ most_clock → TellsSend e q sent
 
 -- the datagram that an event took: it came first in the mailbox, and the event tells its tag and a first
 -- part of its payload; it came from outside or was sent; an act gave it in its turn; and where that act

@@ -1,5 +1,6 @@
 // How the recording of a group begins.
 ghost use Rattle.std.specs.Prelude.{◌≡◌, ◌<◌, ◌≤◌, All, IfOk, length, map};
+ghost use Rattle.lamport_tag.specs.Limits.{most_processes};
 ghost use Rattle.schedule_text.specs.Schedule.{IsProcess};
 ghost use Rattle.wasm_types.specs.Modules.{module_of};
 ghost use Rattle.group_world.specs.World.{new_world};
@@ -44,7 +45,7 @@ fn begin_members<'m>(
     modules: &'m [SharedModule],
 ) -> Result<Vec<Member<'m>>, RecordError>
     requires modules { length modules.now ≡ length lines.now }
-    requires few { length lines.now ≤ 16 }
+    requires few { length lines.now ≤ most_processes }
     requires lines { All IsProcess lines.now }
     ensures { BeginsAll (λ members. members.items) (map (λ line. line.name) lines.now)
         (first_states_from (length lines.now) 0 (map module_of modules.now)) result }
@@ -66,7 +67,7 @@ fn new_recorder<'m>(
     images: bool,
     members: Vec<Member<'m>>,
 ) -> Result<Recorder<'m>, AllocError>
-    requires { length members.items ≤ 16 }
+    requires { length members.items ≤ most_processes }
     ensures { IfOk result (IsNewRecorder images members.entry.items) }
 {
     let count = members.len() as u32;

@@ -1,5 +1,6 @@
 // A process of a group that is recorded, and the file of its log.
 ghost use Rattle.std.specs.Prelude.{◌≡◌, ◌+◌, ◌<◌, ◌≤◌, length, option_map, IfOk, OnOk, IsTrue};
+ghost use Rattle.lamport_tag.specs.Limits.{most_processes};
 ghost use Rattle.call_log.specs.Head.{head_bytes};
 ghost use Rattle.call_log.specs.Limits.{most_log};
 ghost use Rattle.call_log.specs.declared.version.Version.TheVariants.{Two};
@@ -45,7 +46,7 @@ impl<'m> Member<'m> {
         count: u32,
     ) -> Result<Member<'m>, RecordError>
         requires process { p < count }
-        requires count { count ≤ 16 }
+        requires count { count ≤ most_processes }
         requires line { IsProcess line.now }
         ensures { StartsMember (start_of (module_of «module».now) p count) line.now.name p count result }
     {
@@ -124,7 +125,7 @@ impl<'m> Member<'m> {
 // The head of a process's log.
 fn log_head(alloc: Global, name: &[u8], p: u32, count: u32) -> Result<Vec<u8>, AllocError>
     requires process { p < count }
-    requires count { count ≤ 16 }
+    requires count { count ≤ most_processes }
     requires named { IsTrue (is_name_word name.now) }
     ensures { IfOk result (λ bytes. bytes.items ≡ head_bytes (record { version = Two; count = count; process = p; name = name.now })) }
 {

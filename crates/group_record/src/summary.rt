@@ -1,5 +1,6 @@
 // What is said of a recording.
 ghost use Rattle.std.specs.Prelude.{◌≡◌, ◌≤◌, IfOk, All, length, is_some, option_map, IsTrue, Some};
+ghost use Rattle.lamport_tag.specs.Limits.{most_processes};
 ghost use Rattle.group_world.specs.World.{process_count, surroundings_of};
 ghost use Rattle.group_record.specs.Answer.{IsSummary};
 ghost use Rattle.group_record.specs.inside.Recorded.{SumsUpRun, summary_line_of};
@@ -37,7 +38,7 @@ pub(crate) fn summary_of(
 ) -> Result<Summary, AllocError>
     requires members { length recorder.now.members.items ≡ length processes.now }
     requires around { process_count recorder.now.world ≡ length processes.now }
-    requires few { length processes.now ≤ 16 }
+    requires few { length processes.now ≤ most_processes }
     requires present { All (λ m. IsTrue (is_some m.process)) recorder.now.members.items }
     ensures { IfOk result (SumsUpRun processes.now recorder.now) }
 {

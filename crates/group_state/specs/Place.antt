@@ -8,6 +8,7 @@ use Rattle.guest_process.specs.Fits.{StateFits}
 use Rattle.guest_process.specs.Replay.{state_after}
 use Rattle.guest_process.specs.State.{State}
 use Rattle.group_order.specs.Order.{NodeEvent, of_node, order_of_events}
+use Rattle.lamport_tag.specs.Limits.{most_processes}
 use Rattle.proc_replay.specs.Course.{entries_ahead}
 use Rattle.proc_replay.specs.Replaying.{Replaying}
 
@@ -34,7 +35,7 @@ AscendsByProcess (r ∷ rs) = AllByRecursion (λ s. r.head.process < s.head.proc
 
 -- some of one group's logs, in order of their processes' numbers, each before its first event and within the limit
 pub record AreParts (parts : List Replaying) : Type 0 where
-  pub few : length parts ≤ 16
+  pub few : length parts ≤ most_processes
   pub fresh : All (λ r. r.state.events ≡ 0) parts
   pub one : All (λ r. r.head.count ≡ group_count parts) parts
   pub ascends : AscendsByProcess parts

@@ -1,5 +1,6 @@
 // Where a group is.
 ghost use Rattle.std.specs.Prelude.{◌≡◌, ◌≤◌, ℕ, IfOk, IfSome, length, map};
+ghost use Rattle.lamport_tag.specs.Limits.{most_processes};
 ghost use Rattle.group_state.specs.Place.{PartsFit};
 ghost use Rattle.group_state.specs.inside.Turns.{head_of_replay};
 ghost use Rattle.group_state.specs.inside.Stands.{AreSoundMemories, IsStand, SameStand};
@@ -83,7 +84,7 @@ fn copy_parts<'m, 'a>(
 
 /// Which of these replays has the next event of their group.
 pub(crate) fn merge_of(alloc: Global, parts: &[Replayer<'_, '_>]) -> Result<Merge, AllocError>
-    requires { length parts.now ≤ 16 }
+    requires { length parts.now ≤ most_processes }
     ensures { IfOk result (λ merge. merge ≡ map head_of_replay parts.now) }
 {
     let mut merge = Merge::new(alloc, parts.len() as u32)?;

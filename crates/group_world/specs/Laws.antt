@@ -8,6 +8,7 @@ use Rattle.lossy_net.specs.Network.{Sent, mailbox_of, nth_of, sent_by}
 use Rattle.signal_points.specs.Signals.{most_signal}
 use Rattle.group_world.specs.History.{Act, Event, Deliver, Inject, Clock, Random, Signal, Kill, History, addressed_datagram, datagram, given, is_killed, is_pending, mailbox, pool, sends, taken_count, time}
 use Rattle.group_world.specs.World.{World, has_pending, surroundings_of, world_after}
+use Rattle.lamport_tag.specs.Limits.{most_clock}
 
 -- ---- which acts can come
 
@@ -93,5 +94,5 @@ pub record InTurn : Type 0 where
 
 -- the datagram of a send whose clock a tag can bear names the send, and its payload is what went out
 abbrev pub NamesSend : Type 0
-NamesSend = (count q : ℕ) (e : Entry) → q < count → count ≤ 2 ^ 32 → 1 ≤ e.clock → e.clock ≤ 2 ^ 62
+NamesSend = (count q : ℕ) (e : Entry) → q < count → count ≤ 2 ^ 32 → 1 ≤ e.clock → e.clock ≤ most_clock
     → read_datagram count (datagram q e) ≡ (Some (record { sender = q; clock = e.clock }), e.outgoing)

@@ -1,4 +1,5 @@
 pub mod Laws
+pub mod Limits
 pub mod LittleEndian
 pub mod Memory
 pub mod Stamps

@@ -1,5 +1,6 @@
 // A linear memory.
 ghost use Rattle.std.specs.Prelude.{◌≡◌, ◌↔◌, ◌+◌, ◌≤◌, length, IsSome, IfSome, IfOk, OnOk, OnErr, Ok, None};
+ghost use Rattle.guest_memory.specs.Limits.{most_pages};
 ghost use Rattle.guest_memory.specs.LittleEndian.{low_bytes, IsWidth};
 ghost use Rattle.guest_memory.specs.Memory.{IsMemory, WritesPrefix, after_store, after_write_at, bytes_from, fresh_memory, growth_size, after_grow, is_inside, loaded_number, size_of, stamp_of, stretch_in_page};
 
@@ -13,6 +14,9 @@ use std::marker::Model;
 
 // How many watch pages a page has.
 const WATCH_PAGES: usize = 16;
+
+/// How many pages of 65,536 bytes a memory may have.
+pub const MOST_PAGES: u32 = 256;
 
 /// The linear memory of a guest: pages of 65,536 bytes, and the number of pages that it may grow
 /// to. It is seen as the list of its bytes, that number, the stamp of each watch page of 4,096 bytes and
@@ -41,7 +45,7 @@ impl Memory {
     /// So many pages of zeros.
     pub fn new(alloc: Global, pages: u32, max: u32) -> Result<Memory, AllocError>
         requires within { pages ≤ max }
-        requires most { max ≤ 256 }
+        requires most { max ≤ most_pages }
         ensures { IfOk result (λ memory. memory ≡ fresh_memory pages max) }
     {
         let mut list = Vec::new(alloc);

@@ -1,5 +1,6 @@
 // Lists of watch pages, as the bytes that they make end to end.
 ghost use Rattle.std.specs.Prelude.{◌≡◌, ◌+◌, ◌*◌, ◌-◌, ◌/◌, ◌%◌, ◌≤◌, ◌<◌, ◌++◌, IfOk, OnErr, OnOk, length, min, slice_index_or, take, drop, vec_len};
+ghost use Rattle.guest_memory.specs.Limits.{most_pages};
 ghost use Rattle.guest_memory.specs.LittleEndian.{little_endian, low_bytes, IsWidth};
 ghost use Rattle.guest_memory.specs.Memory.{no_stamps, put_piece, zero_bytes};
 ghost use Rattle.guest_memory.specs.inside.Pages.{AreWhole, PutsPrefix, bytes_of_pages, stamps_of};
@@ -142,7 +143,7 @@ pub(crate) fn add_zeros(
     pages: &mut Vec<SharedPage>,
     count: u32,
 ) -> Result<(), AllocError>
-    requires { count ≤ 256 }
+    requires { count ≤ most_pages }
     ensures whole { AreWhole pages.old.items → AreWhole pages.new.items }
     ensures len { OnOk result (vec_len pages.new ≡ vec_len pages.old + 16 * count) }
     ensures bytes { OnOk result (bytes_of_pages pages.new.items ≡ bytes_of_pages pages.old.items ++ zero_bytes (65536 * count)) }

@@ -11,6 +11,7 @@ use Rattle.lib_calls.specs.Entry.{HasArguments}
 use Rattle.guest_process.specs.declared.waiting.Waiting.{Waiting}
 use Rattle.guest_process.specs.Live.{Env}
 use Rattle.guest_process.specs.State.{State}
+use Rattle.lamport_tag.specs.Limits.{most_clock, most_processes}
 
 -- a pending call is one of its kind, and its arguments are in range
 pub record WaitingFits (w : Waiting) : Type 0 where
@@ -40,9 +41,9 @@ live_has P (slot ∷ slots) (suc t) f w h = live_has P slots t f.1 w h
 -- these is what writes next, and no page, no global and not the memory's size bears the mark of a later one than
 -- the last
 pub record StateFits (S : State) : Type 0 where
-  pub clock : S.clock ≤ 2 ^ 62 + S.events
+  pub clock : S.clock ≤ most_clock + S.events
   pub room : length S.crew.threads ≤ most_threads
-  pub count : S.count ≤ 16
+  pub count : S.count ≤ most_processes
   pub who : S.who < S.count
   pub threads : Each WaitingFits S.crew.threads
   pub number : S.store.memory.number ≡ S.events + 1

@@ -8,6 +8,7 @@ use Rattle.lamport_tag.specs.declared.Tag.{Tag}
 use Rattle.lamport_tag.specs.Tag.{is_sendable, next_clock_of}
 use Rattle.lib_calls.specs.declared.entry.Entry.{Entry}
 use Rattle.lib_calls.specs.Effects.{is_good, minus_two}
+use Rattle.lib_calls.specs.Limits.{most_call_bytes}
 use Rattle.lib_calls.specs.Traffic.{drawn, is_sent, is_taken}
 use Rattle.signal_points.specs.Signals.{most_signal}
 use Rattle.guest_process.specs.Fits.{StateFits}
@@ -20,8 +21,8 @@ use Rattle.guest_process.specs.State.{State}
 pub record HasLegalNumbers (S : State) (e : Entry) : Type 0 where
   pub thread : e.thread < most_threads
   pub signal : e.signal ≤ most_signal
-  pub outgoing : length e.outgoing ≤ 60000
-  pub incoming : length e.incoming ≤ 60000
+  pub outgoing : length e.outgoing ≤ most_call_bytes
+  pub incoming : length e.incoming ≤ most_call_bytes
   pub clock : e.clock ≡ next_clock_of S.clock e.tag
   pub sent : (tag : Tag) → e.tag ≡ Some tag → IsTrue (is_sendable S.count tag)
   pub tagged : (tag : Tag) → e.tag ≡ Some tag → IsTrue (is_taken e)

@@ -20,6 +20,7 @@ use Rattle.guest_process.specs.Next.{next}
 use Rattle.guest_process.specs.Sound.{IsSoundProcess}
 use Rattle.guest_process.specs.Start.{start}
 use Rattle.guest_process.specs.State.{State}
+use Rattle.lamport_tag.specs.Limits.{most_processes}
 
 -- the entry has the shape of its kind and is legal, and the state after it is the event's
 pub record AgreesWithEvent (S : State) (e : Event) : Type 0 where
@@ -104,7 +105,7 @@ Rises = (S : State) (e : Entry) → StateFits S → reason S e ≡ None → Rise
 
 -- how a process of a valid module begins has what holds of each state
 abbrev pub IsStarted : Type 0
-IsStarted = (m : Module) (who count : ℕ) (S : State) → IsValid m → who < count → count ≤ 16 → start m who count ≡ Some S → StateFits S × IsSoundProcess S
+IsStarted = (m : Module) (who count : ℕ) (S : State) → IsValid m → who < count → count ≤ most_processes → start m who count ≡ Some S → StateFits S × IsSoundProcess S
 
 -- a legal event keeps what holds of each state
 abbrev pub IsKeptByEvents : Type 0

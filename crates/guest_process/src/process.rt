@@ -1,5 +1,6 @@
 // A process.
 ghost use Rattle.std.specs.Prelude.{◌≡◌, ◌≢◌, ◌<◌, ◌≤◌, ◌^◌, IfOk, Err, None, Some, Option, option_copied, option_map, length, slice_get};
+ghost use Rattle.lamport_tag.specs.Limits.{most_processes};
 ghost use Rattle.coop_threads.specs.Crew.{status_of};
 ghost use Rattle.guest_memory.specs.Memory.{stamp_of};
 ghost use Rattle.lib_calls.specs.Answer.{Answer};
@@ -64,7 +65,7 @@ impl<'m> Process<'m> {
         count: u32,
     ) -> Result<Process<'m>, StartError>
         requires who { who < count }
-        requires count { count ≤ 16 }
+        requires count { count ≤ most_processes }
         ensures ok { IfOk result (λ p. start (module_of «module».now) who count ≡ Some p) }
         ensures bad { (result ≡ Err StartError.BadSegment) → start (module_of «module».now) who count ≡ None }
         ensures sure { first_store (module_of «module».now) ≡ None → result ≡ Err StartError.BadSegment }
@@ -242,7 +243,7 @@ fn begin<'m>(
     mut store: Store<'m>,
 ) -> Result<Process<'m>, AllocError>
     requires who { who < count }
-    requires count { count ≤ 16 }
+    requires count { count ≤ most_processes }
     requires store { first_store (module_of «module».now) ≡ Some store }
     requires suits { SuitsModule store }
     ensures { IfOk result (λ p. start (module_of «module».now) who count ≡ Some p) }

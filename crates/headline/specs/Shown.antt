@@ -20,6 +20,7 @@ use Rattle.group_state.specs.declared.report.ReportLine.{ReportLine}
 use Rattle.group_state.specs.Place.{after_entries, entry_clock, events_of_replays, node_event_count, states_of_nodes}
 use Rattle.group_state.specs.Tally.{AcceptedEvent, of_process, tally_of_events}
 use Rattle.command_run.specs.Outcome.{CommandWork}
+use Rattle.lamport_tag.specs.Limits.{most_clock}
 use Rattle.replay_command.specs.Report.{report_text}
 
 -- a recording as far as it came: its group, and the steps of the run
@@ -104,7 +105,7 @@ pub data ReceivedDatagram (run : RecordedRun) (ps : List ℕ) (order : List (Nod
       → ReceivedDatagram run ps order j taken
   FromSend : (q k : ℕ) → (sent : Entry) → slice_get (entries_of_steps run.steps q) k ≡ Some sent
       → IsTrue (is_sent (processes_in_group run.group) sent) → sent.call.a0 ≡ taken.process
-      → (sent.clock ≤ 2 ^ 62 → TellsSend taken.entry q sent) → (sent.clock ≤ 2 ^ 62 → StandsBefore ps order j q sent)
+      → (sent.clock ≤ most_clock → TellsSend taken.entry q sent) → (sent.clock ≤ most_clock → StandsBefore ps order j q sent)
       → ReceivedDatagram run ps order j taken
 
 -- replays of these processes, as one group

@@ -2,6 +2,7 @@
 use Rattle.std.specs.Prelude.{◌≡◌, ℕ, ◌+◌, ◌^◌, ◌<◌, ◌≤◌, max, List, ◌∷◌, ◌++◌, drop, codes, nat_eq, nat_lt, nat_le, ◌&&◌, Bool, Option, Some, None, if◌then◌else◌}
 use Rattle.std.specs.List.{starts_with}
 use Rattle.std.specs.Int.{w32, w64, to_le_bytes, from_le_bytes}
+use Rattle.lamport_tag.specs.Limits.{most_clock}
 use Rattle.lamport_tag.specs.declared.Tag.{Tag}
 
 -- the bytes that each tag begins with
@@ -17,7 +18,7 @@ pub record IsTagged (count : ℕ) (datagram : List ℕ) (tag : Tag) (payload : L
   pub spelled : datagram ≡ tag_bytes tag ++ payload
   pub from_group : tag.sender < count
   pub begun : 1 ≤ tag.clock
-  pub bounded : tag.clock ≤ 2 ^ 62
+  pub bounded : tag.clock ≤ most_clock
 
 -- a datagram has no tag: all its bytes are payload
 abbrev pub IsUntagged : ℕ → List ℕ → Type 0
@@ -29,7 +30,7 @@ numbers_at datagram = record { sender = from_le_bytes w32 (drop 4 datagram); clo
 
 -- the tag is one that a process of a group of `count` can have sent
 abbrev pub is_sendable : ℕ → Tag → Bool
-is_sendable count tag = nat_lt tag.sender count && nat_le 1 tag.clock && nat_le tag.clock (2 ^ 62)
+is_sendable count tag = nat_lt tag.sender count && nat_le 1 tag.clock && nat_le tag.clock most_clock
 
 -- the tag of a datagram and its payload, or nothing where it is untagged
 unfoldable pub tag_at : ℕ → List ℕ → Option (Tag × List ℕ)

@@ -19,6 +19,9 @@ const MAGIC: [u8; 4] = [0xD7, b'L', b'O', b'G'];
 // The length of a tag in bytes.
 const TAG_LENGTH: usize = 16;
 
+/// How many processes a group may have.
+pub const MOST_PROCESSES: usize = 16;
+
 // The greatest clock that a tag can bear.
 const MOST_CLOCK: u64 = 1 << 62;
 

@@ -10,6 +10,7 @@ use Rattle.guest_memory.specs.Memory.{Memory, is_inside, bytes_from, with_bytes}
 use Rattle.lamport_tag.specs.declared.Tag.{Tag}
 use Rattle.lib_calls.specs.declared.entry.Call.{Call}
 use Rattle.lib_calls.specs.Answer.{Answer}
+use Rattle.lib_calls.specs.Limits.{most_call_bytes}
 
 -- -1 and -2, as a reply of 32 bits has them
 abbrev pub minus_one : ℕ
@@ -22,7 +23,7 @@ minus_two = 2 ^ 32 - 2
 
 -- the bytes from this address on lie in the memory, and are no more than a call may name
 unfoldable pub is_range : Memory → ℕ → ℕ → Bool
-is_range memory addr len = nat_le len 60000 && is_inside memory addr len
+is_range memory addr len = nat_le len most_call_bytes && is_inside memory addr len
 
 -- the bytes that print, random, send, recv and try_recv name are such a range, and the 4 bytes in which
 -- recv and try_recv tell the sender lie in the memory too

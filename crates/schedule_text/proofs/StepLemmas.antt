@@ -8,7 +8,7 @@ use Rattle.std.proofs.lemmas.List.{length-append}
 use Rattle.std.proofs.lemmas.List.Elements.{All-push}
 use Rattle.std.proofs.lemmas.List.Quantifiers.{all_pairs_push}
 use Rattle.schedule_text.specs.declared.item.Item.{Item}
-use Rattle.schedule_text.specs.Limits.{most_processes}
+use Rattle.lamport_tag.specs.Limits.{most_processes}
 use Rattle.schedule_text.specs.declared.process.ProcessLine.{ProcessLine}
 use Rattle.schedule_text.specs.Fields.{fields_of, is_comment, is_passed_over}
 use Rattle.schedule_text.specs.Grammar.{IsHeader, IsProcessLine, IsItemLine, lines_kept}

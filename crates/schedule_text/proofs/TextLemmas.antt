@@ -21,7 +21,7 @@ use Rattle.schedule_text.specs.declared.item.Item.TheVariants.{Run, Deliver, Inj
 use Rattle.schedule_text.specs.declared.process.ProcessLine.{ProcessLine}
 use Rattle.schedule_text.specs.Fields.{is_separator, fields_of, is_comment}
 use Rattle.schedule_text.specs.Grammar.{IsNumber, IsSignedNumber, IsHex, IsProcessLine, IsRunItem, IsItemLine, lines_kept, SpellsSchedule}
-use Rattle.schedule_text.specs.Limits.{most_processes}
+use Rattle.lamport_tag.specs.Limits.{most_processes}
 use Rattle.schedule_text.specs.Reading.{schedule_of}
 use Rattle.schedule_text.specs.Schedule.{Schedule, IsInRange, IsProcess, IsWellFormed, IsSchedule, is_visible, is_module_name}
 use Rattle.schedule_text.specs.Text.{header_fields, process_fields, times_fields, item_fields, line_text, process_text, item_text, text_of}

@@ -1,13 +1,10 @@
 -- The limits of what a schedule may say.
-use Rattle.std.specs.Prelude.{ℕ}
+use Rattle.std.specs.Prelude.{ℕ, ◌-◌}
+use Rattle.coop_threads.specs.Crew.{most_threads}
 
--- how many processes a group may have
-abbrev pub most_processes : ℕ
-most_processes = 16
-
--- the greatest number of a thread
+-- the greatest number of a thread, the first of which is 0
 abbrev pub most_thread : ℕ
-most_thread = 63
+most_thread = most_threads - 1
 
 -- the greatest number of a datagram among those that a process sends, from 1
 abbrev pub most_datagram : ℕ

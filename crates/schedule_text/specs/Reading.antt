@@ -8,10 +8,11 @@ use Rattle.fri_text.specs.Decimal.{decimal_of, signed_of, up_to, within_i64}
 use Rattle.fri_text.specs.Hex.{hex_of}
 use Rattle.fri_text.specs.Line.{lines_of}
 use Rattle.fri_text.specs.Name.{is_name}
+use Rattle.lamport_tag.specs.Limits.{most_processes}
 use Rattle.signal_points.specs.Signals.{most_signal}
 use Rattle.schedule_text.specs.declared.item.Item.{Item}
 use Rattle.schedule_text.specs.declared.item.Item.TheVariants.{Run, Deliver, Inject, Clock, Random, Signal, Kill}
-use Rattle.schedule_text.specs.Limits.{most_processes, most_thread, most_datagram, most_runs}
+use Rattle.schedule_text.specs.Limits.{most_thread, most_datagram, most_runs}
 use Rattle.schedule_text.specs.declared.process.ProcessLine.{ProcessLine}
 use Rattle.schedule_text.specs.Fields.{fields_of, field_at, last_field_of, is_comment}
 use Rattle.schedule_text.specs.Schedule.{Schedule, is_module_name, run_count}

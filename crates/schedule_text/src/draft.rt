@@ -10,9 +10,10 @@ ghost use Rattle.schedule_text.specs.Reading.{nothing_read, schedule_part, whole
 use crate::error::ScheduleError;
 use crate::fields::Fields;
 use crate::item::{Item, read_item};
-use crate::limits::{MOST_PROCESSES, MOST_RUNS};
+use crate::limits::MOST_RUNS;
 use crate::process::{ProcessLine, read_process};
 use crate::schedule::Schedule;
+use lamport_tag::MOST_PROCESSES;
 use std::alloc::{AllocError, Global};
 use std::marker::Model;
 
@@ -26,7 +27,7 @@ pub(crate) struct Draft {
 
 impl Model for Draft {
     ghost use Rattle.std.specs.Prelude.{◌≤◌, vec_len};
-    ghost use Rattle.schedule_text.specs.Limits.{most_processes};
+    ghost use Rattle.lamport_tag.specs.Limits.{most_processes};
     ghost use Rattle.schedule_text.specs.Reading.{SchedulePart};
 
     ghost Value = { SchedulePart };

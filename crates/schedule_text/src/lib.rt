@@ -33,9 +33,7 @@ mod write;
 
 pub use error::ScheduleError;
 pub use item::Item;
-pub use limits::{
-    MOST_DATAGRAM, MOST_PROCESSES, MOST_ROUNDS, MOST_RUNS, MOST_SCHEDULE, MOST_THREAD,
-};
+pub use limits::{MOST_DATAGRAM, MOST_ROUNDS, MOST_RUNS, MOST_SCHEDULE, MOST_THREAD};
 pub use process::ProcessLine;
 pub use read::read_schedule;
 pub use ring::drill;

@@ -1,10 +1,8 @@
 // The limits of what a schedule may say.
+use coop_threads::MOST_THREADS;
 
-/// How many processes a group may have.
-pub const MOST_PROCESSES: usize = 16;
-
-/// The greatest number of a thread.
-pub const MOST_THREAD: u16 = 63;
+/// The greatest number of a thread, the first of which is 0.
+pub const MOST_THREAD: u16 = MOST_THREADS - 1;
 
 /// The greatest number of a datagram among those that a process sends, from 1.
 pub const MOST_DATAGRAM: u64 = 9_223_372_036_854_775_807;

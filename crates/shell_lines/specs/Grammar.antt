@@ -7,6 +7,7 @@ use Rattle.watch_expr.specs.Grammar.{IsExpr}
 use Rattle.watch_expr.specs.Spelling.{is_word, number_of}
 use Rattle.embed_cmds.specs.Grammar.{IsProgram}
 use Rattle.embed_cmds.specs.Tree.{Statements}
+use Rattle.shell_lines.specs.Limits.{most_shown_bytes, most_shown_events}
 use Rattle.shell_lines.specs.Lines.{At, Back, Break, LineCommand, Continue, Delete, Do, Events, Everywhere, Goto, ListPoints, ListVariables, Mem, Print, Quit, Rcontinue, SetTo, Step, Threads, Watch, node_called}
 
 -- With these names of processes, the tokens spell the command.
@@ -17,11 +18,11 @@ pub data IsCommand (names : List (List ℕ)) : List (List ℕ) → LineCommand �
   back_once : IsCommand names (codes "back" ∷ []) (Back 1)
   back : (word : List ℕ) (n : ℕ) → number_of word ≡ Some n → IsCommand names (codes "back" ∷ word ∷ []) (Back n)
   print : {ts : List (List ℕ)} {x : Expression} → IsExpr names ts x → IsCommand names (codes "print" ∷ ts) (Print x)
-  mem : (node from count : List ℕ) (addr len : ℕ) → is_word node ≡ true → number_of from ≡ Some addr → number_of count ≡ Some len → 1 ≤ len → len ≤ 256
+  mem : (node from count : List ℕ) (addr len : ℕ) → is_word node ≡ true → number_of from ≡ Some addr → number_of count ≡ Some len → 1 ≤ len → len ≤ most_shown_bytes
       → IsCommand names (codes "mem" ∷ node ∷ from ∷ count ∷ []) (Mem (node_called names node) addr len)
   threads : (node : List ℕ) → is_word node ≡ true → IsCommand names (codes "threads" ∷ node ∷ []) (Threads (node_called names node))
   last_events : IsCommand names (codes "events" ∷ []) (Events 10)
-  events : (word : List ℕ) (n : ℕ) → number_of word ≡ Some n → 1 ≤ n → n ≤ 1000 → IsCommand names (codes "events" ∷ word ∷ []) (Events n)
+  events : (word : List ℕ) (n : ℕ) → number_of word ≡ Some n → 1 ≤ n → n ≤ most_shown_events → IsCommand names (codes "events" ∷ word ∷ []) (Events n)
   watch : {ts : List (List ℕ)} {x : Expression} → IsExpr names ts x → IsCommand names (codes "watch" ∷ ts) (Watch x)
   break : (node : List ℕ) (kind : Kind) → is_word node ≡ true → IsCommand names (codes "break" ∷ node ∷ (row kind).name ∷ []) (Break (At (node_called names node)) kind)
   break_everywhere : (kind : Kind) → IsCommand names (codes "break" ∷ codes "*" ∷ (row kind).name ∷ []) (Break Everywhere kind)

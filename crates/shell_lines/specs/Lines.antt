@@ -10,6 +10,7 @@ use Rattle.watch_expr.specs.Expression.{Expression}
 use Rattle.embed_cmds.specs.Faulty.{lacks_names, nests_aggregates}
 use Rattle.embed_cmds.specs.Reading.{program_of, word_of}
 use Rattle.embed_cmds.specs.Tree.{Statements}
+use Rattle.shell_lines.specs.Limits.{most_shown_bytes, most_shown_events}
 use Rattle.shell_lines.specs.declared.command.Verb.{Verb}
 use Rattle.shell_lines.specs.declared.command.Verb.TheVariants as verb
 
@@ -142,9 +143,9 @@ command_of_verb names texts verb.Back = then_takes (count_or 0 most_number 1 tex
 command_of_verb names texts verb.Print = then_takes (expression_from names texts 1) (λ x. Ok (Print x))
 command_of_verb names texts verb.Mem =
     then_takes (token_at (node_named names) texts 1) (λ node. then_takes (token_at (number_from 0 most_number) texts 2) (λ addr.
-    then_takes (token_at (number_from 1 256) texts 3) (λ len. ends_at texts 4 (Mem node addr len))))
+    then_takes (token_at (number_from 1 most_shown_bytes) texts 3) (λ len. ends_at texts 4 (Mem node addr len))))
 command_of_verb names texts verb.Threads = then_takes (token_at (node_named names) texts 1) (λ node. ends_at texts 2 (Threads node))
-command_of_verb names texts verb.Events = then_takes (count_or 1 1000 10 texts) (λ n. ends_at texts 2 (Events n))
+command_of_verb names texts verb.Events = then_takes (count_or 1 most_shown_events 10 texts) (λ n. ends_at texts 2 (Events n))
 command_of_verb names texts verb.Watch = then_takes (expression_from names texts 1) (λ x. Ok (Watch x))
 command_of_verb names texts verb.Break =
     then_takes (token_at (scope_named names) texts 1) (λ scope. then_takes (token_at kind_named texts 2) (λ kind. ends_at texts 3 (Break scope kind)))

@@ -15,6 +15,12 @@ use fri_bytes::Bytes;
 use std::alloc::Global;
 use watch_expr::{ExprError, MOST_NUMBER, Tokens};
 
+// How many bytes of a memory one line shows at most.
+const MOST_SHOWN_BYTES: u64 = 256;
+
+// How many events one line shows at most.
+const MOST_SHOWN_EVENTS: u64 = 1000;
+
 const VERBS: [Verb; 17] = [
     Verb::Goto,
     Verb::Step,
@@ -107,7 +113,7 @@ fn read_behind(
             ending(tokens, 2, DebuggerCommand::Threads(node))
         }
         Verb::Events => {
-            let count = read_count(tokens, 1, 1000, 10)?;
+            let count = read_count(tokens, 1, MOST_SHOWN_EVENTS, 10)?;
             ending(tokens, 2, DebuggerCommand::Events(count))
         }
         Verb::Watch => Ok(DebuggerCommand::Watch(read_expression(alloc, tokens, 1, names)?)),
@@ -133,7 +139,7 @@ fn read_mem(tokens: &Tokens<'_>, names: &[Bytes]) -> Result<DebuggerCommand, Exp
 {
     let node = read_node(tokens, 1, names)?;
     let addr = read_number(tokens, 2, 0, MOST_NUMBER)?;
-    let len = read_number(tokens, 3, 1, 256)?;
+    let len = read_number(tokens, 3, 1, MOST_SHOWN_BYTES)?;
     ending(tokens, 4, DebuggerCommand::Mem(node, addr, len))
 }
 

@@ -5,6 +5,7 @@ use Rattle.wasm_types.specs.declared.code.Value.{Value}
 use Rattle.wasm_types.specs.declared.code.ValType.{ValType}
 use Rattle.wasm_types.specs.Calls.{result_of}
 use Rattle.wasm_types.specs.Code.{Trees, End, Then}
+use Rattle.wasm_types.specs.Limits.{most_thread_size}
 use Rattle.wasm_types.specs.Modules.{Func, FuncType}
 use Rattle.wasm_types.specs.Locals.{zeros}
 
@@ -147,16 +148,20 @@ size_of_frames (f ∷ fs) = length f.here.stack + size_of_levels f.outer + lengt
 abbrev pub size_of_thread : Thread → ℕ
 size_of_thread t = length t.stack + size_of_levels t.outer + length t.locals + size_of_frames t.callers
 
--- at most 512 frames, and at most 16,384 operands, locals and labels with this many more
+-- how many frames a thread may have, all but one of which wait
+abbrev pub most_frames : ℕ
+most_frames = 512
+
+-- at most so many frames, and with this many more it is no larger than a thread may be
 abbrev pub has_room : ℕ → Thread → Bool
-has_room more t = nat_lt (length t.callers) 512 && nat_le (size_of_thread t + more) 16384
+has_room more t = nat_lt (length t.callers) most_frames && nat_le (size_of_thread t + more) most_thread_size
 
 abbrev pub fits_limits : Thread → Bool
 fits_limits t = has_room 0 t
 
 -- the same with one more frame
 abbrev pub has_frame_room : ℕ → Thread → Bool
-has_frame_room more t = nat_lt (length t.callers + 1) 512 && nat_le (size_of_thread t + more) 16384
+has_frame_room more t = nat_lt (length t.callers + 1) most_frames && nat_le (size_of_thread t + more) most_thread_size
 
 -- without the n topmost operands
 abbrev pub without_operands : ℕ → Thread → Thread

@@ -1,8 +1,9 @@
 // A thread as an owned value: one stack each of operands, labels, locals and frames.
 ghost use Rattle.std.specs.Prelude.{◌∷◌, OnErr, ◌≡◌, ◌+◌, ◌-◌, ◌<◌, ◌≤◌, [], ◌++◌, drop, length, IfOk, OnOk, Some, None, if◌then◌else◌, IfSome, IfNone, IsTrue, nat_lt, nat_le, ◌&&◌, false, is_some, slice_get, slice_set, take, true};
 ghost use Rattle.wasm_types.specs.Code.{End, Then, tree, trees};
-ghost use Rattle.wasm_stack.specs.Thread.{arguments, closed_level, with_operand, without_operands, has_frame_room, has_room, is_end, fits_limits};
+ghost use Rattle.wasm_stack.specs.Thread.{arguments, closed_level, with_operand, without_operands, has_frame_room, has_room, is_end, fits_limits, most_frames};
 ghost use Rattle.std.specs.Vec.{vec_capacity};
+ghost use Rattle.wasm_types.specs.Limits.{most_thread_size};
 ghost use Rattle.wasm_stack.specs.Call.{call_sited};
 ghost use Rattle.wasm_stack.specs.Limits.{ThreadWithin};
 ghost use Rattle.wasm_stack.specs.View.{closed_by, entered_by};
@@ -13,7 +14,7 @@ mod frames;
 use crate::call::{CallSite, site};
 use std::alloc::AllocError;
 use std::marker::Model;
-use wasm_types::{Instr, Slot, ValType, Value};
+use wasm_types::{Instr, MOST_THREAD_SIZE, Slot, ValType, Value};
 
 /// A level around another: the instruction that opened the other, those after it, and how many operands lie below
 /// the level.
@@ -581,7 +582,7 @@ impl<'m> Stack<'m> {
 }
 
 fn keeps_limits(frames: usize, operands: usize, labels: usize, locals: usize, more: usize) -> bool
-    ensures { result ≡ (nat_lt frames 512 && nat_le (operands + labels + locals + more) 16384) }
+    ensures { result ≡ (nat_lt frames most_frames && nat_le (operands + labels + locals + more) most_thread_size) }
 {
     if frames >= MOST_FRAMES
         || operands > MOST_THREAD_SIZE
@@ -600,9 +601,6 @@ pub(crate) const MOST_FRAMES: usize = 512;
 /// Room is made for so many operands at a time.
 const ROOM: usize = 512;
 
-/// At most so many operands, locals and open labels of a thread.
-pub(crate) const MOST_THREAD_SIZE: usize = 16384;
-
 #[inline(always)]
 fn one_less(n: usize) -> usize
     ensures { result ≡ n - 1 }
@@ -613,7 +611,7 @@ fn one_less(n: usize) -> usize
 // How many operands there is room for, by the limit and by their memory.
 fn room_of(labels: usize, locals: usize, capacity: usize) -> usize
     ensures place { result ≤ capacity }
-    ensures limit { result ≤ 16384 - (labels + locals) }
+    ensures limit { result ≤ most_thread_size - (labels + locals) }
 {
     if labels > MOST_THREAD_SIZE || locals > MOST_THREAD_SIZE - labels {
         return 0;

@@ -2,6 +2,7 @@
 -- thread that runs first.
 use Rattle.std.specs.Prelude.{ℕ, ◌+◌, Bool, ◌&&◌, nat_le, min, List, [], ◌∷◌, ◌++◌, Option, Some, None, length, map, slice_get, replicate, take, drop, if◌then◌else◌}
 use Rattle.std.specs.List.{list_all}
+use Rattle.guest_memory.specs.Limits.{most_pages}
 use Rattle.guest_memory.specs.Memory.{Memory, fresh_memory, after_write_at}
 use Rattle.wasm_types.specs.declared.code.Value.{Value}
 use Rattle.wasm_types.specs.declared.code.Value.TheVariants.{I32, I64}
@@ -72,10 +73,10 @@ put_elems globals (e ∷ es) table = put_elems globals es (put_funcs table (offs
 
 -- ---- the memory
 
--- the most pages: the declared maximum, and 256 at most
+-- the most pages: the declared maximum, within the limit of a memory
 abbrev pub most_pages_within : Option ℕ → ℕ
-most_pages_within None = 256
-most_pages_within (Some max) = min 256 max
+most_pages_within None = most_pages
+most_pages_within (Some max) = min most_pages max
 
 abbrev pub first_most : List Limits → ℕ
 first_most [] = 0

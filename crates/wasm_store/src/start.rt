@@ -1,6 +1,7 @@
 // How a module begins: its globals, its table and its memory.
 ghost use Rattle.std.specs.Prelude.{◌≡◌, ◌+◌, ◌≤◌, IfOk, IsTrue, OnOk, None, length, map, nat_le, replicate, slice_get};
 ghost use Rattle.std.specs.List.{list_all};
+ghost use Rattle.guest_memory.specs.Limits.{most_pages};
 ghost use Rattle.guest_memory.specs.Memory.{fresh_memory};
 ghost use Rattle.wasm_types.specs.Code.{tree, trees};
 ghost use Rattle.wasm_types.specs.Modules.{elem, global_def, module_of, segment as segment_of};
@@ -8,7 +9,7 @@ ghost use Rattle.wasm_store.specs.Start.{constant, first_min, first_most, initia
 ghost use Rattle.wasm_store.specs.inside.Parts.{first_globals, first_values, store_of_parts};
 
 use crate::global::Global;
-use guest_memory::Memory;
+use guest_memory::{MOST_PAGES, Memory};
 use std::alloc::{AllocError, Global as Heap};
 use wasm_types::{Elem, GlobalDef, Instr, Limits, Module, Segment, ValidModule, Value, zero_of};
 use wasm_values::bits;
@@ -196,13 +197,13 @@ fn empty_memory(alloc: Heap, mems: &[Limits]) -> Result<Memory, AllocError>
 // The most pages of the first memory.
 fn first_most(limits: &[Limits]) -> u32
     ensures most { result ≡ first_most limits.now }
-    ensures within { result ≤ 256 }
+    ensures within { result ≤ most_pages }
 {
     match limits {
         [] => 0,
         [first, ..] => match first.max {
-            None => 256,
-            Some(max) => max.min(256),
+            None => MOST_PAGES,
+            Some(max) => max.min(MOST_PAGES),
         },
     }
 }

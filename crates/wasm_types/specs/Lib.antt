@@ -16,6 +16,7 @@ pub mod Typing
 pub mod Floats
 pub mod Library
 pub mod Rules
+pub mod Limits
 pub mod Valid
 pub mod Slots
 pub mod Locals

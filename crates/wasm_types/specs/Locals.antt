@@ -1,5 +1,6 @@
 -- What locals and globals start as.
 use Rattle.std.specs.Prelude.{◌≡◌, ℕ, ◌<◌, ◌≤◌, replicate, List, [], ◌∷◌, ◌++◌, Option, Some, None, length}
+use Rattle.wasm_types.specs.Limits.{most_thread_size}
 use Rattle.wasm_types.specs.declared.code.Value.{Value}
 use Rattle.wasm_types.specs.declared.code.Value.TheVariants.{I32, I64}
 use Rattle.wasm_types.specs.declared.code.ValType.{ValType}
@@ -17,7 +18,7 @@ abbrev pub zeros : List (ℕ × ValType) → List Value
 zeros [] = []
 zeros (d ∷ ds) = replicate d.0 (zero_of d.1) ++ zeros ds
 
--- how many locals these are, at most the 16,384 that a thread may have, and nothing where they are more
+-- how many locals these are, where a thread may have as many, and nothing where they are more
 abbrev pub CountsTo : List (ℕ × ValType) → Option ℕ → Type 0
-CountsTo ds (Some n) = (n ≡ length (zeros ds)) × (n ≤ 16384)
-CountsTo ds None = 16384 < length (zeros ds)
+CountsTo ds (Some n) = (n ≡ length (zeros ds)) × (n ≤ most_thread_size)
+CountsTo ds None = most_thread_size < length (zeros ds)

@@ -10,6 +10,7 @@ use Rattle.wasm_types.specs.Modules.{FuncType, Func, Export, Module}
 use Rattle.wasm_types.specs.Context.{imported_funcs, func_type_of}
 use Rattle.wasm_types.specs.Floats.{is_with_floats}
 use Rattle.wasm_types.specs.Library.{IsOfLibrary}
+use Rattle.wasm_types.specs.Limits.{most_elements, most_first_pages, most_locals}
 use Rattle.wasm_types.specs.Rules.{IsTyped}
 
 abbrev pub HasFloat : Module → Type 0
@@ -28,13 +29,12 @@ local_count m f =
     option_map_or (λ (t : FuncType). length t.params) (slice_get m.types f.type_index) 0
     + sum (map (λ (run : ℕ × ValType). run.0) f.locals)
 
--- a memory of more than 256 pages at first, a table of more than 65,536 elements, or a function of more
--- than 4,096 parameters and locals
+-- a memory of too many pages at first, a table of too many elements, or a function of too many parameters and locals
 abbrev pub is_over_limit : Module → Bool
 is_over_limit m =
-    list_any (λ (l : Limits). nat_lt 256 l.min) m.mems
-    || (list_any (λ (l : Limits). nat_lt 65536 l.min) m.tables
-    || list_any (λ f. nat_lt 4096 (local_count m f)) m.funcs)
+    list_any (λ (l : Limits). nat_lt most_first_pages l.min) m.mems
+    || (list_any (λ (l : Limits). nat_lt most_elements l.min) m.tables
+    || list_any (λ f. nat_lt most_locals (local_count m f)) m.funcs)
 
 abbrev pub IsOverLimit : Module → Type 0
 IsOverLimit m = IsTrue (is_over_limit m)

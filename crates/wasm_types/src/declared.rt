@@ -8,8 +8,8 @@ use crate::slot::Slot;
 use std::alloc::{AllocError, Global};
 use std::marker::Model;
 
-/// A thread has at most so many locals.
-const MOST_THREAD_SIZE: usize = 16384;
+/// How many operands, locals and labels a thread may have.
+pub const MOST_THREAD_SIZE: usize = 16384;
 
 /// The locals that a function declares, as counts and types without those of count 0, of which a module can declare
 /// millions. Contracts see these runs.

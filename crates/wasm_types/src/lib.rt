@@ -27,7 +27,7 @@ mod valid;
 pub use accesses::{Access, load_access, store_access};
 pub use callee::{Callee, callee_at};
 pub use code::{Instr, ValType, Value};
-pub use declared::{Declared, zero_of};
+pub use declared::{Declared, MOST_THREAD_SIZE, zero_of};
 pub use functions::{imported_type, is_same_type, result_of, type_at, type_of};
 pub use library::importable;
 pub use modules::{

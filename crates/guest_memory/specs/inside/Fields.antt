@@ -1,5 +1,6 @@
 -- The fields of a memory.
 use Rattle.std.specs.Prelude.{◌≡◌, ◌≤◌, ◌*◌, ◌%◌, length}
+use Rattle.guest_memory.specs.Limits.{most_pages}
 use Rattle.guest_memory.specs.Memory.{Memory}
 use Rattle.guest_memory.specs.inside.Pages.{AreWhole, bytes_of_pages, stamps_of}
 use Rattle.guest_memory.specs.declared.memory.Memory.TheInside.{Inside}
@@ -18,4 +19,4 @@ pub record HasMemory (inside : Inside) : Type 0 where
   pub whole : AreWhole inside.pages.items
   pub even : length inside.pages.items % 16 ≡ 0
   pub within : length inside.pages.items ≤ 16 * inside.max
-  pub most : inside.max ≤ 256
+  pub most : inside.max ≤ most_pages

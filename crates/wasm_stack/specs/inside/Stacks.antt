@@ -2,6 +2,7 @@
 use Rattle.std.specs.Prelude.{false, List, [], ◌∷◌, Option, is_some, ℕ, reverse, drop, take, ◌≡◌, ◌≤◌, length, ◌+◌, ◌-◌}
 use Rattle.wasm_types.specs.declared.code.ValType.{ValType}
 use Rattle.wasm_types.specs.Code.{End, tree, trees, Trees}
+use Rattle.wasm_types.specs.Limits.{most_thread_size}
 use Rattle.wasm_stack.specs.declared.stack.StackLevel.{StackLevel}
 use Rattle.wasm_types.specs.declared.code.Value.{Value}
 use Rattle.wasm_stack.specs.declared.stack.StackFrame.{StackFrame}
@@ -82,7 +83,7 @@ AreFrameParts (f ∷ fs) labels locals ops =
 -- with fewer operands than the room, one more has its place and keeps to the limit
 pub record HasOperandRoom (s : Inside) : Type 0 where
   pub place : s.room ≤ s.operands.cap
-  pub limit : s.room ≤ 16384 - (length s.labels.items + length s.locals.items)
+  pub limit : s.room ≤ most_thread_size - (length s.labels.items + length s.locals.items)
 
 pub record IsStack (s : Inside) : Type 0 where
   pub part : IsFramePart s.here s.labels.items s.locals.items s.operands.items
