@@ -1,7 +1,7 @@
 // How calls set the handlers of signals.
 ghost use Rattle.std.specs.Prelude.{◌≡◌, IfSome, IsTrue};
 ghost use Rattle.signal_points.specs.Signals.{is_signal};
-ghost use Rattle.guest_process.specs.Answers.{after_need, handled, handler_given, handler_named};
+ghost use Rattle.guest_process.specs.Answers.{after_need, handled, handler_given};
 ghost use Rattle.guest_process.specs.Seen.{plain_need};
 ghost use Rattle.guest_process.specs.inside.Seen.{state_of};
 
@@ -45,22 +45,15 @@ impl<'m> Parts<'m> {
         self.handlers = self.handlers_with(signal, number);
     }
 
-    // The handler, or none, that a call gives a signal with this number, where there is that signal.
+    // The handler, or none, that a call gives a signal with this number, where there is that signal and the number names one: no
+    // handler, or the function at that place of the table.
     fn handler_given(&self, signal: u32, number: u32) -> Option<Option<u32>>
         ensures given { result ≡ handler_given (state_of self.now) signal number }
         ensures signal { IfSome result (λ _. IsTrue (is_signal signal)) }
     {
-        if 1 <= signal && signal <= u32::from(MOST_SIGNAL) {
-            self.handler_named(number)
-        } else {
-            None
+        if signal == 0 || signal > u32::from(MOST_SIGNAL) {
+            return None;
         }
-    }
-
-    // What this number names: no handler, or the function at that place of the table.
-    fn handler_named(&self, number: u32) -> Option<Option<u32>>
-        ensures { result ≡ handler_named (state_of self.now).store number }
-    {
         if number == REMOVAL {
             return Some(None);
         }

@@ -14,9 +14,9 @@ use crate::need::Need;
 use crate::parts::Parts;
 use crate::threads::narrow;
 use crate::waiting::Waiting;
-use crate::world::{brings_nothing, is_drawn, is_empty, takes_datagram};
+use crate::world::{brings_nothing, is_drawn, takes_datagram};
 use lamport_tag::is_next_clock;
-use lib_calls::{Call, EntryView, Kind, REFUSED, good_arguments, is_outgoing};
+use lib_calls::{Call, EntryView, Kind, NONE_THERE, REFUSED, good_arguments, is_outgoing};
 use signal_points::{Handlers, MOST_SIGNAL};
 
 impl<'m> Parts<'m> {
@@ -112,7 +112,10 @@ impl<'m> Parts<'m> {
             Kind::SleepUntil => is_due(waiting.call.a0, entry.reply) && brings_nothing(entry),
             Kind::Random => is_drawn(&waiting.call, entry),
             Kind::Recv => takes_datagram(self.count, &waiting.call, entry),
-            Kind::TryRecv => takes_datagram(self.count, &waiting.call, entry) || is_empty(entry),
+            Kind::TryRecv => {
+                takes_datagram(self.count, &waiting.call, entry)
+                    || (entry.reply == NONE_THERE && brings_nothing(entry))
+            }
             _ => false,
         }
     }

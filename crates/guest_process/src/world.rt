@@ -1,12 +1,11 @@
 // Which answers the world can give.
 ghost use Rattle.std.specs.Prelude.{◌≡◌};
 ghost use Rattle.lib_calls.specs.Answer.{answer_of};
-ghost use Rattle.lib_calls.specs.Effects.{takes_counted};
 ghost use Rattle.lib_calls.specs.Entry.{entry_of};
-ghost use Rattle.guest_process.specs.Answers.{brings_nothing, is_drawn, is_empty, is_payload, takes_datagram};
+ghost use Rattle.guest_process.specs.Answers.{brings_nothing, is_drawn, is_payload, takes_datagram};
 
 use lamport_tag::{Tag, is_sendable, read_tag};
-use lib_calls::{Call, EntryView, NONE_THERE};
+use lib_calls::{Call, EntryView};
 
 /// Whether so many bytes came in as the call asks for, and no tag.
 pub(crate) fn is_drawn(call: &Call, entry: &EntryView<'_>) -> bool
@@ -20,15 +19,8 @@ pub(crate) fn is_drawn(call: &Call, entry: &EntryView<'_>) -> bool
 pub(crate) fn takes_datagram(count: u32, call: &Call, entry: &EntryView<'_>) -> bool
     ensures { result ≡ takes_datagram count call.now (answer_of (entry_of entry.now)) }
 {
-    is_counted(call, entry) && is_payload(count, entry.tag, entry.incoming)
-}
-
-// Whether the reply counts the bytes that came in, and the call has room for them.
-fn is_counted(call: &Call, entry: &EntryView<'_>) -> bool
-    ensures { result ≡ takes_counted call.now (answer_of (entry_of entry.now)) }
-{
     let length = entry.incoming.len() as u64;
-    entry.reply == length && length <= call.a1
+    (entry.reply == length && length <= call.a1) && is_payload(count, entry.tag, entry.incoming)
 }
 
 // Whether some datagram of a group of so many processes has this tag, or none, and this payload.
@@ -39,13 +31,6 @@ fn is_payload(count: u32, tag: Option<Tag>, payload: &[u8]) -> bool
         Some(tag) => is_sendable(tag, count),
         None => read_tag(payload, count).is_none(),
     }
-}
-
-/// Whether no datagram was there.
-pub(crate) fn is_empty(entry: &EntryView<'_>) -> bool
-    ensures { result ≡ is_empty (answer_of (entry_of entry.now)) }
-{
-    entry.reply == NONE_THERE && brings_nothing(entry)
 }
 
 /// Whether the entry has no bytes that came in and no tag.
