@@ -9,7 +9,8 @@ use Rattle.proc_replay.specs.Replaying.{Replaying}
 use Rattle.group_state.specs.declared.event.GroupEvent.{GroupEvent}
 use Rattle.group_state.specs.Moves.{GroupMoves, event_of}
 use Rattle.group_state.specs.Place.{GroupPlace, events_of_replays}
-use Rattle.shell_points.specs.Firing.{watchpoint_fires, is_unchanged, place_at, value_at_position}
+use Rattle.page_watch.specs.Firing.{is_same_value}
+use Rattle.shell_points.specs.Firing.{watchpoint_fires, place_at, value_at_position}
 use Rattle.watch_expr.specs.Expression.{Expression}
 use Rattle.drill_command.specs.Drill.{drill_watch}
 use Rattle.drill_command.specs.inside.Seen.{IsWatchedDrill}
@@ -82,7 +83,7 @@ all_watched first old new event walked firings last so_far moves none at =
 
 -- at one position more
 pub one_walked : (first old new : GroupPlace) (event : Option GroupEvent) (firings next : ℕ) (last now : Option ℤ) → WalkedTo first old firings last → GroupMoves old new event
-    → is_some event ≡ true → now ≡ value_at_position new.start drill_watch new.at → next ≡ firings + cond (not (is_unchanged last now)) 1 0 → WalkedTo first new next now
+    → is_some event ≡ true → now ≡ value_at_position new.start drill_watch new.at → next ≡ firings + cond (not (is_same_value last now)) 1 0 → WalkedTo first new next now
 one_walked first old new event firings next last now so_far moves some is counted =
     let went = moves_on old new event some moves in
     let here : new ≡ place_at first.start (suc old.at) = went.0 ∙ ap (λ (s : List Replaying). place_at s (suc old.at)) so_far.start in
@@ -90,12 +91,12 @@ one_walked first old new event firings next last now so_far moves some is counte
     let at : new.at ≡ suc old.at = ap (λ (p : GroupPlace). p.at) here in
     let same : length (events_of_replays old.start) ≡ length (events_of_replays first.start) = ap (λ (s : List Replaying). length (events_of_replays s)) so_far.start in
     let value : now ≡ value_at_position first.start drill_watch (suc old.at) = is ∙ ap (λ (p : GroupPlace). value_at_position p.start drill_watch p.at) here in
-    let fires_here : cond (not (is_unchanged last now)) 1 0 ≡ once first.start (suc old.at) =
-    ap (λ (v : Option ℤ). cond (not (is_unchanged v now)) 1 0) so_far.value ∙ ap (λ (v : Option ℤ). cond (not (is_unchanged (value_at_position first.start drill_watch old.at) v)) 1 0) value in
+    let fires_here : cond (not (is_same_value last now)) 1 0 ≡ once first.start (suc old.at) =
+    ap (λ (v : Option ℤ). cond (not (is_same_value v now)) 1 0) so_far.value ∙ ap (λ (v : Option ℤ). cond (not (is_same_value (value_at_position first.start drill_watch old.at) v)) 1 0) value in
     record {
       start = start;
       within = omega (arith, went.1, same, at);
-      fired = counted ∙ ap (λ (n : ℕ). n + cond (not (is_unchanged last now)) 1 0) so_far.fired ∙ ap (λ (n : ℕ). fired_by first.start old.at + n) fires_here
+      fired = counted ∙ ap (λ (n : ℕ). n + cond (not (is_same_value last now)) 1 0) so_far.fired ∙ ap (λ (n : ℕ). fired_by first.start old.at + n) fires_here
           ∙ sym (fired_more first.start old.at) ∙ ap (fired_by first.start) (sym at);
       value = value ∙ ap (value_at_position first.start drill_watch) (sym at);
     }

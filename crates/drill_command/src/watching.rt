@@ -1,11 +1,11 @@
 // The walk over all positions, with a watchpoint.
 ghost use Rattle.std.specs.Prelude.{◌≡◌, IfOk};
 ghost use Rattle.watch_expr.specs.Expression.{expression_of};
-ghost use Rattle.shell_points.specs.Firing.{is_unchanged};
 ghost use Rattle.drill_command.specs.Drill.{drill_watch};
 ghost use Rattle.drill_command.specs.inside.Seen.{IsWatchedDrill};
 
 use group_state::Group;
+use page_watch::is_same_value;
 use std::alloc::{AllocError, Global};
 use watch_expr::{Agg, Expr, NodeName, Scope, Width, eval};
 
@@ -37,18 +37,6 @@ fn watchpoint(alloc: Global) -> Result<Expr, AllocError>
     let address = Box::new(alloc, Expr::Number(1024))?;
     let count = Box::new(alloc, Expr::Load(NodeName::Each, Width::I64, address))?;
     Ok(Expr::Over(Agg::Sum, count))
-}
-
-// Whether two values are the same, where `undef` is so to itself alone.
-fn is_same_value(before: Option<i64>, now: Option<i64>) -> bool
-    ensures { result ≡ is_unchanged before now }
-{
-    match (before, now) {
-        (None, None) => true,
-        (Some(a), Some(b)) => a == b,
-        (None, Some(_)) => false,
-        (Some(_), None) => false,
-    }
 }
 
 /// Walks from position 0 to the last.

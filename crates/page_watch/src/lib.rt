@@ -18,5 +18,5 @@ mod watch;
 mod watches;
 
 pub use view::TouchView;
-pub use watch::{Change, Watch};
+pub use watch::{Change, Watch, is_same_value};
 pub use watches::Watches;

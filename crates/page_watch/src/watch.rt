@@ -129,7 +129,8 @@ fn change_between(old: Option<i64>, new: Option<i64>) -> Option<Change>
     }
 }
 
-fn is_same_value(old: Option<i64>, new: Option<i64>) -> bool
+/// Whether two values of an expression are the same, where none is the same as none alone.
+pub fn is_same_value(old: Option<i64>, new: Option<i64>) -> bool
     ensures { result ≡ is_same_value old new }
 {
     match (old, new) {

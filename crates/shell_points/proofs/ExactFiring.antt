@@ -11,10 +11,11 @@ use Rattle.embed_cmds.specs.Tree.{Statements}
 use Rattle.embed_cmds.specs.Variables.{Variable}
 use Rattle.group_state.specs.Place.{events_of_replays}
 use Rattle.group_state.specs.Seen.{nodes_at}
+use Rattle.page_watch.specs.Firing.{is_same_value}
 use Rattle.proc_replay.specs.Replaying.{Replaying}
 use Rattle.watch_expr.specs.Value.{equal}
 use Rattle.watch_expr.specs.View.{Node}
-use Rattle.shell_points.specs.Firing.{firing_line, firing_lines, has_due_point, is_due_at, is_unchanged, place_at, point_said_at, value_at_position}
+use Rattle.shell_points.specs.Firing.{firing_line, firing_lines, has_due_point, is_due_at, place_at, point_said_at, value_at_position}
 use Rattle.shell_points.specs.Laws.{ExactFiring, IsContinuedTo, IsLastDue, IsNextDue, NoPointBelow, ends, stops}
 use Rattle.shell_points.specs.Points.{Point}
 use Rattle.shell_points.specs.Returning.{last_due}
@@ -52,24 +53,24 @@ equal_same : (a : ℤ) → equal a a ≡ true
 equal_same (pos a) = twice (nat_le a a) (le_self a)
 equal_same (negsuc a) = twice (nat_le a a) (le_self a)
 
-same_is : (a b : Option ℤ) → is_unchanged a b ≡ true → a ≡ b
+same_is : (a b : Option ℤ) → is_same_value a b ≡ true → a ≡ b
 same_is None None e = refl
 same_is None (Some b) e = absurd cc
 same_is (Some a) None e = absurd cc
 same_is (Some a) (Some b) e = ap (λ (z : ℤ). Some z) (same_equal a b e)
 
-pub same_again : (a : Option ℤ) → is_unchanged a a ≡ true
+pub same_again : (a : Option ℤ) → is_same_value a a ≡ true
 same_again None = refl
 same_again (Some a) = equal_same a
 
-differ : (a b : Option ℤ) → not (is_unchanged a b) ≡ true → a ≡ b → ⊥
+differ : (a b : Option ℤ) → not (is_same_value a b) ≡ true → a ≡ b → ⊥
 differ a b e same =
-    let again : is_unchanged a b ≡ true = ap (λ (c : Option ℤ). is_unchanged a c) (sym same) ∙ same_again a in
+    let again : is_same_value a b ≡ true = ap (λ (c : Option ℤ). is_same_value a c) (sym same) ∙ same_again a in
     let never : ◌≡◌ {A = Bool} false true = sym (ap not again) ∙ e in
     absurd cc
 
-differ_again : (a b : Option ℤ) → (a ≡ b → ⊥) → not (is_unchanged a b) ≡ true
-differ_again a b other = by (is_unchanged a b) (same_is a b)
+differ_again : (a b : Option ℤ) → (a ≡ b → ⊥) → not (is_same_value a b) ≡ true
+differ_again a b other = by (is_same_value a b) (same_is a b)
   where
     by : (c : Bool) → (c ≡ true → a ≡ b) → not c ≡ true
     by true is = absurd (other (is refl))

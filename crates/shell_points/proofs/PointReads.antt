@@ -18,11 +18,12 @@ use Rattle.watch_expr.specs.Value.{value}
 use Rattle.page_watch.specs.Touch.{meets}
 use Rattle.page_watch.specs.Watched.{WatchStands, Watched}
 use Rattle.embed_cmds.specs.Running.{ProgramState}
+use Rattle.page_watch.specs.Firing.{is_same_value}
 use Rattle.shell_points.specs.declared.point.Point.{Point as Held}
 use Rattle.shell_points.specs.declared.point.Trigger.{Trigger as HeldTrigger}
 use Rattle.shell_points.specs.declared.point.Trigger.TheVariants as held
 use Rattle.shell_points.specs.declared.watching.Watching.{Watching}
-use Rattle.shell_points.specs.Firing.{firing_line, firing_lines, has_due_point, is_due_at, is_unchanged, place_at, reading, value_at_position}
+use Rattle.shell_points.specs.Firing.{firing_line, firing_lines, has_due_point, is_due_at, place_at, reading, value_at_position}
 use Rattle.shell_points.specs.Points.{Break, Point, Trigger, Watch}
 use Rattle.shell_points.specs.inside.Reading.{point_readings}
 use Rattle.shell_points.specs.inside.Seen.{point}
@@ -144,8 +145,8 @@ breaks_same (p ∷ ps) = ap (λ (b : Bool). is_break (point p) || b) (breaks_sam
 
 -- ---- where no point can fire
 
-same_silent : (before now : Option ℤ) → now ≡ before → not (is_unchanged before now) ≡ false
-same_silent before now same = ap (λ (v : Option ℤ). not (is_unchanged before v)) same ∙ ap not (same_again before)
+same_silent : (before now : Option ℤ) → now ≡ before → not (is_same_value before now) ≡ false
+same_silent before now same = ap (λ (v : Option ℤ). not (is_same_value before v)) same ∙ ap not (same_again before)
 
 none_by : (start : List Replaying) (k : ℕ) (t : Trigger) → is_break_by t ≡ false → reading start (suc k) t ≡ reading start k t → is_due_at start (suc k) t ≡ false
 none_by start k (Watch x) bare same = same_silent (reading start k (Watch x)) (reading start (suc k) (Watch x)) same

@@ -10,8 +10,9 @@ use Rattle.group_state.specs.Moves.{last_event_of}
 use Rattle.group_state.specs.Place.{GroupPlace}
 use Rattle.group_state.specs.Seen.{nodes_at}
 use Rattle.watch_expr.specs.Expression.{Expression}
-use Rattle.watch_expr.specs.Value.{equal, value}
+use Rattle.watch_expr.specs.Value.{value}
 use Rattle.embed_cmds.specs.Running.{value_word}
+use Rattle.page_watch.specs.Firing.{is_same_value}
 use Rattle.shell_points.specs.Points.{Break, Point, Trigger, Watch}
 
 abbrev pub no_variable : List ℕ → Option ℤ
@@ -34,13 +35,6 @@ reading start k (Break of_node kind) = None
 
 -- ---- where it fires, by what it read before and reads now
 
--- `undef` is equal to itself alone
-abbrev pub is_unchanged : Option ℤ → Option ℤ → Bool
-is_unchanged None None = true
-is_unchanged None (Some b) = false
-is_unchanged (Some a) None = false
-is_unchanged (Some a) (Some b) = equal a b
-
 abbrev pub is_of_node : Option ℕ → ℕ → Bool
 is_of_node None n = true
 is_of_node (Some wanted) n = wanted == n
@@ -51,7 +45,7 @@ is_event_of_kind of_node kind (Some e) = is_of_node of_node e.node && e.entry.ca
 
 -- A watchpoint fires where it reads another value than before, a breakpoint where the event between is of its kind and node.
 abbrev pub is_due_by : Option ℤ → Option ℤ → Option (NodeEvent Entry) → Trigger → Bool
-is_due_by before now event (Watch x) = not (is_unchanged before now)
+is_due_by before now event (Watch x) = not (is_same_value before now)
 is_due_by before now event (Break of_node kind) = is_event_of_kind of_node kind event
 
 -- from one value to another

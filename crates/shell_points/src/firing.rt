@@ -1,7 +1,7 @@
 // Where points fire, and what they say there.
 ghost use Rattle.std.specs.Prelude.{◌≡◌, ◌++◌, Some, OnOk};
 ghost use Rattle.group_state.specs.Moves.{event_of, last_event_of};
-ghost use Rattle.shell_points.specs.Firing.{is_due_by, is_event_of_kind, is_unchanged, firing_line_by};
+ghost use Rattle.shell_points.specs.Firing.{is_due_by, is_event_of_kind, firing_line_by};
 ghost use Rattle.shell_points.specs.Seen.{trigger as seen_trigger};
 
 use crate::point::{Point, Trigger};
@@ -9,19 +9,8 @@ use embed_cmds::push_value;
 use fri_text::Text;
 use group_state::{Group, GroupEvent};
 use lib_calls::Kind;
+use page_watch::is_same_value;
 use std::alloc::AllocError;
-
-// Whether two values are the same, where `undef` is so to itself alone.
-fn is_same_value(before: Option<i64>, now: Option<i64>) -> bool
-    ensures { result ≡ is_unchanged before now }
-{
-    match (before, now) {
-        (None, None) => true,
-        (Some(a), Some(b)) => a == b,
-        (None, Some(_)) => false,
-        (Some(_), None) => false,
-    }
-}
 
 // Whether an event is of this kind, and of the node where one is given.
 fn is_of(node: Option<u32>, kind: Kind, event: &GroupEvent<'_>) -> bool
