@@ -44,7 +44,7 @@ impl Streams {
 
     /// A process sent a payload to another at this clock, at which no send of it is kept. After want of memory a part
     /// of what it changes may stand, and the streams are not used again.
-    pub fn sent(
+    pub fn add_sent(
         &mut self,
         from: u32,
         clock: u64,
@@ -71,7 +71,12 @@ impl Streams {
     }
 
     /// A process took a payload after this tag. The streams are not used again after want of memory.
-    pub fn received(&mut self, by: u32, tag: Tag, payload: &[u8]) -> Result<PayloadMark, AllocError>
+    pub fn add_received(
+        &mut self,
+        by: u32,
+        tag: Tag,
+        payload: &[u8],
+    ) -> Result<PayloadMark, AllocError>
         ensures { let r : ReceivedPayload = record { by = by; tag = tag; payload = payload.now } in IfOk result (λ mark. (early : List SendOrReceive) → StandsFor self.old early → StandsFor self.new (Received r ∷ early) × (mark ≡ mark_of_receive r early)) }
     {
         let Some(chunk) = read_chunk(payload) else {

@@ -96,7 +96,7 @@ impl<'a> LogView<'a> {
     }
 
     /// The bytes after the entries that were read.
-    pub fn rest(&self) -> &'a [u8]
+    pub fn unread(&self) -> &'a [u8]
         ensures { result.now ≡ self.now.left.bytes }
     {
         self.rest

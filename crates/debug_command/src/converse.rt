@@ -70,7 +70,7 @@ impl From<WriteError> for Ended {
 
 // A session, the bytes of the line that has begun, and how many bytes were taken.
 #[derive(Drop)]
-struct Talk<'m, 'a> {
+struct LineReader<'m, 'a> {
     session: Session<'m, 'a>,
     begun: Vec<u8>,
     count: usize,
@@ -81,7 +81,7 @@ fn begin<'m, 'a, K: Sink>(
     alloc: Global,
     parts: Vec<Replayer<'m, 'a>>,
     out: &mut K,
-) -> Result<Talk<'m, 'a>, Ended>
+) -> Result<LineReader<'m, 'a>, Ended>
     requires { AreParts parts.items }
     ensures said { MatchResult result
         (λ talk. SessionOpens parts.entry.items (K.taken out.old) (K.taken out.new) (session_talk_of talk))
@@ -93,7 +93,7 @@ fn begin<'m, 'a, K: Sink>(
     let group = Group::begin(alloc, parts)?;
     let (session, text) = Session::begin(alloc, group)?;
     write_whole(out, text.bytes())?;
-    Ok(Talk {
+    Ok(LineReader {
         session,
         begun: Vec::new(alloc),
         count: 0,
@@ -115,7 +115,7 @@ fn answer<'m, 'a, K: Sink, L: Ledger>(
     let Some(line) = next_line(&mut Cursor::new(bytes)) else {
         return Ok(session);
     };
-    let (session, text, goes) = session.line(alloc, line, steps)?;
+    let (session, text, goes) = session.answer_line(alloc, line, steps)?;
     write_whole(out, text.bytes())?;
     match goes {
         Go::On => Ok(session),
@@ -126,11 +126,11 @@ fn answer<'m, 'a, K: Sink, L: Ledger>(
 // Takes a byte, and answers the line that it ends.
 fn take_byte<'m, 'a, K: Sink, L: Ledger>(
     alloc: Global,
-    talk: Talk<'m, 'a>,
+    talk: LineReader<'m, 'a>,
     b: u8,
     out: &mut K,
     steps: &mut Steps<L>,
-) -> Result<Talk<'m, 'a>, Ended>
+) -> Result<LineReader<'m, 'a>, Ended>
     ensures said { MatchResult result
         (λ next. SessionGoesOn (b ∷ []) (K.taken out.old) (K.taken out.new) (session_talk_of talk.entry) (session_talk_of next))
         (SessionStopsIn (b ∷ []) (K.taken out.old) (K.taken out.new) (session_talk_of talk.entry)) }
@@ -139,7 +139,7 @@ fn take_byte<'m, 'a, K: Sink, L: Ledger>(
     ensures counted { K.faults out.new ≡ failed_says_of_session (K.faults out.old) result }
     ensures heard { K.hearing out.new ≡ K.hearing out.old }
 {
-    let Talk {
+    let LineReader {
         session,
         mut begun,
         count,
@@ -150,14 +150,14 @@ fn take_byte<'m, 'a, K: Sink, L: Ledger>(
     begun.push(b)?;
     let count = count + 1;
     if b != b'\n' {
-        return Ok(Talk {
+        return Ok(LineReader {
             session,
             begun,
             count,
         });
     }
     let session = answer(alloc, session, begun.as_slice(), out, steps)?;
-    Ok(Talk {
+    Ok(LineReader {
         session,
         begun: Vec::new(alloc),
         count,
@@ -167,11 +167,11 @@ fn take_byte<'m, 'a, K: Sink, L: Ledger>(
 // Takes the bytes of a piece.
 fn take_piece<'m, 'a, K: Sink, L: Ledger>(
     alloc: Global,
-    talk: Talk<'m, 'a>,
+    talk: LineReader<'m, 'a>,
     piece: &[u8],
     out: &mut K,
     steps: &mut Steps<L>,
-) -> Result<Talk<'m, 'a>, Ended>
+) -> Result<LineReader<'m, 'a>, Ended>
     requires { talk.count ≤ MOST_INPUT }
     ensures said { MatchResult result
         (λ next. SessionGoesOn piece.now (K.taken out.old) (K.taken out.new) (session_talk_of talk.entry) (session_talk_of next))
@@ -189,13 +189,13 @@ fn take_piece<'m, 'a, K: Sink, L: Ledger>(
 }
 
 // Reads a piece of the input and takes it. False comes at the end of the input, where there is none.
-fn hear<'m, 'a, T: Terminal, L: Ledger>(
+fn read_piece<'m, 'a, T: Terminal, L: Ledger>(
     alloc: Global,
-    talk: Talk<'m, 'a>,
+    talk: LineReader<'m, 'a>,
     piece: &mut [u8],
     io: &mut T,
     steps: &mut Steps<L>,
-) -> Result<(Talk<'m, 'a>, bool), Ended>
+) -> Result<(LineReader<'m, 'a>, bool), Ended>
     requires within { talk.count ≤ MOST_INPUT }
     requires room { 0 < length piece.old }
     ensures said { let terminal = terminal_at T.hearing T.taken T.faults in
@@ -213,9 +213,9 @@ fn hear<'m, 'a, T: Terminal, L: Ledger>(
 }
 
 // Answers what is typed, up to the end of the input or of the session.
-fn listen<T: Terminal, L: Ledger>(
+fn read_lines<T: Terminal, L: Ledger>(
     alloc: Global,
-    talk: Talk<'_, '_>,
+    talk: LineReader<'_, '_>,
     io: &mut T,
     steps: &mut Steps<L>,
 ) -> Result<(), Ended>
@@ -229,7 +229,7 @@ fn listen<T: Terminal, L: Ledger>(
     let mut piece = [0; INPUT_PIECE];
     'hearing: loop {
         let room = INPUT_PIECE.min(MOST_INPUT + 1 - talk.count);
-        let (next, more) = hear(alloc, talk, &mut piece[..room], io, steps)?;
+        let (next, more) = read_piece(alloc, talk, &mut piece[..room], io, steps)?;
         if !more {
             answer(alloc, next.session, next.begun.as_slice(), io, steps)?;
             return Ok(());
@@ -239,7 +239,7 @@ fn listen<T: Terminal, L: Ledger>(
 }
 
 // Begins a session, and holds it to its end.
-fn hold<T: Terminal, L: Ledger>(
+fn run_session<T: Terminal, L: Ledger>(
     alloc: Global,
     parts: Vec<Replayer<'_, '_>>,
     io: &mut T,
@@ -251,12 +251,12 @@ fn hold<T: Terminal, L: Ledger>(
     ensures counted { T.faults io.new ≡ failed_says_of_session (T.faults io.old) result }
 {
     let talk = begin(alloc, parts, io)?;
-    listen(alloc, talk, io, steps)
+    read_lines(alloc, talk, io, steps)
 }
 
 /// Answers each whole line of the input before it asks for more, and ends after a line that ends the session, or
 /// after the last line. The counter of the evaluations of watchpoints begins with the session.
-pub(crate) fn converse<T: Terminal, L: Ledger>(
+pub(crate) fn debug_lines<T: Terminal, L: Ledger>(
     alloc: Global,
     blank: Blank,
     parts: Vec<Replayer<'_, '_>>,
@@ -269,7 +269,7 @@ pub(crate) fn converse<T: Terminal, L: Ledger>(
     ensures { let terminal = terminal_at T.hearing T.taken T.faults in ConversesInSession parts.entry.items (terminal io.old) (terminal io.new) result }
 {
     let mut steps = Steps::<L>::new(blank);
-    match hold(alloc, parts, io, &mut steps) {
+    match run_session(alloc, parts, io, &mut steps) {
         Ok(()) => Status::Done,
         Err(Ended::Done) => Status::Done,
         Err(Ended::TooLarge) => say_refused(alloc, "input", Reason::TooLarge, io),

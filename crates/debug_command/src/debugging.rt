@@ -4,7 +4,7 @@ ghost use Rattle.command_run.specs.Run.{outside};
 ghost use Rattle.log_pairs.specs.Seen.{pair_of};
 ghost use Rattle.debug_command.specs.Run.{DebugRun};
 
-use crate::converse::converse;
+use crate::converse::debug_lines;
 use command_run::{Status, finish};
 use fri_outside::{Files, Terminal};
 use log_pairs::{Pair, begin_all, load_all};
@@ -29,7 +29,7 @@ pub fn debug<F: Files, T: Terminal>(
         Err(refusal) => return finish(alloc, Err(refusal), io),
     };
     match begin_all(alloc, &all) {
-        Ok(parts) => converse::<T, Brand>(alloc, Blank::new(1), parts, io),
+        Ok(parts) => debug_lines::<T, Brand>(alloc, Blank::new(1), parts, io),
         Err(refusal) => finish(alloc, Err(refusal), io),
     }
 }

@@ -6,7 +6,7 @@ use Rattle.embed_cmds.specs.Faulty.{set_names}
 use Rattle.embed_cmds.specs.Tree.{Statements}
 use Rattle.embed_cmds.specs.Variables.{is_mentioned, mention_all}
 use Rattle.shell_lines.specs.Lines.{At, Back, Break, LineCommand, Continue, Delete, Do, Events, Everywhere, Goto, ListPoints, ListVariables, Mem, Print, Quit, Rcontinue, WhichNodes, SetTo, Step, Threads, Watch}
-use Rattle.shell_points.specs.Points.{Trigger, has_point, place_of_point}
+use Rattle.shell_points.specs.Points.{Trigger, has_point, index_of_point}
 use Rattle.friday_shell.specs.Answer.{LineAnswer, adds_point, attaches_at, breaks_at, command_answer, deletes_point, most_points, most_variables, sets_variable}
 use Rattle.friday_shell.specs.Points.{SessionState}
 
@@ -47,7 +47,7 @@ module _ (state : SessionState) where
   kept_start line (Watch x) = adding line _
   kept_start line (Break scope kind) = breaking line kind scope
   kept_start line (Delete n) = deleting n
-  kept_start line (Do n body) = attaching body (place_of_point state.points n)
+  kept_start line (Do n body) = attaching body (index_of_point state.points n)
   kept_start line ListPoints = refl
   kept_start line (SetTo name x) = setting name _
   kept_start line ListVariables = refl

@@ -15,7 +15,7 @@ use Rattle.shell_lines.specs.Refusals.{refusal_line}
 use Rattle.shell_lines.specs.declared.refusal.LineRefusal.{LineRefusal}
 use Rattle.shell_lines.specs.declared.refusal.LineRefusal.TheVariants as refusal
 use Rattle.shell_points.specs.Firing.{place_at}
-use Rattle.shell_points.specs.Points.{Trigger, has_point, place_of_point}
+use Rattle.shell_points.specs.Points.{Trigger, has_point, index_of_point}
 use Rattle.shell_points.specs.Returning.{return_from}
 use Rattle.shell_points.specs.Walking.{Walk, walk_from}
 use Rattle.friday_shell.specs.Answer.{LineAnswer, adds_point, answer_of_meaning, arrives_at_position, attaches_at, breaks_at, command_answer, deletes_point, most_points, most_variables, says_text, sets_variable, walks_on}
@@ -201,7 +201,7 @@ module _ (state : SessionState) where
   commanding line (Watch x) = adding line _
   commanding line (Break scope kind) = breaking line kind scope
   commanding line (Delete n) = deleting n
-  commanding line (Do n body) = attaching body (place_of_point state.points n)
+  commanding line (Do n body) = attaching body (index_of_point state.points n)
   commanding line ListPoints = same _
   commanding line (SetTo name x) = setting name _
   commanding line ListVariables = same _

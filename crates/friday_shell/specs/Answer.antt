@@ -19,7 +19,7 @@ use Rattle.shell_lines.specs.Refusals.{refusal_line}
 use Rattle.shell_lines.specs.declared.refusal.LineRefusal.{LineRefusal}
 use Rattle.shell_lines.specs.declared.refusal.LineRefusal.TheVariants as refusal
 use Rattle.shell_points.specs.Firing.{place_at}
-use Rattle.shell_points.specs.Points.{Trigger, has_point, place_of_point, point_text, with_program, without_point}
+use Rattle.shell_points.specs.Points.{Trigger, has_point, index_of_point, point_text, with_program, without_point}
 use Rattle.shell_points.specs.Points.{Break as OnCall, Watch as OnChange}
 use Rattle.shell_points.specs.Returning.{Return, return_from}
 use Rattle.shell_points.specs.Walking.{Walk, walk_from}
@@ -119,7 +119,7 @@ attaches_at state body (Some place) =
     else refuses_line state refusal.TooMany
 
 abbrev pub attaches_program : SessionState → ℕ → Statements → LineAnswer
-attaches_program state n body = attaches_at state body (place_of_point state.points n)
+attaches_program state n body = attaches_at state body (index_of_point state.points n)
 
 abbrev pub variable_text : Variable → List ℕ
 variable_text v = codes "$" ++ (v.0 ++ (codes " " ++ value_text v.1))

@@ -11,7 +11,7 @@ ghost use Rattle.shell_points.specs.Firing.{place_at};
 
 use crate::points::{add, add_breakpoint, attach, delete};
 use crate::shown::{print, show_memory, show_position, show_threads};
-use crate::state::{Kept, State, told};
+use crate::state::{PointsAndVariables, State, told};
 use crate::variables::{list_variables, set};
 use fri_text::Text;
 use group_state::Group;
@@ -144,13 +144,13 @@ fn go_on<'m, 'a, L: Ledger>(
     ensures ticks { IfOk result (λ done. steps.new ≡ steps.old + command_ticks (session_state state.entry) Continue done.0.group.at) }
 {
     let State { group, kept } = state;
-    let Kept {
+    let PointsAndVariables {
         points,
         made,
         variables,
     } = kept;
     let walked = points.walk(alloc, group, variables, steps)?;
-    let kept = Kept {
+    let kept = PointsAndVariables {
         points,
         made,
         variables: walked.variables,

@@ -81,7 +81,7 @@ pub(crate) fn attach<'m, 'a>(
 ) -> Result<(State<'m, 'a>, Text), AllocError>
     ensures { IfOk result (λ done. PerformsCommand (attaches_program (session_state state.entry) number (program_body program)) (session_state done.0) done.1) }
 {
-    let Some(place) = state.kept.points.place_of(number) else {
+    let Some(index) = state.kept.points.index_of(number) else {
         let text = refused(alloc, LineRefusal::NoPoint)?;
         return Ok((state, text));
     };
@@ -90,7 +90,7 @@ pub(crate) fn attach<'m, 'a>(
         let text = refused(alloc, LineRefusal::TooMany)?;
         return Ok((State { group, kept }, text));
     }
-    kept.points.attach(place, program);
+    kept.points.attach(index, program);
     Ok((State { group, kept }, Text::new(alloc)))
 }
 

@@ -13,7 +13,7 @@ ghost use Rattle.shell_lines.specs.Seen.{command, meaning};
 ghost use Rattle.shell_lines.specs.declared.line.Line.TheVariants.{Silent};
 
 use crate::answer::perform;
-use crate::state::{Kept, State};
+use crate::state::{PointsAndVariables, State};
 use embed_cmds::Vars;
 use fri_bytes::Bytes;
 use fri_text::Text;
@@ -72,7 +72,7 @@ impl<'m, 'a> Session<'m, 'a> {
         text.push_str("at 0\n")?;
         let state = State {
             group,
-            kept: Kept {
+            kept: PointsAndVariables {
                 points: Points::new(alloc),
                 made: 0,
                 variables: Vars::new(alloc),
@@ -84,7 +84,7 @@ impl<'m, 'a> Session<'m, 'a> {
     /// The answer of a line, without its line feed, and whether the session goes on. A line that is refused leaves the
     /// session as it was. A silent line takes no memory. The counter ticks where a walk evaluates a watchpoint after its
     /// begin, which is where an event touched something that the watchpoint reads.
-    pub fn line<L: Ledger>(
+    pub fn answer_line<L: Ledger>(
         self,
         alloc: Global,
         line: &[u8],

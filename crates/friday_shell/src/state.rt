@@ -10,7 +10,7 @@ use std::alloc::AllocError;
 /// What a session keeps besides its group: the points that are held in order of their numbers, how many were ever made,
 /// and the variables.
 #[derive(Drop)]
-pub(crate) struct Kept {
+pub(crate) struct PointsAndVariables {
     pub(crate) points: Points,
     pub(crate) made: u64,
     pub(crate) variables: Vars,
@@ -20,7 +20,7 @@ pub(crate) struct Kept {
 #[derive(Drop)]
 pub(crate) struct State<'m, 'a> {
     pub(crate) group: Group<'m, 'a>,
-    pub(crate) kept: Kept,
+    pub(crate) kept: PointsAndVariables,
 }
 
 /// A text; the session stays as it is.

@@ -48,7 +48,7 @@ impl Merge {
 
     /// The node with the least clock, and among equal clocks the least node. None comes exactly where no
     /// node has a clock.
-    pub fn next_process(&self) -> Option<u32>
+    pub fn next_node(&self) -> Option<u32>
         ensures next { IsNextNode self.now result }
         ensures within { IfSome result (λ node. node < length self.now) }
     {

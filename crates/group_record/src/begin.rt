@@ -53,9 +53,9 @@ fn begin_members<'m>(
     let count = lines.len() as u32;
     let mut members = Vec::new(alloc);
     for p in 0..count {
-        let place = p as usize;
-        let module = modules[place].module();
-        let member = Member::start(alloc, &lines[place], module, p, count)?;
+        let index = p as usize;
+        let module = modules[index].module();
+        let member = Member::start(alloc, &lines[index], module, p, count)?;
         members.push(member)?;
     }
     Ok(members)

@@ -68,7 +68,7 @@ impl<'m> Member<'m> {
 
     /// Writes the entry of an event to the log, where the log has room, and makes the event. The entry is
     /// spelled in `bytes`. `number` is that of the item to which the event belongs.
-    pub(crate) fn keep<F: Files>(
+    pub(crate) fn log_event<F: Files>(
         &mut self,
         number: u64,
         entry: &EntryView<'_>,

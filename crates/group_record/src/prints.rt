@@ -42,18 +42,18 @@ impl Prints {
     pub(crate) fn add(&mut self, p: u32, entry: &EntryView<'_>) -> Result<(), AllocError>
         ensures { OnOk result (self.new ≡ with_print self.old p (printed_of (entry_of entry.now))) }
     {
-        let place = p as usize;
-        if place < self.processes.len() {
-            self.processes[place].push_all(printed(entry))?;
+        let index = p as usize;
+        if index < self.processes.len() {
+            self.processes[index].push_all(printed(entry))?;
         }
         Ok(())
     }
 
     /// What a process printed, where that is kept.
-    pub(crate) fn of(&self, place: usize) -> &[u8]
-        requires { place < length self.now }
-        ensures { result.now ≡ slice_index_or self.now place [] }
+    pub(crate) fn of(&self, index: usize) -> &[u8]
+        requires { index < length self.now }
+        ensures { result.now ≡ slice_index_or self.now index [] }
     {
-        self.processes[place].as_slice()
+        self.processes[index].as_slice()
     }
 }

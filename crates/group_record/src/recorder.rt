@@ -133,12 +133,12 @@ impl<'m> Recorder<'m> {
                 self.idle += 1;
                 Ok(())
             }
-            Some(entry) => self.keep(number, p, &entry, files),
+            Some(entry) => self.log_event(number, p, &entry, files),
         }
     }
 
     // Writes the entry of an event to the log of its process, and makes the event.
-    fn keep<F: Files>(
+    fn log_event<F: Files>(
         &mut self,
         number: u64,
         p: u32,
@@ -159,8 +159,8 @@ impl<'m> Recorder<'m> {
         ensures counted { F.counts files.new ≡ after_writes (F.counts files.old) result }
     {
         let entry = entry.view();
-        self.members[p as usize].keep(number, &entry, &mut self.bytes, files)?;
-        self.world.event(p, &entry)?;
+        self.members[p as usize].log_event(number, &entry, &mut self.bytes, files)?;
+        self.world.take_event(p, &entry)?;
         self.prints.add(p, &entry)?;
         self.acted += 1;
         Ok(())

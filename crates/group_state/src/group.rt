@@ -30,7 +30,7 @@ pub struct Group<'m, 'a> {
 pub(crate) struct Course<'m, 'a> {
     alloc: Global,
     // Where the group begins is a checkpoint too.
-    pub(crate) first: Vec<Replayer<'m, 'a>>,
+    pub(crate) start: Vec<Replayer<'m, 'a>>,
     pub(crate) checkpoints: Checkpoints<'m, 'a>,
     pub(crate) here: Stand<'m, 'a>,
     merge: Merge,
@@ -49,7 +49,7 @@ impl<'m, 'a> Course<'m, 'a> {
         proc_replay::laws::replays();
         guest_process::laws::rises();
         guest_process::laws::states_fit();
-        let Some(node) = self.merge.next_process() else {
+        let Some(node) = self.merge.next_node() else {
             return Ok(None);
         };
         let turn = take_turn(&mut self.here.parts, node)?;
@@ -74,7 +74,7 @@ impl<'m, 'a> Course<'m, 'a> {
     fn go_near(&mut self, alloc: Global, k: u64) -> Result<(), AllocError>
         requires { IsSoundCourse self.old }
         ensures sound { OnOk result (IsSoundCourse self.new) }
-        ensures start { OnOk result (self.new.first.items ≡ self.old.first.items) }
+        ensures start { OnOk result (self.new.start.items ≡ self.old.start.items) }
         ensures at { OnOk result (self.new.here.at ≤ k) }
     {
         let nearest = self.checkpoints.nearest(k.min(self.motions.reached()));
@@ -85,7 +85,7 @@ impl<'m, 'a> Course<'m, 'a> {
         if from <= self.here.at && self.here.at <= k {
             return Ok(());
         }
-        let stand = Stand::at_checkpoint(alloc, nearest, &self.first)?;
+        let stand = Stand::at_checkpoint(alloc, nearest, &self.start)?;
         let merge = merge_of(alloc, &stand.parts)?;
         self.here = stand;
         self.merge = merge;
@@ -95,7 +95,7 @@ impl<'m, 'a> Course<'m, 'a> {
     // The replay of a node, at the position.
     fn replay(&self, node: u32) -> Option<&Replayer<'m, 'a>>
         requires { IsSoundCourse self.now }
-        ensures { option_map (λ part. part.now.state) result ≡ slice_get (states_of_nodes self.now.first.items self.now.here.at) node }
+        ensures { option_map (λ part. part.now.state) result ≡ slice_get (states_of_nodes self.now.start.items self.now.here.at) node }
     {
         group_order::laws::merges::<Entry>();
         proc_replay::laws::replays();
@@ -134,7 +134,7 @@ impl<'m, 'a> Group<'m, 'a> {
         let motions = Motions::none(alloc, parts.len())?;
         let course = Course {
             alloc,
-            first: parts,
+            start: parts,
             checkpoints: Checkpoints::new(alloc),
             here,
             merge,
@@ -219,14 +219,14 @@ impl<'m, 'a> Group<'m, 'a> {
     pub fn nodes(&self) -> u32
         ensures { result ≡ length self.now.start }
     {
-        self.course.first.len() as u32
+        self.course.start.len() as u32
     }
 
     /// The name of a node's process. None comes exactly where there is no such node.
     pub fn node_name(&self, node: u32) -> Option<&'a [u8]>
         ensures { option_map (λ name. name.now) result ≡ slice_get (map (λ r. r.head.name) self.now.start) node }
     {
-        Some(self.course.first.get(node as usize)?.head().name)
+        Some(self.course.start.get(node as usize)?.head().name)
     }
 
     /// The process of a node, at the position. None comes exactly where there is no such node.

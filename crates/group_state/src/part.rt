@@ -77,7 +77,7 @@ pub(crate) fn verdict(part: &Replayer<'_, '_>) -> Verdict
 {
     match part.peek() {
         Turn::Event(_) => unreachable!(),
-        Turn::LogEnd => left_over(part.log().rest()),
+        Turn::LogEnd => left_over(part.log().unread()),
         Turn::Diverged(at, why) => Verdict::Diverged(at, why),
     }
 }

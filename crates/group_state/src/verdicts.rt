@@ -23,8 +23,8 @@ impl<'m, 'a> Group<'m, 'a> {
 impl<'m, 'a> Course<'m, 'a> {
     fn verdict(&self, node: u32) -> Option<Verdict>
         requires sound { IsSoundCourse self.now }
-        requires end { self.now.here.at ≡ length (events_of_replays self.now.first.items) }
-        ensures { result ≡ slice_get (map verdict_on self.now.first.items) node }
+        requires end { self.now.here.at ≡ length (events_of_replays self.now.start.items) }
+        ensures { result ≡ slice_get (map verdict_on self.now.start.items) node }
     {
         group_order::laws::merges::<Entry>();
         proc_replay::laws::replays();

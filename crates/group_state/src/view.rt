@@ -98,8 +98,8 @@ impl<'m, 'a> Course<'m, 'a> {
 
     fn position_of(&self, node: u32, number: u64) -> u64
         requires { IsSoundCourse self.now }
-        ensures { (S : State) (l : Location) → slice_get (states_of_nodes self.now.first.items self.now.here.at) node ≡ Some S → node_of l ≡ node → number ≡ mark_in S l
-            → result ≡ mark_of_place self.now.first.items self.now.here.at l }
+        ensures { (S : State) (l : Location) → slice_get (states_of_nodes self.now.start.items self.now.here.at) node ≡ Some S → node_of l ≡ node → number ≡ mark_in S l
+            → result ≡ mark_of_place self.now.start.items self.now.here.at l }
     {
         crate::laws::stepwise();
         guest_process::laws::rises();

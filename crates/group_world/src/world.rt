@@ -108,7 +108,7 @@ impl World {
     /// An event of `p`: what it took is gone, what it sent into the group is kept, and the signal that it
     /// delivered is pending no longer.
     #[inline(always)]
-    pub fn event(&mut self, p: u32, entry: &EntryView<'_>) -> Result<(), AllocError>
+    pub fn take_event(&mut self, p: u32, entry: &EntryView<'_>) -> Result<(), AllocError>
         requires process { p < process_count self.old }
         requires datagram { IsTrue (is_taken_of (entry_of entry.now)) → 1 ≤ length (mailbox_of self.old.net p) }
         requires bytes { drawn_of (entry_of entry.now) ≤ length (surroundings_of self.old p).pool }
@@ -138,7 +138,7 @@ impl World {
             return Ok(());
         }
         let bytes = datagram(self.alloc, p, entry)?;
-        self.net.sent(p, entry.call.a0 as u32, bytes)
+        self.net.add_sent(p, entry.call.a0 as u32, bytes)
     }
 
     // Lets the datagram go that the event took, if it took one.

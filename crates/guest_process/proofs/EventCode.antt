@@ -23,7 +23,7 @@ use Rattle.guest_process.specs.declared.end.End.TheVariants.{Exited, Trapped}
 use Rattle.call_table.specs.Table.{kind_numbered}
 use Rattle.call_table.specs.declared.kind.Kind.{Kind}
 use Rattle.call_table.specs.declared.kind.Kind.TheVariants.{Exit}
-use Rattle.guest_process.specs.declared.parts.Parts.{Parts}
+use Rattle.guest_process.specs.declared.body.Body.{Body}
 use Rattle.guest_process.specs.declared.waiting.Waiting.{Waiting}
 use Rattle.lib_calls.specs.Answer.{Answer, answer_of}
 use Rattle.guest_process.specs.inside.Advancing.{acted_on_answer, pending_kind as kind_of}
@@ -185,9 +185,9 @@ goes S e w s legal at h =
     ∙ runs_by w.kind (effects_of_answer w.kind S e.thread w.call (answer_of e)) e.thread w.strand e.reply e.signal e.clock h)
     ∙ ap (next_at_thread S e) (sym at)
 
--- ---- the parts after a legal entry's event are those of a process
+-- ---- the body after a legal entry's event is that of a process
 
-pub process_kept : KeepsModule → MarkLaws → (p q : Parts) (e : Entry) → IsOfModule p → reason (state_of p) e ≡ None → state_of q ≡ next (state_of p) e → q.«module» ≡ p.«module» → SuitsModule q.store → IsOfModule q
+pub process_kept : KeepsModule → MarkLaws → (p q : Body) (e : Entry) → IsOfModule p → reason (state_of p) e ≡ None → state_of q ≡ next (state_of p) e → q.«module» ≡ p.«module» → SuitsModule q.store → IsOfModule q
 process_kept keeps marks p q e is h state same_module suits = record {
   suits = suits;
   same_module = ap (λ r. module_of r.now) same_module ∙ is.same_module ∙ sym (ap (λ S. S.store.«module») state ∙ next_module keeps (state_of p) e is.sound);

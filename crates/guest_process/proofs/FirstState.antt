@@ -18,7 +18,7 @@ use Rattle.guest_process.specs.Fits.{StateFits}
 use Rattle.guest_process.specs.inside.Seen.{IsOfModule, state_of}
 use Rattle.guest_process.specs.Sound.{IsSoundProcess, IsStandingAtCall}
 use Rattle.guest_process.specs.Start.{waiting_at, begun_process, begun_with}
-use Rattle.guest_process.specs.declared.parts.Parts.{Parts}
+use Rattle.guest_process.specs.declared.body.Body.{Body}
 use Rattle.guest_process.specs.OneEvent.{IsStarted}
 use Rattle.guest_process.proofs.FirstFailure.{kept}
 use Rattle.guest_process.proofs.KeptFits.{begin_fits}
@@ -70,8 +70,8 @@ started writes unstamped m who count S valid low few h = by_store (first_store m
     by_store (Some g) e (Some thread) h =
         subst (λ S. StateFits S × IsSoundProcess S) (same_Some _ _ h) (begun_holds writes unstamped m who count g thread low few e valid)
 
--- the parts with which the code begins, over the store g, are those of a process
-pub is_process : NoLaterWhenWritten → FreshIsUnstamped → (p : Parts) (g : Store) (thread : Thread) → p.who < p.count → p.count ≤ 16 → first_store (module_of p.«module».now) ≡ Some g → IsValid (module_of p.«module».now) → SuitsModule g
+-- the body with which the code begins, over the store g, is that of a process
+pub is_process : NoLaterWhenWritten → FreshIsUnstamped → (p : Body) (g : Store) (thread : Thread) → p.who < p.count → p.count ≤ 16 → first_store (module_of p.«module».now) ≡ Some g → IsValid (module_of p.«module».now) → SuitsModule g
     → state_of p ≡ begun_process (module_of p.«module».now) p.who p.count g thread → IsOfModule p
 is_process writes unstamped p g thread low few store valid suits state =
     let m = module_of p.«module».now in

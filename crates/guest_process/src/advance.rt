@@ -18,8 +18,8 @@ ghost use Rattle.guest_process.specs.Sound.{StandsAtKind};
 ghost use Rattle.guest_process.specs.State.{awaits_event};
 
 use crate::answer::{answered, entered, handler};
+use crate::body::Body;
 use crate::judge::ends_process;
-use crate::parts::Parts;
 use crate::threads::narrow;
 use crate::waiting::Waiting;
 use lib_calls::{EntryView, Kind, write_back};
@@ -27,7 +27,7 @@ use std::alloc::AllocError;
 use wasm_step::Strand;
 use wasm_types::Trap;
 
-impl<'m> Parts<'m> {
+impl<'m> Body<'m> {
     /// Makes the event of a legal entry.
     pub(crate) fn advance(&mut self, entry: &EntryView<'_>) -> Result<(), AllocError>
         requires process { IsOfModule self.old }

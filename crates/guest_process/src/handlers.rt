@@ -5,15 +5,15 @@ ghost use Rattle.guest_process.specs.Answers.{after_need, handled, handler_given
 ghost use Rattle.guest_process.specs.Seen.{plain_need};
 ghost use Rattle.guest_process.specs.inside.Seen.{state_of};
 
+use crate::body::Body;
 use crate::need::Need;
-use crate::parts::Parts;
 use lib_calls::REFUSED;
 use signal_points::{Handlers, MOST_SIGNAL};
 
 // The number at which no function handles a signal.
 const REMOVAL: u32 = 0xFFFF_FFFF;
 
-impl<'m> Parts<'m> {
+impl<'m> Body<'m> {
     /// The reply to a call that gives the signal the handler of this number.
     pub(crate) fn handled(&self, signal: u32, number: u32) -> Need
         ensures { result ≡ plain_need (handled (state_of self.now) signal number) }

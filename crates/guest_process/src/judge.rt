@@ -9,9 +9,9 @@ ghost use Rattle.guest_process.specs.Seen.{plain_need, refused_for};
 ghost use Rattle.guest_process.specs.inside.Seen.{state_of};
 
 use crate::answer::{handler, is_due};
+use crate::body::Body;
 use crate::divergence::Divergence;
 use crate::need::Need;
-use crate::parts::Parts;
 use crate::threads::narrow;
 use crate::waiting::Waiting;
 use crate::world::{brings_nothing, is_drawn, takes_datagram};
@@ -19,7 +19,7 @@ use lamport_tag::is_next_clock;
 use lib_calls::{Call, EntryView, Kind, NONE_THERE, REFUSED, good_arguments, is_outgoing};
 use signal_points::{Handlers, MOST_SIGNAL};
 
-impl<'m> Parts<'m> {
+impl<'m> Body<'m> {
     /// What the answer to the thread's pending call depends on.
     pub(crate) fn need(&self, thread: u16, waiting: &Waiting<'m>) -> Need
         ensures { result ≡ plain_need (need waiting.now.kind (state_of self.now) thread waiting.now.call) }

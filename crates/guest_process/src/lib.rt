@@ -11,6 +11,7 @@
 
 mod advance;
 mod answer;
+mod body;
 mod calls;
 mod divergence;
 mod end;
@@ -18,7 +19,6 @@ mod handlers;
 mod judge;
 pub mod laws;
 mod need;
-mod parts;
 mod process;
 mod spawn;
 mod threads;

@@ -17,10 +17,10 @@ ghost use Rattle.guest_process.specs.Seen.{able, handles_after, plain_need, refu
 ghost use Rattle.guest_process.specs.Start.{start};
 
 use crate::answer::handler;
+use crate::body::Body;
 use crate::divergence::Divergence;
 use crate::end::End;
 use crate::need::Need;
-use crate::parts::Parts;
 use crate::waiting::{Waiting, beginning};
 use coop_threads::{Crew, Status};
 use guest_memory::Memory;
@@ -35,7 +35,7 @@ use wasm_types::{ValidModule, Value};
 #[derive(Drop)]
 pub struct Process<'m> {
     // Behind a box, since a process is moved at each event.
-    pub(crate) parts: Box<Parts<'m>>,
+    pub(crate) body: Box<Body<'m>>,
 }
 
 impl<'m> Model for Process<'m> {
@@ -49,9 +49,9 @@ impl<'m> Model for Process<'m> {
 
     ghost coded = { Prim.hlevel (codes, trees_code, crew_code) };
 
-    ghost view = { λ p. state_of p.parts.value };
+    ghost view = { λ p. state_of p.body.value };
 
-    ghost invariant = { λ p. IsOfModule p.parts.value };
+    ghost invariant = { λ p. IsOfModule p.body.value };
 }
 
 impl<'m> Process<'m> {
@@ -83,7 +83,7 @@ impl<'m> Process<'m> {
     pub fn end(&self) -> End
         ensures { result ≡ self.now.end }
     {
-        self.parts.end
+        self.body.end
     }
 
     /// The pending call of a thread. `None` comes exactly where the process is not running or the thread
@@ -103,7 +103,7 @@ impl<'m> Process<'m> {
         ensures { result ≡ option_map (λ w. plain_need (need w.kind self.now thread w.call)) (able self.now thread) }
     {
         match self.able(thread) {
-            Some(waiting) => Some(self.parts.need(thread, waiting)),
+            Some(waiting) => Some(self.body.need(thread, waiting)),
             None => None,
         }
     }
@@ -112,19 +112,19 @@ impl<'m> Process<'m> {
     fn able(&self, thread: u16) -> Option<&Waiting<'m>>
         ensures { option_map (λ w. w.now) result ≡ able self.now thread }
     {
-        if !self.parts.is_running() {
+        if !self.body.is_running() {
             return None;
         }
-        self.parts.crew.get(thread)
+        self.body.crew.get(thread)
     }
 
     /// Whether a signal has a handler once the pending call of the thread is answered, however it is.
     pub fn handles_after(&self, thread: u16, signal: u8) -> bool
         ensures { (a : Answer) → result ≡ handles_after self.now thread a signal }
     {
-        match self.parts.crew.get(thread) {
-            Some(waiting) => handler(&self.parts.handlers_after(waiting), signal).is_some(),
-            None => handler(&self.parts.handlers, signal).is_some(),
+        match self.body.crew.get(thread) {
+            Some(waiting) => handler(&self.body.handlers_after(waiting), signal).is_some(),
+            None => handler(&self.body.handlers, signal).is_some(),
         }
     }
 
@@ -134,11 +134,11 @@ impl<'m> Process<'m> {
     pub fn legal(&self, entry: &EntryView<'_>) -> Result<(), Divergence>
         ensures { refused_for result ≡ reason self.now (entry_of entry.now) }
     {
-        if !self.parts.is_running() {
+        if !self.body.is_running() {
             return Err(Divergence::AfterEnd);
         }
-        match self.parts.crew.get(entry.thread) {
-            Some(waiting) => self.parts.judge(entry, waiting),
+        match self.body.crew.get(entry.thread) {
+            Some(waiting) => self.body.judge(entry, waiting),
             None => Err(Divergence::NoThread),
         }
     }
@@ -152,16 +152,16 @@ impl<'m> Process<'m> {
         // Their laws tell the proof what a burst and a write leave as it is, and what they mark.
         wasm_step::laws::never_stuck();
         wasm_step::laws::marked();
-        let mut parts = self.parts;
-        parts.advance(entry)?;
-        Ok(Process { parts })
+        let mut body = self.body;
+        body.advance(entry)?;
+        Ok(Process { body })
     }
 
     /// The memory, which is empty where the module has none.
     pub fn memory(&self) -> &Memory
         ensures { result.now ≡ self.now.store.memory }
     {
-        self.parts.store.memory()
+        self.body.store.memory()
     }
 
     /// The number of the last event that wrote to a byte of the watch page. It is 0 where none did, and
@@ -169,7 +169,7 @@ impl<'m> Process<'m> {
     pub fn page_mark(&self, page: u32) -> u64
         ensures { result ≡ stamp_of self.now.store.memory page }
     {
-        self.parts.store.memory().stamp(page)
+        self.body.store.memory().stamp(page)
     }
 
     /// The number of the last event that set the global, also to an equal value. It is 0 where none did, and
@@ -177,28 +177,28 @@ impl<'m> Process<'m> {
     pub fn global_mark(&self, n: u32) -> u64
         ensures { result ≡ global_stamp_of self.now.store n }
     {
-        self.parts.store.global_stamp(n)
+        self.body.store.global_stamp(n)
     }
 
     /// The number of the last event that made the memory larger, or 0.
     pub fn size_mark(&self) -> u64
         ensures { result ≡ self.now.store.size_stamp }
     {
-        self.parts.store.size_stamp()
+        self.body.store.size_stamp()
     }
 
     /// The value of a global. `None` comes exactly where the module has no global of that index.
     pub fn global(&self, n: u32) -> Option<Value>
         ensures { result ≡ slice_get self.now.store.globals n }
     {
-        self.parts.store.global(n)
+        self.body.store.global(n)
     }
 
     /// The clock of the last event, or 0 before the first.
     pub fn clock(&self) -> u64
         ensures { result ≡ self.now.clock }
     {
-        self.parts.clock
+        self.body.clock
     }
 
     /// How many events there were.
@@ -206,14 +206,14 @@ impl<'m> Process<'m> {
         ensures count { result ≡ self.now.events }
         ensures fits { StateFits self.now }
     {
-        self.parts.events
+        self.body.events
     }
 
     /// How many threads were made.
     pub fn threads(&self) -> u16
         ensures { result ≡ length self.now.crew.threads }
     {
-        self.parts.crew.made()
+        self.body.crew.made()
     }
 
     /// How a thread stands.
@@ -222,15 +222,15 @@ impl<'m> Process<'m> {
         ensures status { result ≡ status_of (slice_get self.now.crew.threads thread) }
         ensures here { result ≢ Status.Taken }
     {
-        self.parts.crew.status(thread)
+        self.body.crew.status(thread)
     }
 
     /// An equal process.
     pub fn copy(&self, alloc: Global) -> Result<Process<'m>, AllocError>
         ensures { IfOk result (λ p. p ≡ self.now) }
     {
-        let parts = Box::new(alloc, self.parts.copy(alloc)?)?;
-        Ok(Process { parts })
+        let body = Box::new(alloc, self.body.copy(alloc)?)?;
+        Ok(Process { body })
     }
 }
 
@@ -258,7 +258,7 @@ fn begin<'m>(
     }
     let _ = module.module();
     store.begin_event(1);
-    let parts = Parts {
+    let body = Body {
         alloc,
         module,
         who,
@@ -270,6 +270,6 @@ fn begin<'m>(
         events: 0,
         end: End::Running,
     };
-    let parts = Box::new(alloc, parts)?;
-    Ok(Process { parts })
+    let body = Box::new(alloc, body)?;
+    Ok(Process { body })
 }

@@ -7,15 +7,15 @@ ghost use Rattle.guest_process.specs.Answers.{after_need, spawnable, spawned, sp
 ghost use Rattle.guest_process.specs.Seen.{plain_need};
 ghost use Rattle.guest_process.specs.inside.Seen.{state_of};
 
+use crate::body::Body;
 use crate::need::Need;
-use crate::parts::Parts;
 use crate::waiting::beginning;
 use coop_threads::{MOST_THREADS, SpawnError};
 use lib_calls::REFUSED;
 use std::alloc::AllocError;
 use wasm_step::Strand;
 
-impl<'m> Parts<'m> {
+impl<'m> Body<'m> {
     /// The reply where a thread is to begin with the function of this table index.
     #[tactic(auto, using(crate::proofs::MadeThreads::spawned_reply, crate::proofs::MadeThreads::not_spawned))]
     pub(crate) fn spawned(&self, index: u32) -> Need

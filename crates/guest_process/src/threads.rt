@@ -5,8 +5,8 @@ ghost use Rattle.guest_process.specs.Answers.{after_need, joined, locked, narrow
 ghost use Rattle.guest_process.specs.Seen.{plain_need};
 ghost use Rattle.guest_process.specs.inside.Seen.{state_of};
 
+use crate::body::Body;
 use crate::need::Need;
-use crate::parts::Parts;
 use coop_threads::Status;
 use lib_calls::REFUSED;
 use std::alloc::AllocError;
@@ -18,7 +18,7 @@ pub(crate) fn narrow(bits: u64) -> u32
     (bits % 0x1_0000_0000) as u32
 }
 
-impl<'m> Parts<'m> {
+impl<'m> Body<'m> {
     /// What the answer depends on where the thread joins the one with this number.
     pub(crate) fn joined(&self, thread: u16, number: u32) -> Need
         ensures { result ≡ plain_need (joined (state_of self.now) thread number) }

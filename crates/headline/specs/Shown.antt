@@ -1,5 +1,5 @@
 -- What `replay` and `debug` show of a recording.
-use Rattle.std.specs.Prelude.{◌≡◌, ◌<◌, ◌≤◌, ◌^◌, ℕ, Bool, false, IsTrue, List, [], ◌∷◌, length, map, take, slice_get, Some, Contains, if◌then◌else◌}
+use Rattle.std.specs.Prelude.{◌≡◌, ◌<◌, ◌≤◌, ℕ, Bool, false, IsTrue, List, [], ◌∷◌, length, map, take, slice_get, Some, Contains, if◌then◌else◌}
 use Rattle.std.specs.List.{flat_map}
 use Rattle.lamport_tag.specs.Tag.{read_datagram}
 use Rattle.lib_calls.specs.Traffic.{is_sent, is_taken, prints}

@@ -10,9 +10,9 @@ use crate::pairs::{Loaded, Pair};
 fn pair_of_process<'a>(pairs: &[Pair<'a>], all: &[Loaded<'a>], process: u32) -> Option<Pair<'a>>
     ensures { (ls : List LoadedOf) → AreLoadedPairs all.now ls → option_map pair_of result ≡ pair_of_process (map pair_of pairs.now) ls process }
 {
-    for place in 0..all.len() {
-        if all[place].process() == process {
-            return pairs.get(place).copied();
+    for index in 0..all.len() {
+        if all[index].process() == process {
+            return pairs.get(index).copied();
         }
     }
     None

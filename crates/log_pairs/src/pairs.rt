@@ -171,7 +171,7 @@ fn begin_replay<'m>(alloc: Global, loaded: &'m Loaded<'_>) -> Result<Replayer<'m
 }
 
 // How many replays at the front are of processes with lower numbers.
-fn place_of(sorted: &[Replayer<'_, '_>], process: u32) -> usize
+fn index_of(sorted: &[Replayer<'_, '_>], process: u32) -> usize
     ensures { result ≡ length (take_while (λ other. nat_lt other.head.process process) sorted.now) }
 {
     sorted
@@ -181,11 +181,14 @@ fn place_of(sorted: &[Replayer<'_, '_>], process: u32) -> usize
 }
 
 // Puts a replay in its place by the number of its process.
-fn place<'m>(sorted: &mut Vec<Replayer<'m, 'm>>, replay: Replayer<'m, 'm>) -> Result<(), AllocError>
+fn insert_replay<'m>(
+    sorted: &mut Vec<Replayer<'m, 'm>>,
+    replay: Replayer<'m, 'm>,
+) -> Result<(), AllocError>
     ensures { OnOk result (sorted.new.items ≡ insert_replay replay.entry sorted.old.items) }
 {
-    let place = place_of(sorted, replay.head().process);
-    sorted.insert(place, replay)?;
+    let index = index_of(sorted, replay.head().process);
+    sorted.insert(index, replay)?;
     Ok(())
 }
 
@@ -207,7 +210,7 @@ pub fn begin_all<'m>(
     let mut sorted = Vec::new(alloc);
     for loaded in all {
         let replay = begin_replay(alloc, loaded)?;
-        place(&mut sorted, replay)?;
+        insert_replay(&mut sorted, replay)?;
     }
     Ok(sorted)
 }

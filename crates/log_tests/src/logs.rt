@@ -190,7 +190,7 @@ fn a_log_is_rewritten(rt: HostRuntime) -> Result<(), Fail> {
     assert!(rt; rewrite(rt.alloc(), &log, 2)?.as_slice() == &LOG_TWO[..30]);
     let start = log.copy();
     assert!(rt; log.next_entry().is_some());
-    assert_eq!(rt; (start.rest().len(), log.rest().len()), (80, 56));
+    assert_eq!(rt; (start.unread().len(), log.unread().len()), (80, 56));
     Ok(())
 }
 
@@ -199,6 +199,6 @@ fn a_kind_above_17_ends_the_entries(rt: HostRuntime) -> Result<(), Fail> {
     let mut log = LogView::begin(NO_KIND)?;
     assert!(rt; log.next_entry().is_some());
     assert!(rt; log.next_entry().is_none());
-    assert_eq!(rt; log.rest().len(), 24);
+    assert_eq!(rt; log.unread().len(), 24);
     Ok(())
 }

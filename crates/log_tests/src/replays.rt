@@ -48,7 +48,7 @@ fn a_copy_takes_the_same_turn(rt: HostRuntime) -> Result<(), Fail> {
     let replayer = begin(rt.alloc(), &module, LOG)?;
     let copy = replayer.copy(rt.alloc())?;
     assert_eq!(rt; kind_of(copy.peek()), Some(0));
-    assert_eq!(rt; copy.left(), replayer.left());
+    assert_eq!(rt; copy.unread_len(), replayer.unread_len());
     assert_eq!(rt; copy.head().process, 0);
     Ok(())
 }

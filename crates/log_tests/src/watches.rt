@@ -251,7 +251,7 @@ fn loads_of<'m, L: Ledger>(
     steps: &mut Steps<L>,
 ) -> Result<(Session<'m, 'm>, u64), AllocError> {
     let before = session.group().work().loads;
-    let (session, _, _) = session.line(alloc, line, steps)?;
+    let (session, _, _) = session.answer_line(alloc, line, steps)?;
     let loads = session.group().work().loads.wrapping_sub(before);
     Ok((session, loads))
 }
@@ -301,10 +301,10 @@ fn assert_grows<'m, L: Ledger>(
 {
     let mut steps = Steps::<L>::new(blank);
     let (session, _) = Session::begin(rt.alloc(), group)?;
-    let (session, _, _) = session.line(rt.alloc(), b"watch @a.u32[65536]", &mut steps)?;
-    let (session, text, _) = session.line(rt.alloc(), b"continue", &mut steps)?;
+    let (session, _, _) = session.answer_line(rt.alloc(), b"watch @a.u32[65536]", &mut steps)?;
+    let (session, text, _) = session.answer_line(rt.alloc(), b"continue", &mut steps)?;
     assert!(rt; text.bytes() == b"watch 1: undef -> 0\nat 2: 2 a 0 me = 0\n".as_slice());
-    let (_, text, _) = session.line(rt.alloc(), b"rcontinue", &mut steps)?;
+    let (_, text, _) = session.answer_line(rt.alloc(), b"rcontinue", &mut steps)?;
     assert!(rt; text.bytes() == b"start\nat 0\n".as_slice());
     Ok(())
 }

@@ -56,7 +56,7 @@ impl Net {
     }
 
     /// Keeps a datagram that `p` sent to `to`. It waits nowhere until it is delivered.
-    pub fn sent(&mut self, p: u32, to: u32, bytes: Bytes) -> Result<(), AllocError>
+    pub fn add_sent(&mut self, p: u32, to: u32, bytes: Bytes) -> Result<(), AllocError>
         requires sender { p < length self.old }
         requires receiver { to < length self.old }
         ensures ok { OnOk result (self.new

@@ -47,7 +47,7 @@ fn takes(net: &mut Net, p: u32, tag: Option<Tag>, payload: &[u8]) -> bool
 fn a_process_sends_to_itself(rt: HostRuntime) -> Result<(), Fail> {
     let alloc = rt.alloc();
     let mut net = Net::new(alloc, 1)?;
-    net.sent(0, 0, Bytes::from_slice(alloc, PING)?)?;
+    net.add_sent(0, 0, Bytes::from_slice(alloc, PING)?)?;
     assert!(rt; net.deliver(0, 1)?);
     assert!(rt; net.deliver(0, 1)?);
     assert!(rt; takes(&mut net, 0, Some(PING_TAG), b"ping"));
@@ -71,7 +71,7 @@ fn datagrams_that_none_sent_are_untagged(rt: HostRuntime) -> Result<(), Fail> {
 fn a_datagram_is_kept_once(rt: HostRuntime) -> Result<(), Fail> {
     let alloc = rt.alloc();
     let mut net = Net::new(alloc, 2)?;
-    net.sent(0, 1, Bytes::from_vec(vec![in alloc; 7; 60_000]?))?;
+    net.add_sent(0, 1, Bytes::from_vec(vec![in alloc; 7; 60_000]?))?;
     for _ in 0..100_000 {
         assert!(rt; net.deliver(0, 1)?);
     }

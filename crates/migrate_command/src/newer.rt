@@ -32,13 +32,13 @@ fn extent_of(log: &LogView<'_>) -> Extent
     ensures left { result.left ≡ length (rest_of_log log.now.left) }
 {
     // The proof needs that what is left is a slice, and so shorter than 2 ^ 63 bytes.
-    let _ = log.rest().len();
+    let _ = log.unread().len();
     let mut behind = log.copy();
     let mut entries = 0;
     'entries: while let Some(_) = behind.next_entry() {
         entries += 1;
     }
-    let left = behind.rest().len() as u64;
+    let left = behind.unread().len() as u64;
     Extent { entries, left }
 }
 

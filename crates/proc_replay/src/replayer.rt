@@ -57,7 +57,7 @@ impl<'m, 'a> Replayer<'m, 'a> {
         ensures { IfOk result (λ r. r ≡ record { head = log.entry.head; state = process.entry; left = log.entry.left }) }
     {
         // The proof needs that what is left is a slice, and so shorter than 2 ^ 63 bytes.
-        let _ = log.rest().len();
+        let _ = log.unread().len();
         let mut ahead = Ahead {
             log: log.copy(),
             turn: Turn::LogEnd,
@@ -109,10 +109,10 @@ impl<'m, 'a> Replayer<'m, 'a> {
     }
 
     /// The number of the log's bytes after the entries of the events so far.
-    pub fn left(&self) -> u64
+    pub fn unread_len(&self) -> u64
         ensures { result ≡ length self.now.left.bytes }
     {
-        self.ahead.log.rest().len() as u64
+        self.ahead.log.unread().len() as u64
     }
 
     /// The log after the entries of the events so far.

@@ -7,7 +7,7 @@ use Rattle.std.proofs.lemmas.List.{drop_more}
 use Rattle.embed_cmds.specs.declared.program.Program.{Program}
 use Rattle.embed_cmds.specs.Tree.{program_body}
 use Rattle.shell_points.specs.declared.point.Point.{Point as Held}
-use Rattle.shell_points.specs.Points.{Point, has_point, place_of_point, point_text, with_program, without_point}
+use Rattle.shell_points.specs.Points.{Point, has_point, index_of_point, point_text, with_program, without_point}
 use Rattle.shell_points.specs.inside.Seen.{point}
 
 pub held_same : (ps : List Held) (n : ℕ) → list_any (λ (p : Held). nat_eq p.number n) ps ≡ has_point (map {A = Held} point ps) n
@@ -27,7 +27,7 @@ ahead_same : (ps : List Held) (n : ℕ) → prefix_len (λ (p : Held). not (nat_
 ahead_same [] n = refl
 ahead_same (p ∷ ps) n = ap (λ (k : ℕ). cond (not (nat_eq p.number n)) (1 + k) 0) (ahead_same ps n)
 
-pub places_same : (ps : List Held) (n : ℕ) → position (λ (p : Held). nat_eq p.number n) ps ≡ place_of_point (map {A = Held} point ps) n
+pub places_same : (ps : List Held) (n : ℕ) → position (λ (p : Held). nat_eq p.number n) ps ≡ index_of_point (map {A = Held} point ps) n
 places_same ps n =
     ap (λ (k : ℕ). cond (nat_lt k (length ps)) (Some k) None) (ahead_same ps n)
     ∙ ap (λ (l : ℕ). cond (nat_lt (position_or_len (λ (p : Point). nat_eq p.number n) (map {A = Held} point ps)) l) (Some (position_or_len (λ (p : Point). nat_eq p.number n) (map {A = Held} point ps))) None)

@@ -28,8 +28,8 @@ abbrev pub without_point : List Point → ℕ → List Point
 without_point points n = filter (λ p. not (p.number == n)) points
 
 -- where the point with this number is among those that are held
-abbrev pub place_of_point : List Point → ℕ → Option ℕ
-place_of_point points n = position (λ p. p.number == n) points
+abbrev pub index_of_point : List Point → ℕ → Option ℕ
+index_of_point points n = position (λ p. p.number == n) points
 
 abbrev pub point_with_attached : Point → Statements → Point
 point_with_attached p body = record { number = p.number; text = p.text; trigger = p.trigger; program = Some body }

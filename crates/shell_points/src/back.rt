@@ -12,7 +12,7 @@ ghost use Rattle.shell_points.specs.inside.Watches.{IsWatching};
 ghost use Rattle.shell_points.specs.Watching.{watched_expressions};
 ghost use Rattle.shell_points.specs.declared.point.Point.{Point as Held};
 
-use crate::firing::{is_due, push_line};
+use crate::firing::{fires, push_line};
 use crate::point::Point;
 use crate::watching::Watching;
 use fri_text::Text;
@@ -141,7 +141,7 @@ fn push_said(
 ) -> Result<(), AllocError>
     ensures { OnOk result (text.new ≡ text.old ++ point_said_by before now (last_event_of group.now) (seen point.now)) }
 {
-    if is_due(&point.trigger, before, now, group) {
+    if fires(&point.trigger, before, now, group) {
         push_line(text, point, before, now)?;
     }
     Ok(())

@@ -24,7 +24,7 @@ fn is_of(node: Option<u32>, kind: Kind, event: &GroupEvent<'_>) -> bool
 }
 
 /// Whether a point fires where the group is.
-pub(crate) fn is_due(
+pub(crate) fn fires(
     trigger: &Trigger,
     before: Option<i64>,
     now: Option<i64>,

@@ -15,7 +15,7 @@ mod firing;
 pub mod laws;
 mod point;
 mod points;
-mod turn;
+mod points_run;
 mod walk;
 mod watching;
 

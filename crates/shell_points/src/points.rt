@@ -3,7 +3,7 @@ ghost use Rattle.std.specs.Prelude.{◌≡◌, ◌+◌, ◌-◌, ◌<◌, ◌++�
 ghost use Rattle.std.specs.List.{flat_map};
 ghost use Rattle.embed_cmds.specs.Tree.{program_body};
 ghost use Rattle.group_state.specs.Touch.{watch_ticks};
-ghost use Rattle.shell_points.specs.Points.{has_point, new_point, place_of_point, point_text, with_program, without_point};
+ghost use Rattle.shell_points.specs.Points.{has_point, new_point, index_of_point, point_text, with_program, without_point};
 ghost use Rattle.shell_points.specs.Seen.{PointsReturn, PointsWalk, trigger as trigger_meant};
 ghost use Rattle.shell_points.specs.inside.Seen.{point as point_meant};
 ghost use Rattle.shell_points.specs.Watching.{watched_expressions};
@@ -98,19 +98,19 @@ impl Points {
     }
 
     /// Where the first point with this number stands.
-    pub fn place_of(&self, number: u64) -> Option<usize>
-        ensures place { result ≡ place_of_point self.now number }
-        ensures within { IfSome result (λ place. place < length self.now) }
+    pub fn index_of(&self, number: u64) -> Option<usize>
+        ensures index { result ≡ index_of_point self.now number }
+        ensures within { IfSome result (λ index. index < length self.now) }
     {
-        place_of_point(&self.held, number)
+        index_of_point(&self.held, number)
     }
 
-    /// Attaches a program to the point at this place, in place of an older one.
-    pub fn attach(&mut self, place: usize, program: Program)
-        requires { place < length self.old }
-        ensures { self.new ≡ with_program self.old place (program_body program) }
+    /// Attaches a program to the point at this index, in place of an older one.
+    pub fn attach(&mut self, index: usize, program: Program)
+        requires { index < length self.old }
+        ensures { self.new ≡ with_program self.old index (program_body program) }
     {
-        put(&mut self.held, place, program);
+        put(&mut self.held, index, program);
     }
 
     /// The number of each point, and the line that made it.
@@ -160,19 +160,19 @@ fn is_held(points: &[Point], number: u64) -> bool
 }
 
 // Where the first point with this number stands.
-fn place_of_point(points: &[Point], number: u64) -> Option<usize>
-    ensures place { result ≡ position (λ p. p.number == number) points.now }
-    ensures within { IfSome result (λ place. place < length points.now) }
+fn index_of_point(points: &[Point], number: u64) -> Option<usize>
+    ensures index { result ≡ position (λ p. p.number == number) points.now }
+    ensures within { IfSome result (λ index. index < length points.now) }
 {
     points.iter().position(|point| point.number == number)
 }
 
-// The program is attached to the point at this place.
-fn put(points: &mut Vec<Point>, place: usize, program: Program)
-    requires { place < length points.now.items }
-    ensures { map point_meant points.new.items ≡ with_program (map point_meant points.old.items) place (program_body program) }
+// The program is attached to the point at this index.
+fn put(points: &mut Vec<Point>, index: usize, program: Program)
+    requires { index < length points.now.items }
+    ensures { map point_meant points.new.items ≡ with_program (map point_meant points.old.items) index (program_body program) }
 {
-    points[place].program = Some(program);
+    points[index].program = Some(program);
 }
 
 // All points but those with this number.

@@ -9,7 +9,7 @@ ghost use Rattle.shell_points.specs.Watching.{watched_expressions};
 ghost use Rattle.shell_points.specs.declared.point.Point.{Point as Held};
 
 use crate::point::Point;
-use crate::turn::turn_here;
+use crate::points_run::run_points_here;
 use crate::watching::Watching;
 use embed_cmds::Vars;
 use fri_text::Text;
@@ -60,7 +60,7 @@ pub(crate) fn walk<'m, 'a, L: Ledger>(
             return arrive(group, variables, text, "end\n");
         }
         let (now, before) = watching.after_event(alloc, points, &group, steps)?;
-        let turn = turn_here(alloc, points, before, &now, &group, variables)?;
+        let turn = run_points_here(alloc, points, before, &now, &group, variables)?;
         text.push_bytes(turn.text.bytes())?;
         if turn.stops {
             return arrive(group, turn.variables, text, "");

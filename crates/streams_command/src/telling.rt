@@ -50,7 +50,7 @@ impl Told {
     {
         let entry = &event.entry;
         if let Some(tag) = entry.tag {
-            let mark = self.streams.received(process, tag, entry.incoming)?;
+            let mark = self.streams.add_received(process, tag, entry.incoming)?;
             self.foreign += one_if_strange(mark);
         }
         Ok(())
@@ -73,7 +73,9 @@ impl Told {
         let entry = &event.entry;
         if is_sent(entry, count) {
             let to = entry.call.a0 as u32;
-            let mark = self.streams.sent(process, entry.clock, to, entry.outgoing)?;
+            let mark = self
+                .streams
+                .add_sent(process, entry.clock, to, entry.outgoing)?;
             self.odd += one_if_strange(mark);
             Ok(())
         } else if is_taken(entry) {

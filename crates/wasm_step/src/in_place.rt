@@ -19,7 +19,7 @@ use wasm_types::{Instr, Slot, ValidModule};
 /// One instruction of a thread that is left these, and what comes after it, unless it is none of these or is left
 /// to its full case. What `thread` itself is left is another, so that the burst can keep its own at hand.
 #[inline(always)]
-pub(crate) fn row<'m>(
+pub(crate) fn try_in_place<'m>(
     thread: &mut Stack<'m>,
     module: &'m ValidModule,
     store: &mut Store<'m>,
@@ -35,20 +35,20 @@ pub(crate) fn row<'m>(
     ensures store { IfOk result (λ row. IfNone row (store.new ≡ store.old)) }
 {
     let way = match instr {
-        Instr::LocalGet(x) => return Ok(went(thread.local_get_in_place(*x as usize))),
-        Instr::LocalSet(x) => return Ok(went(thread.local_set(*x))),
-        Instr::LocalTee(x) => return Ok(went(thread.local_tee(*x))),
-        Instr::ConstI32(bits) => return Ok(went(thread.push_within(Slot::narrow(*bits)))),
-        Instr::ConstI64(bits) => return Ok(went(thread.push_within(Slot::long(*bits)))),
-        Instr::Op(op) => return Ok(went(thread.numeric_in_place(*op))),
-        Instr::DropTop => return Ok(went(thread.drop_top())),
-        Instr::Select => return Ok(went(thread.select())),
-        Instr::GlobalGet(x) => return Ok(went(thread.got_in_place(store.global(*x)))),
-        Instr::GlobalSet(x) => return Ok(went(global_set(thread, store, *x))),
-        Instr::Load { opcode, offset, .. } => return Ok(went(load_in_place(
+        Instr::LocalGet(x) => return Ok(done_if(thread.local_get_in_place(*x as usize))),
+        Instr::LocalSet(x) => return Ok(done_if(thread.local_set(*x))),
+        Instr::LocalTee(x) => return Ok(done_if(thread.local_tee(*x))),
+        Instr::ConstI32(bits) => return Ok(done_if(thread.push_within(Slot::narrow(*bits)))),
+        Instr::ConstI64(bits) => return Ok(done_if(thread.push_within(Slot::long(*bits)))),
+        Instr::Op(op) => return Ok(done_if(thread.numeric_in_place(*op))),
+        Instr::DropTop => return Ok(done_if(thread.drop_top())),
+        Instr::Select => return Ok(done_if(thread.select())),
+        Instr::GlobalGet(x) => return Ok(done_if(thread.got_in_place(store.global(*x)))),
+        Instr::GlobalSet(x) => return Ok(done_if(global_set(thread, store, *x))),
+        Instr::Load { opcode, offset, .. } => return Ok(done_if(load_in_place(
             thread, store, *opcode, *offset,
         ))),
-        Instr::Store { opcode, offset, .. } => return Ok(went(write_in_place(
+        Instr::Store { opcode, offset, .. } => return Ok(done_if(write_in_place(
             thread, store, *opcode, *offset,
         )?)),
         Instr::Block(_, body) | Instr::Loop(_, body) => {
@@ -83,11 +83,11 @@ pub(crate) fn row<'m>(
         }
         Instr::CallFunc(index) => {
             thread.go_to(*todo);
-            went(call_in_place(thread, module, *index))
+            done_if(call_in_place(thread, module, *index))
         }
         Instr::CallIndirect(type_index) => {
             thread.go_to(*todo);
-            went(call_indirect_in_place(thread, module, store, *type_index))
+            done_if(call_indirect_in_place(thread, module, store, *type_index))
         }
         _ => return Ok(None),
     };
@@ -97,7 +97,7 @@ pub(crate) fn row<'m>(
 
 // Going, where it was done in place.
 #[inline(always)]
-fn went(goes: bool) -> Option<Way>
+fn done_if(goes: bool) -> Option<Way>
     ensures { result ≡ (if goes then Some Way.Goes else None) }
 {
     if goes { Some(Way::Goes) } else { None }

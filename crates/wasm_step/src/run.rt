@@ -6,7 +6,7 @@ ghost use Rattle.wasm_step.specs.inside.Paused.{halt_of, stopped_of, settled_of,
 ghost use Rattle.wasm_step.specs.Burst.{after_step, burst, settle, spent_burst, most_instructions};
 ghost use Rattle.wasm_stack.specs.Limits.{ThreadWithin};
 
-use crate::in_place::row;
+use crate::in_place::try_in_place;
 use crate::step::step;
 use std::alloc::AllocError;
 use wasm_stack::{CallSite, Next, Stack, Way};
@@ -111,7 +111,7 @@ fn burst<'m>(
         };
         todo = rest;
         left -= 1;
-        if let Some(way) = row(thread, module, store, instr, &mut todo)? {
+        if let Some(way) = try_in_place(thread, module, store, instr, &mut todo)? {
             match way {
                 Way::Goes => continue 'steps,
                 way => return Ok(way.next()),

@@ -9,7 +9,7 @@ use Rattle.wasm_types.specs.declared.modules.GlobalDef.{GlobalDef}
 use Rattle.wasm_types.specs.Modules.{Module, global_def}
 use Rattle.wasm_store.specs.declared.global.Global.{Global}
 use Rattle.wasm_store.specs.inside.Globals.{stamps_of_globals, values_of_globals}
-use Rattle.wasm_store.specs.inside.Parts.{first_globals, first_values}
+use Rattle.wasm_store.specs.inside.Begun.{first_globals, first_values}
 use Rattle.wasm_store.specs.Start.{initial_value, unset_globals}
 use Rattle.wasm_store.specs.Store.{Store, with_global}
 

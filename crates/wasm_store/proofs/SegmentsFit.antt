@@ -8,7 +8,7 @@ use Rattle.guest_memory.specs.Memory.{zero_bytes}
 use Rattle.wasm_types.specs.declared.code.Value.{Value}
 use Rattle.wasm_types.specs.declared.modules.GlobalDef.{GlobalDef}
 use Rattle.wasm_types.specs.Modules.{Module, global_def}
-use Rattle.wasm_store.specs.inside.Parts.{first_values}
+use Rattle.wasm_store.specs.inside.Begun.{first_values}
 use Rattle.wasm_store.specs.Start.{memory_before_segments, empty_table, first_min, initial_value, initial_globals, is_elem_inside, is_segment_within, segments_fit}
 
 -- an empty memory has the bytes of its pages

@@ -1,3 +1,3 @@
 -- What no public contract cites.
 pub mod Globals
-pub mod Parts
+pub mod Begun

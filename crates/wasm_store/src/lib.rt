@@ -5,7 +5,7 @@
 //! call reads or changes exactly what its clause says; writes, growth and new values of globals mark what they change with the
 //! number of the event that `begin_event` set (`specs/Marks`). `SuitsModule` of `specs/Suits` says that a store fits its module, as the
 //! one that `start` gives does. The law `marked` says that what is not marked is as it was.
-//! Inside is how the code holds globals, and the store that its parts make (`specs/inside/Globals`, `specs/inside/Parts`).
+//! Inside is how the code holds globals, and the store that a module begins with (`specs/inside/Globals`, `specs/inside/Begun`).
 #![tactic(auto)]
 
 mod global;

@@ -6,7 +6,7 @@ ghost use Rattle.guest_memory.specs.Memory.{fresh_memory};
 ghost use Rattle.wasm_types.specs.Code.{tree, trees};
 ghost use Rattle.wasm_types.specs.Modules.{elem, global_def, module_of, segment as segment_of};
 ghost use Rattle.wasm_store.specs.Start.{constant, first_min, first_most, initial_value, initial_store, is_elem_inside, is_segment_within, offset_at, offset_in, put_elems, put_funcs, put_segments, segments_fit};
-ghost use Rattle.wasm_store.specs.inside.Parts.{first_globals, first_values, store_of_parts};
+ghost use Rattle.wasm_store.specs.inside.Begun.{first_globals, first_values, store_begun_so};
 
 use crate::global::Global;
 use guest_memory::{MOST_PAGES, Memory};
@@ -208,18 +208,18 @@ fn first_most(limits: &[Limits]) -> u32
     }
 }
 
-/// The parts of what the threads of a module share.
+/// What a store begins with, but for its module.
 #[derive(Drop)]
-pub(crate) struct Parts {
+pub(crate) struct Begun {
     pub memory: Memory,
     pub globals: Vec<Global>,
     pub table: Vec<Option<u32>>,
 }
 
 /// What the threads of a module share at first.
-pub(crate) fn begin(alloc: Heap, module: &ValidModule) -> Result<Parts, AllocError>
+pub(crate) fn begin(alloc: Heap, module: &ValidModule) -> Result<Begun, AllocError>
     requires { IsTrue (segments_fit (module_of «module».now)) }
-    ensures { IfOk result (λ parts. store_of_parts (module_of «module».now) parts ≡ initial_store (module_of «module».now)) }
+    ensures { IfOk result (λ begun. store_begun_so (module_of «module».now) begun ≡ initial_store (module_of «module».now)) }
 {
     let inner = module.module();
     let globals = first_globals(alloc, &inner.globals)?;
@@ -227,7 +227,7 @@ pub(crate) fn begin(alloc: Heap, module: &ValidModule) -> Result<Parts, AllocErr
     let mut memory = empty_memory(alloc, &inner.mems)?;
     put_elems(&inner.globals, &mut table, &inner.elems);
     put_segments(&inner.globals, &mut memory, &inner.segments)?;
-    Ok(Parts {
+    Ok(Begun {
         memory,
         globals,
         table,

@@ -64,11 +64,11 @@ impl<'m> Store<'m> {
             return Err(StartError::BadSegment);
         }
         match begin(alloc, module) {
-            Ok(parts) => Ok(Store {
+            Ok(begun) => Ok(Store {
                 module,
-                memory: parts.memory,
-                globals: parts.globals,
-                table: parts.table,
+                memory: begun.memory,
+                globals: begun.globals,
+                table: begun.table,
                 size_stamp: 0,
             }),
             Err(AllocError) => Err(StartError::NoMemory),

@@ -13,7 +13,7 @@ use Rattle.friday_shell.specs.Points.{SessionState}
 use Rattle.friday_shell.specs.Session.{answers_of_lines, ends_session, opening_session, session_text}
 use Rattle.debug_command.specs.declared.converse.Ended.{Ended}
 use Rattle.debug_command.specs.declared.converse.Ended.TheVariants as cause
-use Rattle.debug_command.specs.declared.converse.Talk.{Talk as TalkOfCode}
+use Rattle.debug_command.specs.declared.converse.LineReader.{LineReader}
 use Rattle.debug_command.specs.Conversation.{AreAskedInTurn, AsksAtTerminal, TakesOfInput}
 use Rattle.debug_command.specs.inside.Conversing.{TerminalState}
 use Rattle.debug_command.specs.Debug.{early_lines, is_large_input, session_outcome, whole_lines, whole_part}
@@ -26,7 +26,7 @@ pub record SessionTalk : Type 0 where
   pub begun : List ℕ
   pub count : ℕ
 
-abbrev pub session_talk_of : TalkOfCode → SessionTalk
+abbrev pub session_talk_of : LineReader → SessionTalk
 session_talk_of talk = record { state = talk.session; begun = talk.begun.items; count = talk.count }
 
 -- how many writes failed once a session, or a part of one, came to this
@@ -140,7 +140,7 @@ pub record HeardPiece : Type 0 where
   pub talk : SessionTalk
   pub more : Bool
 
-abbrev pub heard_of : TalkOfCode × Bool → HeardPiece
+abbrev pub heard_of : LineReader × Bool → HeardPiece
 heard_of heard = record { talk = session_talk_of heard.0; more = heard.1 }
 
 -- a piece was read and taken, or there was none left. What had been printed before was noted with it

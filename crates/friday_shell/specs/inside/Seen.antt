@@ -1,7 +1,7 @@
 -- What the values of the code stand for.
 use Rattle.std.specs.Prelude.{◌≡◌, ℕ, List}
 use Rattle.group_state.specs.Place.{GroupPlace, node_names}
-use Rattle.friday_shell.specs.declared.state.Kept.{Kept}
+use Rattle.friday_shell.specs.declared.state.PointsAndVariables.{PointsAndVariables}
 use Rattle.friday_shell.specs.declared.state.State.{State as Stands}
 use Rattle.shell_lines.specs.Meaning.{trimmed}
 use Rattle.shell_lines.specs.Seen.{meaning}
@@ -10,7 +10,7 @@ use Rattle.friday_shell.specs.Points.{SessionState}
 use Rattle.friday_shell.specs.Answer.{LineAnswer, answer, answer_of_meaning}
 
 -- what a session keeps, whose group is there
-abbrev pub state_with : GroupPlace → Kept → SessionState
+abbrev pub state_with : GroupPlace → PointsAndVariables → SessionState
 state_with place kept = record { place = place; points = kept.points; made = kept.made; variables = kept.variables }
 
 -- where a session is

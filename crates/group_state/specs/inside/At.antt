@@ -8,7 +8,7 @@ use Rattle.group_state.specs.inside.Motions.{AreMotions}
 use Rattle.group_state.specs.inside.Stands.{AreStands, IsStand}
 
 abbrev pub place_of_course : Course → GroupPlace
-place_of_course g = record { start = g.first.items; at = g.here.at }
+place_of_course g = record { start = g.start.items; at = g.here.at }
 
 abbrev pub place_of_group : Inside → GroupPlace
 place_of_group g = place_of_course g.course.value
@@ -16,13 +16,13 @@ place_of_group g = place_of_course g.course.value
 -- the group stands at its position and stood at its checkpoints, the heads are those of the position, and it knows the
 -- positions of each node's events up to it
 pub record IsSoundCourse (g : Course) : Type 0 where
-  pub parts : AreParts g.first.items
-  pub fits : PartsFit g.first.items
-  pub few : length (events_of_replays g.first.items) < 2 ^ 64
-  pub here : IsStand g.first.items g.here
+  pub parts : AreParts g.start.items
+  pub fits : PartsFit g.start.items
+  pub few : length (events_of_replays g.start.items) < 2 ^ 64
+  pub here : IsStand g.start.items g.here
   pub heads : g.merge ≡ map head_of_replay g.here.parts.items
-  pub kept : AreStands g.first.items g.checkpoints.stands.items
-  pub moved : AreMotions g.first.items g.motions
+  pub kept : AreStands g.start.items g.checkpoints.stands.items
+  pub moved : AreMotions g.start.items g.motions
   pub been : g.here.at ≤ g.motions.reached
 
 abbrev pub IsSoundGroup : Inside → Type 0

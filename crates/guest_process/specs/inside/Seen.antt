@@ -1,13 +1,13 @@
--- The state that the parts of a process stand for.
+-- The state that the body of a process stands for.
 use Rattle.std.specs.Prelude.{◌≡◌}
-use Rattle.guest_process.specs.declared.parts.Parts.{Parts}
+use Rattle.guest_process.specs.declared.body.Body.{Body}
 use Rattle.wasm_types.specs.Modules.{module_of}
 use Rattle.wasm_step.specs.Suits.{SuitsModule}
 use Rattle.guest_process.specs.State.{State}
 use Rattle.guest_process.specs.Fits.{StateFits}
 use Rattle.guest_process.specs.Sound.{IsSoundProcess}
 
-abbrev pub state_of : Parts → State
+abbrev pub state_of : Body → State
 state_of p = record {
   who = p.who;
   count = p.count;
@@ -20,7 +20,7 @@ state_of p = record {
 }
 
 -- what holds of each process of a valid module
-pub record IsOfModule (p : Parts) : Type 0 where
+pub record IsOfModule (p : Body) : Type 0 where
   pub same_module : module_of p.«module».now ≡ p.store.«module»
   pub suits : SuitsModule p.store
   pub fits : StateFits (state_of p)

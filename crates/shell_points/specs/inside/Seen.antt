@@ -3,7 +3,7 @@ use Rattle.std.specs.Prelude.{option_map}
 use Rattle.embed_cmds.specs.Tree.{program_body}
 use Rattle.shell_points.specs.declared.point.Point.{Point as Held}
 use Rattle.embed_cmds.specs.Running.{ProgramState}
-use Rattle.shell_points.specs.declared.turn.Turn.{Turn}
+use Rattle.shell_points.specs.declared.points_run.PointsRun.{PointsRun}
 use Rattle.shell_points.specs.declared.back.Return.{Return as Ended}
 use Rattle.shell_points.specs.Points.{Point}
 use Rattle.shell_points.specs.Seen.{trigger}
@@ -13,7 +13,7 @@ abbrev pub point : Held → Point
 point p = record { number = p.number; text = p.text; trigger = trigger p.trigger; program = option_map program_body p.program }
 
 -- what points did so far at a position
-abbrev pub run_so_far : Turn → ProgramState
+abbrev pub run_so_far : PointsRun → ProgramState
 run_so_far t = record { variables = t.variables; text = t.text; stopped = t.stops }
 
 -- where a walk back ends

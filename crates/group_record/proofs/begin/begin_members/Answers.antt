@@ -23,8 +23,8 @@ returns-in_err-member c =
     let names = map (λ (line : ProcessLine). line.name) lines in
     let all : length lines ≡ length names = sym (length-map lines (λ (line : ProcessLine). line.name)) in
     let inside : c.loop-p.p < length (map module_of c.args.modules.now) = omega (arith, c.loop-p-test.true, length-map c.args.modules.now module_of, c.requires.modules) in
-    let here = ap module_of (c.module-module.ensures ∙ c.index-modules-place.is) ∙ sym (get_or-map module_of c.args.modules.now c.loop-p.p c.index-modules-place.result (module_of c.module-module.result.now) (omega (arith, c.loop-p-test.true, c.requires.modules))) in
-    rw (p.1, p.2) (member_fails (λ (v : Vec Member Global). v.items) names (map module_of c.args.modules.now) c.loop-p.p (length lines) c.loop-p.members.items (module_of c.module-module.result.now) c.index-lines-place.result.name c.in_err-member.field-0.0 all c.loop-p.invariant inside here c.in_err-member.ensures)
+    let here = ap module_of (c.module-module.ensures ∙ c.index-modules-index.is) ∙ sym (get_or-map module_of c.args.modules.now c.loop-p.p c.index-modules-index.result (module_of c.module-module.result.now) (omega (arith, c.loop-p-test.true, c.requires.modules))) in
+    rw (p.1, p.2) (member_fails (λ (v : Vec Member Global). v.items) names (map module_of c.args.modules.now) c.loop-p.p (length lines) c.loop-p.members.items (module_of c.module-module.result.now) c.index-lines-index.result.name c.in_err-member.field-0.0 all c.loop-p.invariant inside here c.in_err-member.ensures)
 
 pub loop-p-preserved : goal.loop-p-preserved
 loop-p-preserved c =
@@ -32,10 +32,10 @@ loop-p-preserved c =
     let names = map (λ (line : ProcessLine). line.name) lines in
     let all : length lines ≡ length names = sym (length-map lines (λ (line : ProcessLine). line.name)) in
     let inside : c.loop-p.p < length (map module_of c.args.modules.now) = omega (arith, c.loop-p-test.true, length-map c.args.modules.now module_of, c.requires.modules) in
-    let here = ap module_of (c.module-module.ensures ∙ c.index-modules-place.is) ∙ sym (get_or-map module_of c.args.modules.now c.loop-p.p c.index-modules-place.result (module_of c.module-module.result.now) (omega (arith, c.loop-p-test.true, c.requires.modules))) in
-    let named = sym (name_at lines c.loop-p.p c.index-lines-place.result [] (at_place lines c.loop-p.p c.index-lines-place.result c.loop-p-test.true c.index-lines-place.is)) in
+    let here = ap module_of (c.module-module.ensures ∙ c.index-modules-index.is) ∙ sym (get_or-map module_of c.args.modules.now c.loop-p.p c.index-modules-index.result (module_of c.module-module.result.now) (omega (arith, c.loop-p-test.true, c.requires.modules))) in
+    let named = sym (name_at lines c.loop-p.p c.index-lines-index.result [] (at_place lines c.loop-p.p c.index-lines-index.result c.loop-p-test.true c.index-lines-index.is)) in
     subst (λ (ms : List Member). HaveStarted names (map module_of c.args.modules.now) (c.loop-p.p + 1) ms) (sym c.in_ok-push.ensures.items)
-    (next_started names (map module_of c.args.modules.now) c.loop-p.p (length lines) c.loop-p.members.items c.in_ok-member.member (module_of c.module-module.result.now) c.index-lines-place.result.name all c.loop-p.invariant inside here named c.in_ok-member.ensures)
+    (next_started names (map module_of c.args.modules.now) c.loop-p.p (length lines) c.loop-p.members.items c.in_ok-member.member (module_of c.module-module.result.now) c.index-lines-index.result.name all c.loop-p.invariant inside here named c.in_ok-member.ensures)
 
 pub returns : goal.returns
 returns c =

@@ -3,7 +3,7 @@ use Rattle.coop_threads.specs.Crew.{empty, with_live}
 use Rattle.wasm_types.specs.Modules.{Module, module_of}
 use Rattle.wasm_types.specs.Valid.{IsValid}
 use Rattle.wasm_step.specs.Strand.{Strand}
-use Rattle.guest_process.specs.declared.parts.Parts.{Parts}
+use Rattle.guest_process.specs.declared.body.Body.{Body}
 use Rattle.guest_process.specs.declared.end.End.TheVariants.{Running}
 use Rattle.guest_process.specs.inside.Seen.{IsOfModule}
 use Rattle.guest_process.specs.Start.{waits_at_begin}
@@ -19,7 +19,7 @@ invariant_of-result c =
     let waiting = c.beginning.ensures ∙ ap waits_at_begin (same_module ∙ call) in
     let crew = c.in-Ok.ensures.ok ∙ ap (λ crew. with_live crew c.beginning.result) c.new-crew.ensures ∙ ap (with_live empty) waiting in
     let valid = subst (λ r. IsValid (module_of r)) c.module.ensures.same c.module.ensures.valid in
-    let p : Parts = record {
+    let p : Body = record {
       alloc = c.args.alloc;
       «module» = c.args.«module»;
       who = c.args.who;
@@ -31,4 +31,4 @@ invariant_of-result c =
       events = 0;
       end = Running;
     } in
-    subst IsOfModule (sym c.in_ok-parts.ensures.ok) (is_process c.stamps_no_later.ensures.written c.stamps_no_later.ensures.fresh p c.args.store s.thread c.requires.who c.requires.count c.requires.store valid c.requires.suits (rw (c.begin_event.ensures, crew, c.new.ensures) refl))
+    subst IsOfModule (sym c.in_ok-body.ensures.ok) (is_process c.stamps_no_later.ensures.written c.stamps_no_later.ensures.fresh p c.args.store s.thread c.requires.who c.requires.count c.requires.store valid c.requires.suits (rw (c.begin_event.ensures, crew, c.new.ensures) refl))

@@ -36,8 +36,8 @@ loop-loaded-preserved c =
     let all = c.args.all.now in
     let i = c.loop-loaded.loaded-index in
     let next : drop i all ≡ c.loaded-item.result ∷ drop (i + 1) all = drop_more all i _ c.loop-loaded-test.true ∙ ap (λ (x : Loaded). x ∷ drop (i + 1) all) (sym c.loaded-item.is) in
-    one_begun all (drop i all) (drop (i + 1) all) c.loaded-item.result c.in_ok-replay.replay c.loop-loaded.sorted.items c.place.new.sorted.items c.loop-loaded.invariant next
-    c.in_ok-replay.ensures.answer (c.in_ok-replay.ensures.fresh, c.in_ok-replay.ensures.at_head) c.in_ok-place.ensures
+    one_begun all (drop i all) (drop (i + 1) all) c.loaded-item.result c.in_ok-replay.replay c.loop-loaded.sorted.items c.insert_replay.new.sorted.items c.loop-loaded.invariant next
+    c.in_ok-replay.ensures.answer (c.in_ok-replay.ensures.fresh, c.in_ok-replay.ensures.at_head) c.in_ok-insert_replay.ensures
 
 pub returns-clause-answer : goal.returns-clause-answer
 returns-clause-answer c pairs told loaded =

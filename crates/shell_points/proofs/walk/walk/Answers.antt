@@ -57,8 +57,8 @@ after_event-requires-clause-before g c =
     let here : new ≡ place_at first.start (suc old.at) = went.0 ∙ ap (λ (s : List Replaying). place_at s (suc old.at)) i.start in
     read_before first.start old.at ps c.positions.watching new here i.read
 
-pub turn_here-requires-clause-moved : goal.turn_here-requires-clause-moved
-turn_here-requires-clause-moved g c =
+pub run_points_here-requires-clause-moved : goal.run_points_here-requires-clause-moved
+run_points_here-requires-clause-moved g c =
     let i = c.positions.invariant in
     let first = c.args.group in
     let old = c.positions.walked.group in

@@ -47,12 +47,12 @@ returns-in_default-return_from c =
 pub steps-smaller-in-Goes-way : goal.steps-smaller-in-Goes-way
 steps-smaller-in-Goes-way c =
     let within = c.in_ok-way.ensures.within (c.in-Some.is ∙ ap (λ (w : Way). Some w) c.in-Goes-way.is) in
-    fewer_left c.steps.left (levels_left c.row.new.thread) (levels_left c.steps.thread) c.steps-test.true (depth_within c.row.new.thread within)
+    fewer_left c.steps.left (levels_left c.try_in_place.new.thread) (levels_left c.steps.thread) c.steps-test.true (depth_within c.try_in_place.new.thread within)
 
 pub steps-preserved-in-Goes-way : goal.steps-preserved-in-Goes-way
 steps-preserved-in-Goes-way c =
     let within = c.in_ok-way.ensures.within (c.in-Some.is ∙ ap (λ (w : Way). Some w) c.in-Goes-way.is) in
-    let on = row_goes c.steps.todo.now c.instr-item.result c.steps.thread c.in-len1-up.len_at_least c.instr-item.is c.steps.left c.steps-test.true c.steps.store c.in_ok-way.field-0 c.in-Some.way c.row.new.thread (trees c.row.new.todo.now) c.row.new.store c.in-Some.is c.in_ok-way.ensures.done c.in-Goes-way.is within in record {
+    let on = row_goes c.steps.todo.now c.instr-item.result c.steps.thread c.in-len1-up.len_at_least c.instr-item.is c.steps.left c.steps-test.true c.steps.store c.in_ok-way.field-0 c.in-Some.way c.try_in_place.new.thread (trees c.try_in_place.new.todo.now) c.try_in_place.new.store c.in-Some.is c.in_ok-way.ensures.done c.in-Goes-way.is within in record {
       same = sym on.0 ∙ c.steps.invariant.same;
       within = within;
       same_module = c.steps.invariant.same_module ∙ on.1;
@@ -61,20 +61,20 @@ steps-preserved-in-Goes-way c =
 pub returns-in_default-way : goal.returns-in_default-way
 returns-in_default-way c =
     let next = c.next-in_default-way in
-    sym (row_stops c.steps.todo.now c.instr-item.result c.steps.thread c.in-len1-up.len_at_least c.instr-item.is c.steps.left c.steps-test.true c.steps.store c.in_ok-way.field-0 c.in-Some.way c.row.new.thread (trees c.row.new.todo.now) c.row.new.store c.in-Some.is c.in_ok-way.ensures.done next.result (next.ensures c.row.new.thread) c.in_default-way.not-Goes)
+    sym (row_stops c.steps.todo.now c.instr-item.result c.steps.thread c.in-len1-up.len_at_least c.instr-item.is c.steps.left c.steps-test.true c.steps.store c.in_ok-way.field-0 c.in-Some.way c.try_in_place.new.thread (trees c.try_in_place.new.todo.now) c.try_in_place.new.store c.in-Some.is c.in_ok-way.ensures.done next.result (next.ensures c.try_in_place.new.thread) c.in_default-way.not-Goes)
     ∙ c.steps.invariant.same
 
 pub returns-in_default-3 : goal.returns-in_default-3
 returns-in_default-3 c =
-    sym (full_stops c.steps.todo.now c.instr-item.result c.steps.thread c.in-len1-up.len_at_least c.instr-item.is c.steps.left c.steps-test.true c.steps.store c.in_ok-way.field-0 c.row.new.thread c.go_to.new.self c.step.new.thread (trees c.row.new.todo.now) c.row.new.store c.step.new.store c.in_default-2.is c.in_ok-way.ensures.same c.in_ok-way.ensures.store c.go_to.ensures c.in_ok-halted-2.ensures.store c.in_ok-halted-2.halted c.in_ok-halted-2.ensures.after c.in_default-3.not-Going)
+    sym (full_stops c.steps.todo.now c.instr-item.result c.steps.thread c.in-len1-up.len_at_least c.instr-item.is c.steps.left c.steps-test.true c.steps.store c.in_ok-way.field-0 c.try_in_place.new.thread c.go_to.new.self c.step.new.thread (trees c.try_in_place.new.todo.now) c.try_in_place.new.store c.step.new.store c.in_default-2.is c.in_ok-way.ensures.same c.in_ok-way.ensures.store c.go_to.ensures c.in_ok-halted-2.ensures.store c.in_ok-halted-2.halted c.in_ok-halted-2.ensures.after c.in_default-3.not-Going)
     ∙ c.steps.invariant.same
 
 module _ (c : goal.After-todo-todo-in-steps) where
-  goes : Goes c.step.new.thread ≡ (reduce_instruction (tree c.instr-item.result) c.go_to.new.self c.row.new.store).after
+  goes : Goes c.step.new.thread ≡ (reduce_instruction (tree c.instr-item.result) c.go_to.new.self c.try_in_place.new.store).after
   goes = ap (λ n. after_of n c.step.new.thread) (sym c.in-Going-2.is) ∙ c.in_ok-halted-2.ensures.after
 
   within : ThreadWithin c.step.new.thread
-  within = limited_within (instr_row (tree c.instr-item.result) c.go_to.new.self c.row.new.store).after c.step.new.thread (sym goes)
+  within = limited_within (instr_row (tree c.instr-item.result) c.go_to.new.self c.try_in_place.new.store).after c.step.new.thread (sym goes)
 
 pub steps-smaller : goal.steps-smaller
 steps-smaller c =
@@ -83,7 +83,7 @@ steps-smaller c =
 pub steps-preserved : goal.steps-preserved
 steps-preserved c =
     let todo = c.todo-todo-in-steps in
-    let on = full_goes c.steps.todo.now c.instr-item.result c.steps.thread c.in-len1-up.len_at_least c.instr-item.is c.steps.left c.steps-test.true c.steps.store c.in_ok-way.field-0 c.row.new.thread c.go_to.new.self c.step.new.thread (trees c.row.new.todo.now) c.row.new.store c.step.new.store c.in_default-2.is c.in_ok-way.ensures.same c.in_ok-way.ensures.store c.go_to.ensures c.in_ok-halted-2.ensures.store (trees todo.result.now) todo.ensures (goes c) in record {
+    let on = full_goes c.steps.todo.now c.instr-item.result c.steps.thread c.in-len1-up.len_at_least c.instr-item.is c.steps.left c.steps-test.true c.steps.store c.in_ok-way.field-0 c.try_in_place.new.thread c.go_to.new.self c.step.new.thread (trees c.try_in_place.new.todo.now) c.try_in_place.new.store c.step.new.store c.in_default-2.is c.in_ok-way.ensures.same c.in_ok-way.ensures.store c.go_to.ensures c.in_ok-halted-2.ensures.store (trees todo.result.now) todo.ensures (goes c) in record {
       same = sym on.0 ∙ c.steps.invariant.same;
       within = within c;
       same_module = c.steps.invariant.same_module ∙ on.1;

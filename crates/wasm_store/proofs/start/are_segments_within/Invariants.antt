@@ -2,7 +2,7 @@ use Rattle.std.proofs.Common.{◌≡◌, drop}
 use Rattle.std.specs.Prelude.{map}
 use Rattle.std.specs.List.{list_all}
 use Rattle.wasm_types.specs.Modules.{segment}
-use Rattle.wasm_store.specs.inside.Parts.{first_values}
+use Rattle.wasm_store.specs.inside.Begun.{first_values}
 use Rattle.wasm_store.specs.Start.{is_segment_within}
 use Rattle.wasm_store.proofs.start.are_segments_within.Given as goal
 

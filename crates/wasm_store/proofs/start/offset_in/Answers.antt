@@ -2,7 +2,7 @@ use Rattle.std.proofs.Common.{◌≡◌, ◌≤◌, List, [], ◌∷◌, length,
 use Rattle.wasm_types.specs.declared.code.Instr.{Instr}
 use Rattle.wasm_types.specs.declared.code.Value.{Value}
 use Rattle.wasm_types.specs.Code.{trees}
-use Rattle.wasm_store.specs.inside.Parts.{first_values}
+use Rattle.wasm_store.specs.inside.Begun.{first_values}
 use Rattle.wasm_store.specs.Start.{offset_in}
 use Rattle.wasm_store.proofs.start.offset_in.Goals as goal
 

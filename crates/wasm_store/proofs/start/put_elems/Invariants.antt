@@ -2,7 +2,7 @@ use Rattle.std.proofs.Common.{◌≡◌, drop, length}
 use Rattle.std.specs.Prelude.{map, IsTrue}
 use Rattle.std.specs.List.{list_all}
 use Rattle.wasm_types.specs.Modules.{elem}
-use Rattle.wasm_store.specs.inside.Parts.{first_values}
+use Rattle.wasm_store.specs.inside.Begun.{first_values}
 use Rattle.wasm_store.specs.Start.{is_elem_inside, put_elems}
 use Rattle.wasm_store.proofs.start.put_elems.Given as goal
 

@@ -1,7 +1,7 @@
 use Rattle.std.proofs.Common.{◌≡◌, drop}
 use Rattle.std.specs.Prelude.{map}
 use Rattle.wasm_types.specs.Modules.{segment}
-use Rattle.wasm_store.specs.inside.Parts.{first_values}
+use Rattle.wasm_store.specs.inside.Begun.{first_values}
 use Rattle.wasm_store.specs.Start.{put_segments}
 use Rattle.wasm_store.proofs.start.put_segments.Given as goal
 

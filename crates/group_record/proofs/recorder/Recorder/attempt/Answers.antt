@@ -42,8 +42,8 @@ returns-in-None-clause-comes g c = λ group done before keeps files.
     (omega (arith, c.requires.process, keeps.count)) (keeps.members c.args.p m at)
     (lives_of group done c.args.self.now c.args.p c.args.thread m (env_of c.args.self.now.world c.args.p) keeps at c.in-Some.process c.in-Some.is none) refl
 
-pub keep-requires-clause-event : goal.keep-requires-clause-event
-keep-requires-clause-event g c = λ other there.
+pub log_event-requires-clause-event : goal.log_event-requires-clause-event
+log_event-requires-clause-event g c = λ other there.
     let u = c.requires.under_way in
     let m = c.index.result.now in
     let same = only_one c.args.self.now.members.items c.args.p m other c.requires.process c.index.ensures there in
@@ -57,13 +57,13 @@ returns-in-Some-2-clause-comes g c = λ group done before keeps files.
     let m = c.index.result.now in
     let at = at_place c.args.self.now.members.items c.args.p m c.requires.process c.index.ensures in
     let tells = rw c.in-Some-2.is at c.in_ok-live_entry.ensures in
-    try_event c.by_counting.ensures.counted c.keeps_files.ensures group done before (g.F.Files.told c.args.files.now) (g.F.Files.told c.keep.new.files) c.args.self.now c.keep.result c.keep.new.self c.args.number c.args.p c.args.thread m c.in-Some-2.entry keeps files
+    try_event c.by_counting.ensures.counted c.keeps_files.ensures group done before (g.F.Files.told c.args.files.now) (g.F.Files.told c.log_event.new.files) c.args.self.now c.log_event.result c.log_event.new.self c.args.number c.args.p c.args.thread m c.in-Some-2.entry keeps files
     (omega (arith, c.requires.process, keeps.count)) (keeps.members c.args.p m at)
     (tells_of group done c.args.self.now c.args.p c.args.thread m (env_of c.args.self.now.world c.args.p) c.in-Some-2.entry keeps at c.in-Some.process c.in-Some.is tells)
-    (c.keep.ensures.writes m at) (kept_at c.keep.result c.args.self.now c.keep.new.self c.args.p m c.in-Some-2.entry at c.keep.ensures.ok)
+    (c.log_event.ensures.writes m at) (kept_at c.log_event.result c.args.self.now c.log_event.new.self c.args.p m c.in-Some-2.entry at c.log_event.ensures.ok)
 
 pub returns-in-Some-2-clause-total : goal.returns-in-Some-2-clause-total
 returns-in-Some-2-clause-total g c =
     let m = c.index.result.now in
     let at = at_place c.args.self.now.members.items c.args.p m c.requires.process c.index.ensures in
-    counted_kept c.keep.result c.args.self.now c.keep.new.self c.args.p m c.in-Some-2.entry (kept_at c.keep.result c.args.self.now c.keep.new.self c.args.p m c.in-Some-2.entry at c.keep.ensures.ok)
+    counted_kept c.log_event.result c.args.self.now c.log_event.new.self c.args.p m c.in-Some-2.entry (kept_at c.log_event.result c.args.self.now c.log_event.new.self c.args.p m c.in-Some-2.entry at c.log_event.ensures.ok)

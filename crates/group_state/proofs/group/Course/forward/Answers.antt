@@ -19,7 +19,7 @@ returns-in_default-clause-moves c =
     let g = c.args.self.now in
     let i = c.requires in
     record {
-      gives = sym (ends c.merges.ensures c.rises.ensures c.states_fit.ensures.ranges c.replays.ensures.turn g.first.items i.fits g.here.at
+      gives = sym (ends c.merges.ensures c.rises.ensures c.states_fit.ensures.ranges c.replays.ensures.turn g.start.items i.fits g.here.at
           (subst AreNoHeads (i.heads ∙ ap (map head_of_replay) i.here.parts) c.in_default.ensures.next));
       place = refl;
     }
@@ -28,7 +28,7 @@ pub index-part-requires : goal.index-part-requires
 index-part-requires c =
     let g = c.args.self.now in
     let i = c.requires in
-    let f = forwarded c.merges.ensures c.rises.ensures c.states_fit.ensures.ranges c.replays.ensures.turn g.first.items _ _ _ g.here.at _ _
+    let f = forwarded c.merges.ensures c.rises.ensures c.states_fit.ensures.ranges c.replays.ensures.turn g.start.items _ _ _ g.here.at _ _
     i.fits i.here.parts i.heads c.in-Some.ensures.next c.in_ok-turn.ensures in
     omega (arith, f.fits)
 
@@ -36,7 +36,7 @@ pub unreachable-requires : goal.unreachable-requires
 unreachable-requires c =
     let g = c.args.self.now in
     let i = c.requires in
-    let f = forwarded c.merges.ensures c.rises.ensures c.states_fit.ensures.ranges c.replays.ensures.turn g.first.items _ _ _ g.here.at _ _
+    let f = forwarded c.merges.ensures c.rises.ensures c.states_fit.ensures.ranges c.replays.ensures.turn g.start.items _ _ _ g.here.at _ _
     i.fits i.here.parts i.heads c.in-Some.ensures.next c.in_ok-turn.ensures in
     is_event c.in_ok-turn.turn f.entry f.told c.in_default-turn.not-Event
 
@@ -44,7 +44,7 @@ pub overflow_add-self : goal.overflow_add-self
 overflow_add-self c =
     let g = c.args.self.now in
     let i = c.requires in
-    let f = forwarded c.merges.ensures c.rises.ensures c.states_fit.ensures.ranges c.replays.ensures.turn g.first.items _ _ _ g.here.at _ _
+    let f = forwarded c.merges.ensures c.rises.ensures c.states_fit.ensures.ranges c.replays.ensures.turn g.start.items _ _ _ g.here.at _ _
     i.fits i.here.parts i.heads c.in-Some.ensures.next c.in_ok-turn.ensures in
     omega (arith, f.within, i.few)
 
@@ -52,26 +52,26 @@ pub add-requires : goal.add-requires
 add-requires c =
     let g = c.args.self.now in
     let i = c.requires in
-    let f = forwarded c.merges.ensures c.rises.ensures c.states_fit.ensures.ranges c.replays.ensures.turn g.first.items _ _ _ g.here.at _ _
+    let f = forwarded c.merges.ensures c.rises.ensures c.states_fit.ensures.ranges c.replays.ensures.turn g.start.items _ _ _ g.here.at _ _
     i.fits i.here.parts i.heads c.in-Some.ensures.next c.in_ok-turn.ensures in
     omega (
       arith,
       f.fits,
       ap length f.stand,
-      length_parts 0 g.first.items (take (g.here.at + 1) (events_of_replays g.first.items)),
+      length_parts 0 g.start.items (take (g.here.at + 1) (events_of_replays g.start.items)),
       ap length i.moved.lists,
-      length_motions 0 g.first.items (take g.motions.reached (events_of_replays g.first.items)),
+      length_motions 0 g.start.items (take g.motions.reached (events_of_replays g.start.items)),
     )
 
 pub returns-clause-sound : goal.returns-clause-sound
 returns-clause-sound c =
     let g = c.args.self.now in
     let i = c.requires in
-    let f = forwarded c.merges.ensures c.rises.ensures c.states_fit.ensures.ranges c.replays.ensures.turn g.first.items _ _ _ g.here.at _ _
+    let f = forwarded c.merges.ensures c.rises.ensures c.states_fit.ensures.ranges c.replays.ensures.turn g.start.items _ _ _ g.here.at _ _
     i.fits i.here.parts i.heads c.in-Some.ensures.next c.in_ok-turn.ensures in
     let sound = f.sound i.here.sound c.index-part.result.now c.index-part.ensures (subst IsMemory (c.memory.ensures ∙ ap (λ (S : State). S.store.memory) c.process.ensures) c.size.ensures.sound) in
-    let moved = moved_on g.first.items g.motions c.add.new.self g.here.at (node_event c.in-Some.node f.entry) i.moved i.been f.next f.within
-    (omega (arith, f.fits, ap length f.stand, length_parts 0 g.first.items (take (g.here.at + 1) (events_of_replays g.first.items)))) c.in_ok-add.ensures in
+    let moved = moved_on g.start.items g.motions c.add.new.self g.here.at (node_event c.in-Some.node f.entry) i.moved i.been f.next f.within
+    (omega (arith, f.fits, ap length f.stand, length_parts 0 g.start.items (take (g.here.at + 1) (events_of_replays g.start.items)))) c.in_ok-add.ensures in
     record {
       parts = i.parts;
       fits = i.fits;
@@ -80,13 +80,13 @@ returns-clause-sound c =
       heads = c.set_head.ensures ∙ ap (λ h. slice_set g.merge c.in-Some.node h) c.head_of-head.ensures ∙ f.merged c.index-part.result.now c.index-part.ensures;
       moved = moved.are;
       been = moved.been;
-      kept = c.keep.ensures g.first.items i.kept (stands_on _ _ _ _ _ _ _ _ _ f c.in-Event.is refl refl refl sound);
+      kept = c.keep.ensures g.start.items i.kept (stands_on _ _ _ _ _ _ _ _ _ f c.in-Event.is refl refl refl sound);
     }
 
 pub returns-clause-moves : goal.returns-clause-moves
 returns-clause-moves c =
     let g = c.args.self.now in
     let i = c.requires in
-    let f = forwarded c.merges.ensures c.rises.ensures c.states_fit.ensures.ranges c.replays.ensures.turn g.first.items _ _ _ g.here.at _ _
+    let f = forwarded c.merges.ensures c.rises.ensures c.states_fit.ensures.ranges c.replays.ensures.turn g.start.items _ _ _ g.here.at _ _
     i.fits i.here.parts i.heads c.in-Some.ensures.next c.in_ok-turn.ensures in
     (record { gives = given _ _ _ _ _ _ _ c.in-Event.entry f c.in-Event.is; place = refl })

@@ -10,17 +10,17 @@ pub merge_of-requires : goal.merge_of-requires
 merge_of-requires c =
     let g = c.args.self.now in
     let i = c.requires in
-    let kept = kept_checkpoint g.first.items g.checkpoints.stands.items c.nearest-nearest.result c.nearest-nearest.ensures.among i.kept in
-    let is : IsStand g.first.items c.in_ok-stand.stand =
+    let kept = kept_checkpoint g.start.items g.checkpoints.stands.items c.nearest-nearest.result c.nearest-nearest.ensures.among i.kept in
+    let is : IsStand g.start.items c.in_ok-stand.stand =
     subst (λ (start : List Replaying). IfSome c.nearest-nearest.result (λ s. IsStand start s.now) → IsStand start c.in_ok-stand.stand) c.deref.ensures.value c.in_ok-stand.ensures.stand kept in
-    omega (arith, few_parts g.first.items c.in_ok-stand.stand is i.parts.few, ap length c.deref-2.ensures.value)
+    omega (arith, few_parts g.start.items c.in_ok-stand.stand is i.parts.few, ap length c.deref-2.ensures.value)
 
 pub returns-clause-sound : goal.returns-clause-sound
 returns-clause-sound c =
     let g = c.args.self.now in
     let i = c.requires in
-    let kept = kept_checkpoint g.first.items g.checkpoints.stands.items c.nearest-nearest.result c.nearest-nearest.ensures.among i.kept in
-    let is : IsStand g.first.items c.in_ok-stand.stand =
+    let kept = kept_checkpoint g.start.items g.checkpoints.stands.items c.nearest-nearest.result c.nearest-nearest.ensures.among i.kept in
+    let is : IsStand g.start.items c.in_ok-stand.stand =
     subst (λ (start : List Replaying). IfSome c.nearest-nearest.result (λ s. IsStand start s.now) → IsStand start c.in_ok-stand.stand) c.deref.ensures.value c.in_ok-stand.ensures.stand kept in
     let low = c.in_ok-stand.ensures.at c.min.result c.nearest-nearest.ensures.at in
     record {

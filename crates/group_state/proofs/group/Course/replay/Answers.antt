@@ -7,16 +7,16 @@ pub returns-in_err-part : goal.returns-in_err-part
 returns-in_err-part c =
     let g = c.args.self.now in
     let at = ap (map (λ r. r.state)) c.requires.here.parts
-    ∙ states_at c.merges.ensures c.rises.ensures c.states_fit.ensures.ranges c.replays.ensures.turn g.first.items c.requires.fits g.here.at c.replays.ensures.course c.requires.parts.fresh in
+    ∙ states_at c.merges.ensures c.rises.ensures c.states_fit.ensures.ranges c.replays.ensures.turn g.start.items c.requires.fits g.here.at c.replays.ensures.course c.requires.parts.fresh in
     let past = c.in_err-part.ensures.lookup.3 in
-    (rw c.from_residual.ensures (no_state_at g.here.parts.items (states_of_nodes g.first.items g.here.at) c.args.node at (omega (arith, past, c.deref.ensures.len))))
+    (rw c.from_residual.ensures (no_state_at g.here.parts.items (states_of_nodes g.start.items g.here.at) c.args.node at (omega (arith, past, c.deref.ensures.len))))
 
 pub returns : goal.returns
 returns c =
     let g = c.args.self.now in
     let at = ap (map (λ r. r.state)) c.requires.here.parts
-    ∙ states_at c.merges.ensures c.rises.ensures c.states_fit.ensures.ranges c.replays.ensures.turn g.first.items c.requires.fits g.here.at c.replays.ensures.course c.requires.parts.fresh in
+    ∙ states_at c.merges.ensures c.rises.ensures c.states_fit.ensures.ranges c.replays.ensures.turn g.start.items c.requires.fits g.here.at c.replays.ensures.course c.requires.parts.fresh in
     let lookup = c.in_ok-part.ensures.lookup in
     let part = c.in_ok-part.part.now in
     let within : c.args.node < length g.here.parts.items = omega (arith, lookup.3.0, ap length c.deref.ensures.value) in
-    (state_at g.here.parts.items (states_of_nodes g.first.items g.here.at) c.args.node part part.state at within (lookup.1 ∙ ap (λ rs. get_or rs c.args.node part) c.deref.ensures.value) refl)
+    (state_at g.here.parts.items (states_of_nodes g.start.items g.here.at) c.args.node part part.state at within (lookup.1 ∙ ap (λ rs. get_or rs c.args.node part) c.deref.ensures.value) refl)

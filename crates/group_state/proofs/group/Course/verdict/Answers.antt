@@ -8,7 +8,7 @@ pub returns-in_err-part : goal.returns-in_err-part
 returns-in_err-part c =
     let g = c.args.self.now in
     let past = c.in_err-part.ensures.lookup.3 in
-    let none = none_said g.first.items g.here.parts.items (take g.here.at (events_of_replays g.first.items)) c.args.node c.requires.sound.here.parts (omega (arith, past, c.deref.ensures.len)) in
+    let none = none_said g.start.items g.here.parts.items (take g.here.at (events_of_replays g.start.items)) c.args.node c.requires.sound.here.parts (omega (arith, past, c.deref.ensures.len)) in
     (rw c.from_residual.ensures none)
 
 pub verdict-requires : goal.verdict-requires
@@ -19,7 +19,7 @@ verdict-requires c =
     let part = c.in_ok-part.part.now in
     let within : c.args.node < length g.here.parts.items = omega (arith, lookup.3.0, ap length c.deref.ensures.value) in
     let ended = c.requires.end in
-    let t = told c.merges.ensures c.rises.ensures c.states_fit.ensures.ranges g.first.items i.fits c.replays.ensures.course i.parts g.here.at g.here.parts.items c.args.node part
+    let t = told c.merges.ensures c.rises.ensures c.states_fit.ensures.ranges g.start.items i.fits c.replays.ensures.course i.parts g.here.at g.here.parts.items c.args.node part
     ended i.here.parts within (lookup.1 ∙ ap (λ rs. get_or rs c.args.node part) c.deref.ensures.value) in
     (verdict_on t.first, t.tells)
 
@@ -31,6 +31,6 @@ returns c =
     let part = c.in_ok-part.part.now in
     let within : c.args.node < length g.here.parts.items = omega (arith, lookup.3.0, ap length c.deref.ensures.value) in
     let ended = c.requires.end in
-    let t = told c.merges.ensures c.rises.ensures c.states_fit.ensures.ranges g.first.items i.fits c.replays.ensures.course i.parts g.here.at g.here.parts.items c.args.node part
+    let t = told c.merges.ensures c.rises.ensures c.states_fit.ensures.ranges g.start.items i.fits c.replays.ensures.course i.parts g.here.at g.here.parts.items c.args.node part
     ended i.here.parts within (lookup.1 ∙ ap (λ rs. get_or rs c.args.node part) c.deref.ensures.value) in
-    (said_at g.first.items c.args.node part c.verdict.result t c.verdict.ensures)
+    (said_at g.start.items c.args.node part c.verdict.result t c.verdict.ensures)

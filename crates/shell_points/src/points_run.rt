@@ -1,0 +1,107 @@
+// What points do at a position.
+ghost use Rattle.std.specs.Prelude.{◌≡◌, ◌<◌, IfOk, MatchOption, OnOk, map};
+ghost use Rattle.shell_points.specs.inside.Reading.{NoneFires, point_readings, readings_before, treat_by};
+ghost use Rattle.shell_points.specs.inside.Seen.{point as seen, run_so_far};
+ghost use Rattle.shell_points.specs.Walking.{quiet_program, treat_points};
+ghost use Rattle.shell_points.specs.inside.Watches.{IsWatching};
+ghost use Rattle.shell_points.specs.declared.point.Point.{Point as Held};
+ghost use Rattle.group_state.specs.Moves.{last_event_of};
+ghost use Rattle.group_state.specs.Seen.{nodes_at};
+
+use crate::firing::{fires, push_line};
+use crate::point::Point;
+use crate::watching::Watching;
+use embed_cmds::{Vars, run_program};
+use fri_text::Text;
+use group_state::Group;
+use std::alloc::{AllocError, Global};
+
+/// What points did so far at a position: what programs made of the variables, what was said, and whether a point asked to
+/// stop.
+#[derive(Drop)]
+pub(crate) struct PointsRun {
+    pub(crate) variables: Vars,
+    pub(crate) text: Text,
+    pub(crate) stops: bool,
+}
+
+/// What all points do where the group is, by what they read now, and what they read at the position before, where some
+/// point may fire.
+pub(crate) fn run_points_here(
+    alloc: Global,
+    points: &[Point],
+    before: Option<Vec<Option<i64>>>,
+    now: &Watching,
+    group: &Group<'_, '_>,
+    variables: Vars,
+) -> Result<PointsRun, AllocError>
+    requires moved { 0 < group.now.at }
+    requires before { MatchOption before (NoneFires group.now (map {A = Held} seen points.now))
+        (λ before. before.items ≡ readings_before group.now (map {A = Held} seen points.now)) }
+    requires now { IsWatching group.now.start group.now.at (map {A = Held} seen points.now) now.now }
+    ensures { IfOk result (λ turn. run_so_far turn ≡ treat_points group.now.start group.now.at (quiet_program variables) (map {A = Held} seen points.now)) }
+{
+    match before {
+        Some(before) => treat_points(alloc, points, &before, &now.values, group, variables),
+        None => {
+            let text = Text::new(alloc);
+            Ok(PointsRun {
+                variables,
+                text,
+                stops: false,
+            })
+        }
+    }
+}
+
+// The same, in the order of the points.
+fn treat_points(
+    alloc: Global,
+    points: &[Point],
+    before: &[Option<i64>],
+    now: &[Option<i64>],
+    group: &Group<'_, '_>,
+    variables: Vars,
+) -> Result<PointsRun, AllocError>
+    requires moved { 0 < group.now.at }
+    requires before { before.now ≡ readings_before group.now (map {A = Held} seen points.now) }
+    requires now { now.now ≡ point_readings group.now.start group.now.at (map {A = Held} seen points.now) }
+    ensures { IfOk result (λ turn. run_so_far turn ≡ treat_points group.now.start group.now.at (quiet_program variables) (map {A = Held} seen points.now)) }
+{
+    let mut turn = PointsRun {
+        variables,
+        text: Text::new(alloc),
+        stops: false,
+    };
+    for (n, point) in points.iter().enumerate() {
+        treat_point(alloc, point, before[n], now[n], group, &mut turn)?;
+    }
+    Ok(turn)
+}
+
+// What a point does where the group is, if it fires there.
+fn treat_point(
+    alloc: Global,
+    point: &Point,
+    before: Option<i64>,
+    now: Option<i64>,
+    group: &Group<'_, '_>,
+    turn: &mut PointsRun,
+) -> Result<(), AllocError>
+    ensures { OnOk result (run_so_far turn.new ≡ treat_by before now (last_event_of group.now) (nodes_at group.now) (run_so_far turn.old) (seen point.now)) }
+{
+    if !fires(&point.trigger, before, now, group) {
+        return Ok(());
+    }
+    match &point.program {
+        Some(program) => {
+            let stops = run_program(alloc, program, group, &mut turn.variables, &mut turn.text)?;
+            turn.stops = turn.stops || stops;
+        }
+        None => {
+            push_line(&mut turn.text, point, before, now)?;
+            turn.stops = true;
+        }
+    }
+    Ok(())
+}
