@@ -1,15 +1,18 @@
 """Processor minutes of the gate, by part (proofs, tests, edits, programs) and by crate, and what is over the budget that
-docs/performance.md has. The gate runs in a clone of the last commit.
+docs/performance.md has; and the longest path of proofs that wait for each other, in minutes of the clock. The gate runs in a clone
+of the last commit. Where it is interrupted the table has what was done.
 """
 
 import argparse
 import collections
 import os
 import re
+import signal
 import subprocess
 import sys
 import tempfile
 import threading
+import time
 
 TOP = os.path.dirname(os.path.dirname(os.path.realpath(__file__)))
 TICKS, PAUSE = os.sysconf("SC_CLK_TCK"), 0.25
@@ -48,9 +51,11 @@ def below(root):
     return found
 
 
-def watch(root, seen, ended):
+def watch(root, seen, spans, ended):
+    """Notes of each process what it works on and its ticks so far, and of each part of a crate when it was first and last seen."""
     works = {}
     while not ended.wait(PAUSE):
+        now = time.monotonic()
         for pid, (spent, begun) in below(root).items():
             key = pid, begun
             if works.get(key) is None:
@@ -62,6 +67,24 @@ def watch(root, seen, ended):
                     continue
             if works[key]:
                 seen[key] = works[key], spent
+                spans[works[key]] = spans.get(works[key], (now,))[0], now
+
+
+def longest_path(spans):
+    """The minutes of the clock that the proofs take which wait for each other, where that is longest, and their crates."""
+    with open(os.path.join(TOP, "crates.txt")) as file:
+        rows = [line.split() for line in file if line.strip() and not line.startswith("#")]
+    stands_on = {name.rstrip(":"): libraries for name, *libraries in rows}
+    paths = {}
+
+    def path_to(crate):
+        if crate not in paths:
+            first, last = spans.get(("proofs", crate), (0, 0))
+            below, names = max((path_to(it) for it in stands_on[crate] if it in stands_on), default=(0, ()))
+            paths[crate] = below + (last - first) / 60, (*names, crate)
+        return paths[crate]
+
+    return max(map(path_to, stands_on))
 
 
 def budget():
@@ -78,10 +101,15 @@ def main():
     with tempfile.TemporaryDirectory(prefix="friday-gate-") as clone:
         subprocess.run(["git", "clone", "-q", TOP, clone], check=True)
         gate = subprocess.Popen(["rt", "ci", *words], cwd=clone)
-        seen, ended = {}, threading.Event()
-        watcher = threading.Thread(target=watch, args=(gate.pid, seen, ended))
+        seen, spans, ended = {}, {}, threading.Event()
+        watcher = threading.Thread(target=watch, args=(gate.pid, seen, spans, ended))
         watcher.start()
-        _, status, usage = os.wait4(gate.pid, 0)
+        signal.signal(signal.SIGTERM, signal.default_int_handler)
+        try:
+            _, status, usage = os.wait4(gate.pid, 0)
+        except KeyboardInterrupt:
+            gate.terminate()
+            _, status, usage = os.wait4(gate.pid, 0)
         ended.set()
         watcher.join()
 
@@ -97,6 +125,8 @@ def main():
         over = "  OVER" if spent > most.get(crate, spent) else ""
         print("%-16s" % crate, "".join("%10.1f" % minutes[part, crate] for part in PARTS), "%10.1f" % spent, "%6s" % most.get(crate, ""), over)
     print("%-16s" % "whole", "".join("%10.1f" % minutes[part, None] for part in PARTS), "%10.1f" % whole, "%6s" % most.get("whole", ""), "  OVER" if whole > most.get("whole", whole) else "")
+    path, crates = longest_path(spans)
+    print("longest path of proofs: %.1f minutes of the clock, %s" % (path, " ".join(crates)))
     return os.waitstatus_to_exitcode(status)
 
 
