@@ -1,5 +1,5 @@
 pub mod Chunk
-pub mod Seen
+pub mod Meanings
 pub mod Traffic
 pub mod Keys
 pub mod Stands

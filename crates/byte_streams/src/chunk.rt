@@ -1,7 +1,7 @@
 // A piece of a stream, as the payload of a datagram.
 ghost use Rattle.std.specs.Prelude.{◌≡◌, IfNone, IfSome, option_map};
 ghost use Rattle.byte_streams.specs.Chunk.{IsChunk, IsNoChunk, chunk_at};
-ghost use Rattle.byte_streams.specs.Seen.{piece_of};
+ghost use Rattle.byte_streams.specs.Meanings.{piece_of};
 
 use byteorder::{ByteOrder, LittleEndian};
 

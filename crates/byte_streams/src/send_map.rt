@@ -2,7 +2,7 @@
 ghost use Rattle.std.specs.Prelude.{◌≡◌, OnOk};
 ghost use Rattle.std.specs.FinMap as map;
 ghost use Rattle.byte_streams.specs.inside.Keeping.{is_front_of_sent};
-ghost use Rattle.byte_streams.specs.Seen.{piece_of};
+ghost use Rattle.byte_streams.specs.Meanings.{piece_of};
 
 use crate::chunk::Chunk;
 use std::alloc::{AllocError, Global};

@@ -2,7 +2,7 @@
 ghost use Rattle.std.specs.Prelude.{◌≡◌, ◌≤◌, length, IfOk, OnOk, if◌then◌else◌};
 ghost use Rattle.byte_streams.specs.inside.Keeping.{empty_contents, with_cover, with_sent_piece, with_written};
 ghost use Rattle.byte_streams.specs.Lines.{covered_front, read_of};
-ghost use Rattle.byte_streams.specs.Seen.{piece_of};
+ghost use Rattle.byte_streams.specs.Meanings.{piece_of};
 ghost use Rattle.byte_streams.specs.Traffic.{continues_or_repeats, piece_stands_in};
 
 use crate::chunk::Chunk;

@@ -3,7 +3,7 @@ ghost use Rattle.std.specs.Prelude.{◌≡◌, [], IfOk, OnOk, option_map, if◌
 ghost use Rattle.std.specs.FinMap as map;
 ghost use Rattle.byte_streams.specs.inside.Keeping.{empty_contents, is_taken_of, is_written_to, with_sent_piece, with_stream_sent, with_taken};
 ghost use Rattle.byte_streams.specs.Lines.{stream_line, stream_lines, read_of};
-ghost use Rattle.byte_streams.specs.Seen.{piece_of};
+ghost use Rattle.byte_streams.specs.Meanings.{piece_of};
 ghost use Rattle.byte_streams.specs.Traffic.{continues_or_repeats};
 
 use crate::chunk::Chunk;

@@ -1,4 +1,4 @@
 pub mod Past
-pub mod Seen
+pub mod Meanings
 pub mod Laws
 pub mod inside

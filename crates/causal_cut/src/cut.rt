@@ -3,7 +3,7 @@ ghost use Rattle.std.specs.Prelude.{◌≡◌, ◌<◌, IfOk, MatchResult, Some,
 ghost use Rattle.group_state.specs.Place.{AreParts, PartsFit};
 ghost use Rattle.causal_cut.specs.Laws.{IsLeastPast};
 ghost use Rattle.causal_cut.specs.Past.{lengths_or_none};
-ghost use Rattle.causal_cut.specs.Seen.{IsCutError};
+ghost use Rattle.causal_cut.specs.Meanings.{IsCutError};
 
 use crate::asks::process_numbers;
 use crate::refusal::CutError;

@@ -18,12 +18,12 @@ use Rattle.log_pairs.specs.declared.pairs.Loaded.{Loaded as LoadedFiles}
 use Rattle.log_pairs.specs.Finding.{log_file}
 use Rattle.log_pairs.specs.Laws.{OpensGroups}
 use Rattle.log_pairs.specs.Pairs.{Loaded, NoneOpened, Pair, WasOpened, loaded_pairs, replays_of, replays_of_pairs, sort_replays}
-use Rattle.log_pairs.specs.Seen.{AreLoadedPairs, WereLoaded}
+use Rattle.log_pairs.specs.Meanings.{AreLoadedPairs, WereLoaded}
 use Rattle.cut_command.specs.declared.fronts.Front.{Front}
 use Rattle.cut_command.specs.declared.past.Past.{Past}
 use Rattle.cut_command.specs.Cut.{cut_of_replays, cut_outcome, cut_work, unless_few_events, unless_other_process}
 use Rattle.cut_command.specs.Laws.{CutsToPast, CutsWork, IsCutLog}
-use Rattle.cut_command.specs.inside.Seen.{front_file, work_of_past}
+use Rattle.cut_command.specs.inside.Meanings.{front_file, work_of_past}
 
 -- ---- what was read decides
 

@@ -21,7 +21,7 @@ use Rattle.cut_command.specs.declared.fronts.Front.{Front}
 use Rattle.cut_command.specs.declared.past.Past.{Past}
 use Rattle.cut_command.specs.Cut.{cut_files, cut_line, cut_name, cut_of_replays, cut_text, log_front_of, node_of_process, unless_few_events, unless_other_process}
 use Rattle.cut_command.specs.Laws.{IsCutLog}
-use Rattle.cut_command.specs.inside.Seen.{AreLeastFronts, front_file, fronts_of, front_line, log_of_replay, work_of_past}
+use Rattle.cut_command.specs.inside.Meanings.{AreLeastFronts, front_file, fronts_of, front_line, log_of_replay, work_of_past}
 
 -- ---- log after log
 

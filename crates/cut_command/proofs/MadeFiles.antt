@@ -14,7 +14,7 @@ use Rattle.process_files.specs.Parts.{AreMadeInPart, made_in_part}
 use Rattle.command_run.specs.FileLaws.{fronts_behind, fronts_of_more, with_more_files}
 use Rattle.cut_command.specs.declared.fronts.Front.{Front}
 use Rattle.cut_command.specs.Cut.{cut_name}
-use Rattle.cut_command.specs.inside.Seen.{front_file}
+use Rattle.cut_command.specs.inside.Meanings.{front_file}
 
 abbrev a_file : List ℕ → List ℕ → Option (List ℕ × List ℕ)
 a_file name bytes = Some (cut_name name, bytes)

@@ -4,10 +4,10 @@ ghost use Rattle.fri_outside.specs.Outside.{WhenTold};
 ghost use Rattle.call_log.specs.Head.{IsHead};
 ghost use Rattle.command_run.specs.Call.{CountsFaults, DivergesOnlyIf, KeepsFolder, MakesWorkFiles, MakesAllFiles, RaisesCount, TellsOutcome};
 ghost use Rattle.command_run.specs.Outcome.{writes_of};
-ghost use Rattle.log_pairs.specs.Seen.{pair_of};
+ghost use Rattle.log_pairs.specs.Meanings.{pair_of};
 ghost use Rattle.cut_command.specs.Cut.{cut_outcome};
 ghost use Rattle.cut_command.specs.Laws.{CutsToPast};
-ghost use Rattle.cut_command.specs.inside.Seen.{front_file};
+ghost use Rattle.cut_command.specs.inside.Meanings.{front_file};
 
 use crate::fronts::Front;
 use crate::past::take_past;

@@ -3,7 +3,7 @@ ghost use Rattle.std.specs.Prelude.{◌≡◌, ◌++◌, ◌≤◌, IfOk, OnOk, 
 ghost use Rattle.std.specs.List.{flat_map};
 ghost use Rattle.lamport_tag.specs.Limits.{most_processes};
 ghost use Rattle.cut_command.specs.Cut.{cut_line};
-ghost use Rattle.cut_command.specs.inside.Seen.{fronts_of, front_line, log_of_replay};
+ghost use Rattle.cut_command.specs.inside.Meanings.{fronts_of, front_line, log_of_replay};
 
 use call_log::LogView;
 use causal_cut::Cut;

@@ -6,12 +6,12 @@ ghost use Rattle.command_run.specs.Call.{RaisesCount, TellsResult, reads_after, 
 ghost use Rattle.proc_replay.specs.AtHead.{IsAtHead};
 ghost use Rattle.group_state.specs.Place.{AreParts};
 ghost use Rattle.causal_cut.specs.Past.{lengths_or_none};
-ghost use Rattle.causal_cut.specs.Seen.{IsCutError};
+ghost use Rattle.causal_cut.specs.Meanings.{IsCutError};
 ghost use Rattle.log_pairs.specs.Pairs.{Loaded as LoadedOf};
-ghost use Rattle.log_pairs.specs.Seen.{AreLoadedPairs, pair_of};
+ghost use Rattle.log_pairs.specs.Meanings.{AreLoadedPairs, pair_of};
 ghost use Rattle.cut_command.specs.Cut.{cut_of_replays, node_of_process};
 ghost use Rattle.cut_command.specs.Laws.{IsCutLog};
-ghost use Rattle.cut_command.specs.inside.Seen.{AreLeastFronts, work_of_past};
+ghost use Rattle.cut_command.specs.inside.Meanings.{AreLeastFronts, work_of_past};
 
 use crate::fronts::{Front, fronts_of, logs_of, print};
 use causal_cut::{CutError, least_cut};

@@ -1,7 +1,7 @@
 // `debug MODULE LOG ..`: a session over the logs of a group, each by its module.
 ghost use Rattle.std.specs.Prelude.{◌≡◌, map};
 ghost use Rattle.command_run.specs.Run.{outside};
-ghost use Rattle.log_pairs.specs.Seen.{pair_of};
+ghost use Rattle.log_pairs.specs.Meanings.{pair_of};
 ghost use Rattle.debug_command.specs.Run.{DebugRun};
 
 use crate::converse::debug_lines;

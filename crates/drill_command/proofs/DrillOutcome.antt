@@ -14,7 +14,7 @@ use Rattle.command_run.specs.Outcome.{CommandOutcome, refuses_at_once, writes_of
 use Rattle.command_run.specs.OutcomeLaws.{stops_make_files, stops_tell_outcome}
 use Rattle.command_run.specs.Run.{PerformedCommand, expectation, file_state}
 use Rattle.drill_command.specs.Drill.{drill_outcome, drill_run, drill_work, drill_by_room}
-use Rattle.drill_command.specs.inside.Seen.{IsFullLog, StopsDrill}
+use Rattle.drill_command.specs.inside.Results.{IsFullLog, StopsDrill}
 
 abbrev pub Performs : ℕ → Result WorkText StopCause → Type 0
 Performs rounds ended = (told : Option Folder) (counts : Counts) → PerformedCommand (expectation (Some (drill_outcome rounds)) (λ folder. []) false) (file_state told counts) (file_state told counts) ended

@@ -6,7 +6,7 @@ use Rattle.group_record.specs.Run.{RunStep}
 use Rattle.drill_command.specs.declared.recording.Recording.{Recording}
 use Rattle.drill_command.specs.declared.watching.Watched.{Watched}
 use Rattle.drill_command.specs.Drill.{drill_group, drill_run, drill_text, replays_of_logs}
-use Rattle.drill_command.specs.inside.Seen.{HoldLogs, HasAllRounds, IsWatchedDrill, TellsDrill}
+use Rattle.drill_command.specs.inside.Results.{HoldLogs, HasAllRounds, IsWatchedDrill, TellsDrill}
 
 pub tells : (rounds : ℕ) (recording : Recording) → HasAllRounds rounds recording
     → (parts : List Replaying) → ((steps : List RunStep) → HoldLogs steps recording.files → parts ≡ replays_of_logs drill_group steps)

@@ -20,7 +20,7 @@ use Rattle.group_record.specs.Logs.{TellsEvents, log_name}
 use Rattle.group_record.specs.Run.{RunStep, head_of_log, log_of, name_of_process}
 use Rattle.drill_command.specs.Drill.{drill_group, drill_states, left_of_log, replay_of_process, replays_from, replays_of_logs}
 use Rattle.drill_command.specs.Ring.{ring_module}
-use Rattle.drill_command.specs.inside.Seen.{HoldLogs}
+use Rattle.drill_command.specs.inside.Results.{HoldLogs}
 use Rattle.drill_command.proofs.ProcessesBegin.{states_are}
 use Rattle.drill_command.proofs.RecordedLogs.{each}
 

@@ -13,7 +13,7 @@ use Rattle.page_watch.specs.Firing.{is_same_value}
 use Rattle.shell_points.specs.Firing.{watchpoint_fires, place_at, value_at_position}
 use Rattle.watch_expr.specs.Expression.{Expression}
 use Rattle.drill_command.specs.Drill.{drill_watch}
-use Rattle.drill_command.specs.inside.Seen.{IsWatchedDrill}
+use Rattle.drill_command.specs.inside.Results.{IsWatchedDrill}
 
 -- how often the watchpoint fires up to a position
 abbrev pub fired_by : List Replaying → ℕ → ℕ

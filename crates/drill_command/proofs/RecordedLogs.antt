@@ -31,7 +31,7 @@ use Rattle.command_run.specs.OutcomeLaws.{same_Ok_value}
 use Rattle.drill_command.specs.declared.recording.Recording.{Recording}
 use Rattle.drill_command.specs.Drill.{drill_group, drill_modules, drill_run, drill_states}
 use Rattle.drill_command.specs.Ring.{ring_module}
-use Rattle.drill_command.specs.inside.Seen.{HoldLogs, HasAllRounds, StopsDrill}
+use Rattle.drill_command.specs.inside.Results.{HoldLogs, HasAllRounds, StopsDrill}
 use Rattle.drill_command.proofs.ProcessesBegin.{all_begin}
 use Rattle.drill_command.proofs.RingIsValid.{ring_is_valid}
 

@@ -4,7 +4,7 @@ ghost use Rattle.fri_outside.specs.Outside.{Counts, Folder};
 ghost use Rattle.schedule_text.specs.Limits.{most_rounds};
 ghost use Rattle.command_run.specs.Run.{PerformedCommand, expectation, file_state};
 ghost use Rattle.drill_command.specs.Drill.{drill_outcome};
-ghost use Rattle.drill_command.specs.inside.Seen.{StopsDrill, TellsDrill};
+ghost use Rattle.drill_command.specs.inside.Results.{StopsDrill, TellsDrill};
 
 use crate::recording::record;
 use crate::replays::begin_all;

@@ -3,7 +3,7 @@ ghost use Rattle.std.specs.Prelude.{◌≡◌, ◌≤◌, MatchResult, map};
 ghost use Rattle.wasm_types.specs.Modules.{module_of};
 ghost use Rattle.schedule_text.specs.Limits.{most_rounds};
 ghost use Rattle.drill_command.specs.Drill.{drill_modules};
-ghost use Rattle.drill_command.specs.inside.Seen.{HasAllRounds, StopsDrill};
+ghost use Rattle.drill_command.specs.inside.Results.{HasAllRounds, StopsDrill};
 
 use command_run::{Reason, StopCause};
 use fri_outside::MemFiles;

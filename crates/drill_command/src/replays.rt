@@ -8,7 +8,7 @@ ghost use Rattle.group_record.specs.Run.{RunStep, name_of_process};
 ghost use Rattle.group_state.specs.Place.{AreParts};
 ghost use Rattle.drill_command.specs.Drill.{drill_group, replay_of_process, replays_of_logs};
 ghost use Rattle.drill_command.specs.Ring.{ring_module};
-ghost use Rattle.drill_command.specs.inside.Seen.{HoldLogs};
+ghost use Rattle.drill_command.specs.inside.Results.{HoldLogs};
 
 use call_log::LogView;
 use fri_outside::MemFiles;

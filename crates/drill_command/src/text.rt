@@ -2,7 +2,7 @@
 ghost use Rattle.std.specs.Prelude.{◌≡◌, ◌++◌, List, IfOk, OnOk};
 ghost use Rattle.proc_replay.specs.Replaying.{Replaying};
 ghost use Rattle.drill_command.specs.Drill.{drill_text, number_line};
-ghost use Rattle.drill_command.specs.inside.Seen.{IsWatchedDrill};
+ghost use Rattle.drill_command.specs.inside.Results.{IsWatchedDrill};
 
 use crate::watching::Watched;
 use embed_cmds::push_value;

@@ -2,7 +2,7 @@
 ghost use Rattle.std.specs.Prelude.{◌≡◌, IfOk};
 ghost use Rattle.watch_expr.specs.Expression.{expression_of};
 ghost use Rattle.drill_command.specs.Drill.{drill_watch};
-ghost use Rattle.drill_command.specs.inside.Seen.{IsWatchedDrill};
+ghost use Rattle.drill_command.specs.inside.Results.{IsWatchedDrill};
 
 use group_state::Group;
 use page_watch::is_same_value;

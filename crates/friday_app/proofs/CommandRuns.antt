@@ -24,7 +24,7 @@ use Rattle.migrate_command.specs.Migrate.{migrate_outcome}
 use Rattle.cut_command.specs.Cut.{cut_outcome}
 use Rattle.cut_command.specs.Laws.{CutsToPast}
 use Rattle.schedule_command.specs.Schedule.{schedule_outcome}
-use Rattle.schedule_command.specs.Seen.{AnswerRecordsBack}
+use Rattle.schedule_command.specs.Meanings.{AnswerRecordsBack}
 use Rattle.streams_command.specs.Streams.{streams_outcome}
 use Rattle.friday_app.specs.Agreement.{KeepsMoment, PrintsConverse, ShowsRecording}
 use Rattle.friday_app.specs.Command.{Command, Cut, Debug, Drill, Migrate, Record, Replay, Schedule, Streams}

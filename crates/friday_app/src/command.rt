@@ -2,8 +2,8 @@
 ghost use Rattle.std.specs.Prelude.{◌≡◌, length, map, option_map, string_bytes, IfOk, IfSome};
 ghost use Rattle.std.specs.List.{list_all};
 ghost use Rattle.friday_app.specs.Command.{command_by_verb, command_of, cutting_command, debugging_command, drilling_command, is_file_word, is_images, migrating_command, names_in, options_in, pairs_of, recording_command, replay_of_names, scheduling_command, streaming_command};
-ghost use Rattle.friday_app.specs.inside.Seen.{HasDrillRounds, command_meaning};
-ghost use Rattle.log_pairs.specs.Seen.{pair_of};
+ghost use Rattle.friday_app.specs.inside.Meanings.{HasDrillRounds, command_meaning};
+ghost use Rattle.log_pairs.specs.Meanings.{pair_of};
 
 use cut_command::{event_number_of, process_of};
 use drill_command::rounds_of;

@@ -5,7 +5,7 @@
 //! `streams_command`. What the call promises stands once, as the fields of
 //! `CommandRun` (`specs/Run`), over the outcome of the command (`specs/Expected`). A further command is a crate beside
 //! those eight, a case in the definitions here, and a line in `run`. The law `recorded_streams` says what `streams` makes of
-//! a recording's logs. Inside is which command the words of the code stand for (`specs/inside/Seen`).
+//! a recording's logs. Inside is which command the words of the code stand for (`specs/inside/Meanings`).
 #![tactic(auto)]
 
 mod command;

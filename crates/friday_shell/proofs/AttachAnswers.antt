@@ -8,7 +8,7 @@ use Rattle.shell_lines.specs.declared.refusal.LineRefusal.TheVariants as refusal
 use Rattle.shell_points.specs.Points.{Point, index_of_point, with_program}
 use Rattle.friday_shell.specs.Answer.{LineAnswer, attaches_program, attaches_at, most_variables, refuses_line, says_text}
 use Rattle.friday_shell.specs.Points.{SessionState}
-use Rattle.friday_shell.specs.inside.Seen.{PerformsCommand}
+use Rattle.friday_shell.specs.inside.Meanings.{PerformsCommand}
 
 -- no point has the number
 pub none_held : (state : SessionState) (n : ℕ) (program : Statements) (text : List ℕ) → None ≡ index_of_point state.points n → text ≡ refusal_line refusal.NoPoint

@@ -3,7 +3,7 @@ use Rattle.std.proofs.Common.{◌≡◌, ◌∙◌, ℕ, List, Result, Ok, Err, 
 use Rattle.std.specs.Prelude.{IfOk}
 use Rattle.shell_lines.specs.Lines.{LineCommand}
 use Rattle.shell_lines.specs.Meaning.{LineMeaning, line_meaning, trimmed}
-use Rattle.shell_lines.specs.Seen.{command, meaning}
+use Rattle.shell_lines.specs.Spelled.{command, meaning}
 use Rattle.shell_lines.specs.declared.command.DebuggerCommand.{DebuggerCommand}
 use Rattle.shell_lines.specs.declared.line.Line.{Line}
 use Rattle.shell_lines.specs.declared.line.Line.TheVariants as line
@@ -11,7 +11,7 @@ use Rattle.shell_lines.specs.declared.refusal.LineRefusal.{LineRefusal}
 use Rattle.group_state.specs.Place.{node_names}
 use Rattle.friday_shell.specs.Answer.{answer_of_meaning, command_answer}
 use Rattle.friday_shell.specs.Points.{SessionState}
-use Rattle.friday_shell.specs.inside.Seen.{IsLine, PerformsCommand}
+use Rattle.friday_shell.specs.inside.Meanings.{IsLine, PerformsCommand}
 use Rattle.friday_shell.specs.Ticks.{command_ticks, line_ticks, meaning_ticks}
 use Rattle.friday_shell.proofs.LogsStay.{kept_start}
 

@@ -1,6 +1,6 @@
 pub mod Points
 pub mod Answer
-pub mod Seen
+pub mod Meanings
 pub mod Session
 pub mod Ticks
 pub mod Laws

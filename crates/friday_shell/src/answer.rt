@@ -1,12 +1,12 @@
 // What a command answers.
 ghost use Rattle.std.specs.Prelude.{◌≡◌, ◌+◌, IfOk, [], length, min};
 ghost use Rattle.friday_shell.specs.Answer.{command_answer};
-ghost use Rattle.friday_shell.specs.inside.Seen.{PerformsCommand, session_state};
+ghost use Rattle.friday_shell.specs.inside.Meanings.{PerformsCommand, session_state};
 ghost use Rattle.friday_shell.specs.Ticks.{command_ticks};
 ghost use Rattle.group_state.specs.Place.{events_of_replays};
 ghost use Rattle.group_texts.specs.Texts.{last_lines};
 ghost use Rattle.shell_lines.specs.Lines.{Back, Continue, Events, Goto, Rcontinue, Step};
-ghost use Rattle.shell_lines.specs.Seen.{command as command_meant};
+ghost use Rattle.shell_lines.specs.Spelled.{command as command_meant};
 ghost use Rattle.shell_points.specs.Firing.{place_at};
 
 use crate::points::{add, add_breakpoint, attach, delete};

@@ -2,9 +2,9 @@
 ghost use Rattle.std.specs.Prelude.{◌≡◌, ◌++◌, IfOk, codes, decimal};
 ghost use Rattle.embed_cmds.specs.Tree.{program_body};
 ghost use Rattle.friday_shell.specs.Answer.{adds_point, attaches_program, breaks_at, deletes_point};
-ghost use Rattle.friday_shell.specs.inside.Seen.{PerformsCommand, session_state};
-ghost use Rattle.shell_lines.specs.Seen.{scope as scope_meant};
-ghost use Rattle.shell_points.specs.Seen.{trigger as trigger_meant};
+ghost use Rattle.friday_shell.specs.inside.Meanings.{PerformsCommand, session_state};
+ghost use Rattle.shell_lines.specs.Spelled.{scope as scope_meant};
+ghost use Rattle.shell_points.specs.Meanings.{trigger as trigger_meant};
 
 use crate::state::{State, told};
 use crate::variables::MOST_VARIABLES;

@@ -4,12 +4,12 @@ ghost use Rattle.std.specs.Result.{IsOk};
 ghost use Rattle.group_state.specs.Place.{node_names};
 ghost use Rattle.friday_shell.specs.Answer.{answer, command_answer};
 ghost use Rattle.friday_shell.specs.Points.{SessionState};
-ghost use Rattle.friday_shell.specs.inside.Seen.{IsLine};
-ghost use Rattle.friday_shell.specs.Seen.{IsLineAnswer, is_quit};
+ghost use Rattle.friday_shell.specs.inside.Meanings.{IsLine};
+ghost use Rattle.friday_shell.specs.Meanings.{IsLineAnswer, is_quit};
 ghost use Rattle.friday_shell.specs.Session.{opening_session};
 ghost use Rattle.friday_shell.specs.Ticks.{line_ticks};
 ghost use Rattle.shell_lines.specs.Meaning.{is_silent, line_meaning};
-ghost use Rattle.shell_lines.specs.Seen.{command, meaning};
+ghost use Rattle.shell_lines.specs.Spelled.{command, meaning};
 ghost use Rattle.shell_lines.specs.declared.line.Line.TheVariants.{Silent};
 
 use crate::answer::perform;
@@ -53,7 +53,7 @@ impl<'m, 'a> Model for Session<'m, 'a> {
     ghost coded = { Prim.hlevel (codes, trees_code, crew_code, expression_code, statements_code) };
 
     ghost use Rattle.group_state.specs.Place.{node_names};
-    ghost use Rattle.friday_shell.specs.inside.Seen.{session_state};
+    ghost use Rattle.friday_shell.specs.inside.Meanings.{session_state};
 
     ghost view = { λ s. session_state s.state };
 

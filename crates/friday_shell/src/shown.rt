@@ -2,7 +2,7 @@
 ghost use Rattle.std.specs.Prelude.{◌≡◌, IfOk};
 ghost use Rattle.friday_shell.specs.Answer.{memory_text, threads_of, value_text};
 ghost use Rattle.embed_cmds.specs.Running.{value_in};
-ghost use Rattle.group_state.specs.Seen.{nodes_at};
+ghost use Rattle.group_state.specs.Nodes.{nodes_at};
 ghost use Rattle.group_texts.specs.Texts.{position_line};
 ghost use Rattle.watch_expr.specs.Expression.{expression_of};
 

@@ -2,7 +2,7 @@
 ghost use Rattle.std.specs.Prelude.{◌≡◌, ◌++◌, [], IfOk, OnOk};
 ghost use Rattle.std.specs.List.{flat_map};
 ghost use Rattle.friday_shell.specs.Answer.{command_answer, variable_text};
-ghost use Rattle.friday_shell.specs.inside.Seen.{PerformsCommand, session_state};
+ghost use Rattle.friday_shell.specs.inside.Meanings.{PerformsCommand, session_state};
 ghost use Rattle.shell_lines.specs.Lines.{SetTo};
 ghost use Rattle.watch_expr.specs.Expression.{expression_of};
 

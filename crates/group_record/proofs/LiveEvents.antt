@@ -20,7 +20,7 @@ use Rattle.guest_process.specs.Answers.{Need, Fixed, Blocked, World, need, repli
 use Rattle.guest_process.specs.Fits.{EnvFits, StateFits, WaitingFits, live_has}
 use Rattle.guest_process.specs.Live.{AnsweredCall, Env, Event, answered_now, as_given, chosen_signal, drawn_of, event, event_of_waiting, from_world, live, taken_of, world_answer}
 use Rattle.guest_process.specs.OneEvent.{IsKeptByEvents, OneEvent, Rises}
-use Rattle.guest_process.specs.Seen.{able, plain_need}
+use Rattle.guest_process.specs.Meanings.{able, plain_need}
 use Rattle.guest_process.specs.State.{State, is_running, thread_at}
 use Rattle.group_record.specs.inside.Around.{answer_by, signal_with_answer, world_gives}
 use Rattle.group_record.specs.inside.Recorded.{IsLiveEntry}

@@ -15,7 +15,7 @@ use Rattle.guest_process.specs.Answers.{Need, Fixed, Blocked, World, after_need,
 use Rattle.guest_process.specs.GoesOn.{handler}
 use Rattle.guest_process.specs.Kinds.{ends_process}
 use Rattle.guest_process.specs.Live.{AnsweredCall, Env, answered_now, as_given, chosen_signal, event, event_by, event_of_waiting, from_world, with_given, is_ready_signal, live, lowest_signal, world_answer}
-use Rattle.guest_process.specs.Seen.{answered_at}
+use Rattle.guest_process.specs.Meanings.{answered_at}
 use Rattle.guest_process.specs.State.{State, is_running, thread_at, with_memory}
 use Rattle.group_record.specs.inside.Around.{handlers_at, signal_with_answer}
 

@@ -26,7 +26,7 @@ use Rattle.group_state.specs.Laws.{IsStepOfGroup}
 use Rattle.group_state.specs.inside.Motions.{AreMotions, Motions, nth_position, position_of, positions, positions_from}
 use Rattle.group_state.specs.Moves.{last_event_of}
 use Rattle.group_state.specs.Place.{AreParts, PartsFit, GroupPlace, events_of_replays, states_of_nodes}
-use Rattle.group_state.specs.Seen.{nodes_at, seen_node, signed_global}
+use Rattle.group_state.specs.Nodes.{nodes_at, seen_node, signed_global}
 use Rattle.group_state.specs.inside.Stands.{AreSoundMemories}
 use Rattle.group_state.specs.Touch.{is_touched_by, is_touched_in, mark_of_place, mark_in, is_touched_at}
 use Rattle.group_state.proofs.NodeMoves.{motions_at, positions_front}

@@ -14,7 +14,7 @@ use Rattle.group_order.specs.Heads.{IsFirstNode}
 use Rattle.group_order.specs.Order.{AreMergedOrders, node_event}
 use Rattle.proc_replay.specs.Course.{AreTurns}
 use Rattle.proc_replay.specs.Replaying.{Makes, Replaying, after_replay_turn, turn}
-use Rattle.proc_replay.specs.Seen.{move_of}
+use Rattle.proc_replay.specs.Meanings.{move_of}
 use Rattle.proc_replay.specs.declared.turn.Turn.{Turn}
 use Rattle.proc_replay.specs.declared.turn.Turn.TheVariants as code
 use Rattle.group_state.specs.declared.stand.Stand.{Stand}

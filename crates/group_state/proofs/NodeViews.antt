@@ -5,7 +5,7 @@ use Rattle.group_order.specs.Order.{NodeEvent}
 use Rattle.guest_process.specs.State.{State}
 use Rattle.proc_replay.specs.Replaying.{Replaying}
 use Rattle.group_state.specs.Place.{GroupPlace, states_of_nodes, states_from}
-use Rattle.group_state.specs.Seen.{nodes_at, seen_node}
+use Rattle.group_state.specs.Nodes.{nodes_at, seen_node}
 
 -- a node that is there
 pub node_at : (states : List State) (node : ℕ) (S : State) → slice_get states node ≡ Some S → slice_get (map seen_node states) node ≡ Some (seen_node S)

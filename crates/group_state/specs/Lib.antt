@@ -4,6 +4,6 @@ pub mod Tally
 pub mod Report
 pub mod Image
 pub mod Laws
-pub mod Seen
+pub mod Nodes
 pub mod Touch
 pub mod inside

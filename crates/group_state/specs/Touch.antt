@@ -13,7 +13,7 @@ use Rattle.watch_expr.specs.Reads.{reads_of_expression}
 use Rattle.page_watch.specs.Touch.{node_of}
 use Rattle.group_state.specs.Moves.{event_before}
 use Rattle.group_state.specs.Place.{events_of_replays, states_of_nodes}
-use Rattle.group_state.specs.Seen.{nodes_at}
+use Rattle.group_state.specs.Nodes.{nodes_at}
 
 -- the number of the event of its process that touched it last: that wrote to a byte of the page, set the global, or made
 -- the memory larger, also where an equal value was written. Each event moves its process. 0 where none did

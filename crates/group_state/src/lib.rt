@@ -3,7 +3,7 @@
 //!
 //! Contracts see a `Group` as the replays at position 0 and a position (`specs/Place`), so that no answer depends on how the
 //! group came there. `forward` and `goto` move it (`specs/Moves`), and the calls that show it give what its states say; as a
-//! `View` of `watch_expr` and a `TouchView` of `page_watch` it shows its nodes (`specs/Seen`), and the last position at which
+//! `View` of `watch_expr` and a `TouchView` of `page_watch` it shows its nodes (`specs/Nodes`), and the last position at which
 //! an event touched each place (`specs/Touch`). `report` says what came of each log and counts datagrams (`specs/Report`,
 //! `specs/Tally`). The laws `ordered` and `stepwise` say that sends come before receives in the order, and what one event
 //! changes. Inside are the checkpoints to which a group goes back (`specs/inside/Stands`, `specs/inside/At`), the positions at which its nodes

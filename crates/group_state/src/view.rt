@@ -1,6 +1,6 @@
 // A group as expressions see it, at its position.
 ghost use Rattle.std.specs.Prelude.{◌≡◌};
-ghost use Rattle.group_state.specs.Seen.{signed_global};
+ghost use Rattle.group_state.specs.Nodes.{signed_global};
 
 use crate::group::{Course, Group};
 use guest_process::Process;
@@ -37,7 +37,7 @@ impl<'m, 'a> Group<'m, 'a> {
 }
 
 impl<'m, 'a> View for Group<'m, 'a> {
-    ghost use Rattle.group_state.specs.Seen.{nodes_at};
+    ghost use Rattle.group_state.specs.Nodes.{nodes_at};
 
     ghost nodes = { nodes_at };
 
@@ -111,7 +111,7 @@ impl<'m, 'a> Course<'m, 'a> {
 
 impl<'m, 'a> TouchView for Group<'m, 'a> {
     ghost use Rattle.group_state.specs.Place.{GroupPlace};
-    ghost use Rattle.group_state.specs.Seen.{nodes_at};
+    ghost use Rattle.group_state.specs.Nodes.{nodes_at};
     ghost use Rattle.group_state.specs.Touch.{mark_of_place};
 
     ghost states = { λ place k. nodes_at (record place { at = k }) };

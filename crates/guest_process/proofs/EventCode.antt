@@ -33,7 +33,7 @@ use Rattle.guest_process.specs.GoesOn.{after_running, instruction_budget, with_e
 use Rattle.guest_process.specs.Kinds.{ends_process, reply_value}
 use Rattle.guest_process.specs.Legal.{reason, reason_at}
 use Rattle.guest_process.specs.Next.{next, next_at_thread}
-use Rattle.guest_process.specs.inside.Seen.{IsOfModule, state_of}
+use Rattle.guest_process.specs.inside.Meanings.{IsOfModule, state_of}
 use Rattle.guest_process.specs.Sound.{IsSoundProcess, IsStandingAtCall}
 use Rattle.guest_process.specs.Start.{waiting_at}
 use Rattle.guest_process.specs.State.{State, awaits_event, is_running, thread_at, with_thread}

@@ -15,7 +15,7 @@ use Rattle.wasm_step.specs.Thread.{Thread}
 use Rattle.signal_points.specs.Signals.{handler_of, no_handlers}
 use Rattle.guest_process.specs.GoesOn.{handler}
 use Rattle.guest_process.specs.Fits.{StateFits}
-use Rattle.guest_process.specs.inside.Seen.{IsOfModule, state_of}
+use Rattle.guest_process.specs.inside.Meanings.{IsOfModule, state_of}
 use Rattle.guest_process.specs.Sound.{IsSoundProcess, IsStandingAtCall}
 use Rattle.guest_process.specs.Start.{waiting_at, begun_process, begun_with}
 use Rattle.guest_process.specs.declared.body.Body.{Body}

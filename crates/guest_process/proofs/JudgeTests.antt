@@ -5,7 +5,7 @@ use Rattle.guest_process.specs.declared.need.Need.TheVariants as plainly
 use Rattle.lib_calls.specs.Answer.{Answer}
 use Rattle.guest_process.specs.Answers.{Need, Fixed, Blocked, World, brings_nothing}
 use Rattle.guest_process.specs.Legal.{need_gives_answer}
-use Rattle.guest_process.specs.Seen.{plain_need}
+use Rattle.guest_process.specs.Meanings.{plain_need}
 
 pub fixed : (n : Need) (a : Answer) (from_world : Bool) (reply : ℕ) → plain_need n ≡ plainly.Fixed reply → need_gives_answer n a from_world ≡ ((a.reply == reply) && brings_nothing a.tag a.incoming)
 fixed (Fixed r S) a w reply h = ap (λ r. (a.reply == r) && brings_nothing a.tag a.incoming) (reply_of h)

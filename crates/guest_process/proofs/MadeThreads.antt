@@ -13,7 +13,7 @@ use Rattle.wasm_types.specs.declared.code.Value.TheVariants.{I32}
 use Rattle.lib_calls.specs.Effects.{minus_one}
 use Rattle.guest_process.specs.declared.need.Need.TheVariants as plainly
 use Rattle.guest_process.specs.Answers.{Fixed, after_need, spawnable, spawned, spawned_at_index, spawns_thread}
-use Rattle.guest_process.specs.Seen.{plain_need}
+use Rattle.guest_process.specs.Meanings.{plain_need}
 use Rattle.guest_process.specs.Start.{waits_at_begin}
 use Rattle.guest_process.specs.State.{State, with_new_thread}
 use Rattle.guest_process.proofs.HandlerCalls.{found_is}

@@ -12,7 +12,7 @@ pub mod Next
 pub mod Numbers
 pub mod OneEvent
 pub mod Replay
-pub mod Seen
+pub mod Meanings
 pub mod Sound
 pub mod Start
 pub mod State

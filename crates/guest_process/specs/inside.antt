@@ -1,3 +1,3 @@
 -- What no public contract cites.
 pub mod Advancing
-pub mod Seen
+pub mod Meanings

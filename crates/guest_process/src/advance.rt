@@ -13,7 +13,7 @@ ghost use Rattle.guest_process.specs.Answers.{with_answer};
 ghost use Rattle.guest_process.specs.GoesOn.{process_after_burst, instruction_budget, handler as handler_of};
 ghost use Rattle.guest_process.specs.Legal.{reason};
 ghost use Rattle.guest_process.specs.Next.{next};
-ghost use Rattle.guest_process.specs.inside.Seen.{IsOfModule, state_of};
+ghost use Rattle.guest_process.specs.inside.Meanings.{IsOfModule, state_of};
 ghost use Rattle.guest_process.specs.Sound.{StandsAtKind};
 ghost use Rattle.guest_process.specs.State.{awaits_event};
 

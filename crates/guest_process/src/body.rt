@@ -6,7 +6,7 @@ ghost use Rattle.wasm_step.specs.Pause.{StandsAt, pause_halt};
 ghost use Rattle.wasm_step.specs.After.{Ends};
 ghost use Rattle.guest_process.specs.Answers.{exited_process};
 ghost use Rattle.guest_process.specs.GoesOn.{all_over, stopped_thread, trapped_thread};
-ghost use Rattle.guest_process.specs.inside.Seen.{state_of};
+ghost use Rattle.guest_process.specs.inside.Meanings.{state_of};
 ghost use Rattle.guest_process.specs.State.{is_running};
 
 use crate::calls::call_of_site;

@@ -2,8 +2,8 @@
 ghost use Rattle.std.specs.Prelude.{◌≡◌, IfSome, IsTrue};
 ghost use Rattle.signal_points.specs.Signals.{is_signal};
 ghost use Rattle.guest_process.specs.Answers.{after_need, handled, handler_given};
-ghost use Rattle.guest_process.specs.Seen.{plain_need};
-ghost use Rattle.guest_process.specs.inside.Seen.{state_of};
+ghost use Rattle.guest_process.specs.Meanings.{plain_need};
+ghost use Rattle.guest_process.specs.inside.Meanings.{state_of};
 
 use crate::body::Body;
 use crate::need::Need;

@@ -5,8 +5,8 @@ ghost use Rattle.lib_calls.specs.Entry.{entry_of};
 ghost use Rattle.guest_process.specs.Answers.{need_of_world, effects_of_answer, is_possible, need, replied};
 ghost use Rattle.guest_process.specs.Kinds.{ends_process};
 ghost use Rattle.guest_process.specs.Legal.{entry_checks, first_failing, is_handled, same_arguments};
-ghost use Rattle.guest_process.specs.Seen.{plain_need, refused_for};
-ghost use Rattle.guest_process.specs.inside.Seen.{state_of};
+ghost use Rattle.guest_process.specs.Meanings.{plain_need, refused_for};
+ghost use Rattle.guest_process.specs.inside.Meanings.{state_of};
 
 use crate::answer::{handler, is_due};
 use crate::body::Body;

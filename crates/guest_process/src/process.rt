@@ -13,7 +13,7 @@ ghost use Rattle.guest_process.specs.Answers.{need};
 ghost use Rattle.guest_process.specs.Fits.{StateFits};
 ghost use Rattle.guest_process.specs.Legal.{reason};
 ghost use Rattle.guest_process.specs.Next.{next};
-ghost use Rattle.guest_process.specs.Seen.{able, handles_after, plain_need, refused_for};
+ghost use Rattle.guest_process.specs.Meanings.{able, handles_after, plain_need, refused_for};
 ghost use Rattle.guest_process.specs.Start.{start};
 
 use crate::answer::handler;
@@ -42,7 +42,7 @@ impl<'m> Model for Process<'m> {
     ghost use Rattle.std.specs.Coded.{codes};
     ghost use Rattle.wasm_types.specs.Coding.{trees_code};
     ghost use Rattle.coop_threads.specs.Crew.{crew_code};
-    ghost use Rattle.guest_process.specs.inside.Seen.{IsOfModule, state_of};
+    ghost use Rattle.guest_process.specs.inside.Meanings.{IsOfModule, state_of};
     ghost use Rattle.guest_process.specs.State.{State};
 
     ghost Value = { State };

@@ -4,8 +4,8 @@ ghost use Rattle.coop_threads.specs.Crew.{most_threads};
 ghost use Rattle.wasm_types.specs.Modules.{module_of};
 ghost use Rattle.wasm_step.specs.Strand.{IsHandler};
 ghost use Rattle.guest_process.specs.Answers.{after_need, spawnable, spawned, spawned_at_index};
-ghost use Rattle.guest_process.specs.Seen.{plain_need};
-ghost use Rattle.guest_process.specs.inside.Seen.{state_of};
+ghost use Rattle.guest_process.specs.Meanings.{plain_need};
+ghost use Rattle.guest_process.specs.inside.Meanings.{state_of};
 
 use crate::body::Body;
 use crate::need::Need;

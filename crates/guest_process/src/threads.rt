@@ -2,8 +2,8 @@
 ghost use Rattle.std.specs.Prelude.{◌≡◌, OnOk, slice_get};
 ghost use Rattle.coop_threads.specs.Crew.{status_of};
 ghost use Rattle.guest_process.specs.Answers.{after_need, joined, locked, narrow, unlocked};
-ghost use Rattle.guest_process.specs.Seen.{plain_need};
-ghost use Rattle.guest_process.specs.inside.Seen.{state_of};
+ghost use Rattle.guest_process.specs.Meanings.{plain_need};
+ghost use Rattle.guest_process.specs.inside.Meanings.{state_of};
 
 use crate::body::Body;
 use crate::need::Need;

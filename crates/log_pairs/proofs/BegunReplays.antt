@@ -15,7 +15,7 @@ use Rattle.command_run.specs.Call.{StopsAsCause}
 use Rattle.command_run.specs.Inputs.{first_state_of}
 use Rattle.command_run.specs.Outcome.{CommandStop, and_then}
 use Rattle.log_pairs.specs.Pairs.{Loaded, insert_replay, replay_of_log, replays_of, sort_replays}
-use Rattle.log_pairs.specs.Seen.{AreLoadedPairs, AreOneGroup, IsApartPair, IsLoadedPair}
+use Rattle.log_pairs.specs.Meanings.{AreLoadedPairs, AreOneGroup, IsApartPair, IsLoadedPair}
 use Rattle.log_pairs.proofs.LogClashes.{all_so}
 use Rattle.command_run.specs.OutcomeLaws.{stops_before_next}
 use Rattle.command_run.specs.OutcomeLaws.{result_follows}

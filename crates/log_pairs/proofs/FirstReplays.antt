@@ -12,7 +12,7 @@ use Rattle.command_run.specs.Inputs.{first_state_of}
 use Rattle.command_run.specs.Outcome.{CommandStop, and_then}
 use Rattle.log_pairs.specs.declared.pairs.Loaded.{Loaded as LoadedFiles}
 use Rattle.log_pairs.specs.Pairs.{Loaded, replay_of_log}
-use Rattle.log_pairs.specs.Seen.{IsLoadedPair}
+use Rattle.log_pairs.specs.Meanings.{IsLoadedPair}
 
 -- nothing was read but the head
 pub stands_at_head : ExactLogs → (l : LoadedFiles) (is : Loaded) (log : Log) (S : State) (r : Replaying) → IsLoadedPair l is → head_at l.log.items ≡ Some (log.head, log.left) → S.clock ≡ 0

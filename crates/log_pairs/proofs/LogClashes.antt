@@ -10,7 +10,7 @@ use Rattle.log_pairs.specs.declared.pairs.Loaded.{Loaded as LoadedFiles}
 use Rattle.command_run.specs.declared.refusal.Reason.{Reason}
 use Rattle.command_run.specs.declared.refusal.Reason.TheVariants as reason
 use Rattle.log_pairs.specs.Pairs.{Loaded, clash_of_logs, has_name, has_process, is_other_group}
-use Rattle.log_pairs.specs.Seen.{AreLoadedPairs, AreOneGroup, IsApartPair, IsLoadedPair}
+use Rattle.log_pairs.specs.Meanings.{AreLoadedPairs, AreOneGroup, IsApartPair, IsLoadedPair}
 
 -- ---- all of a list
 

@@ -8,7 +8,7 @@ use Rattle.command_run.specs.Outcome.{CommandStop, and_then}
 use Rattle.command_run.specs.OutcomeLaws.{stops_before_next}
 use Rattle.log_pairs.specs.declared.pairs.Loaded.{Loaded as LoadedFiles}
 use Rattle.log_pairs.specs.Pairs.{Loaded, NoneOpened, Pair, WasOpened, loaded_pairs, replays_of, sort_replays}
-use Rattle.log_pairs.specs.Seen.{AreLoadedPairs, WereLoaded}
+use Rattle.log_pairs.specs.Meanings.{AreLoadedPairs, WereLoaded}
 
 -- none could begin, since some pair could not be read
 pub unread_stops : (pairs : List Pair) (told : Option Folder) (e : StopCause) → WhenTold told (λ folder. StopsAsCause (loaded_pairs folder [] pairs) e) → NoneOpened pairs told e

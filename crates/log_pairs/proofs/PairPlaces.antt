@@ -9,7 +9,7 @@ use Rattle.std.proofs.lemmas.Option.{same_Some, slice_get-get_or, slice_get-map,
 use Rattle.log_pairs.specs.declared.pairs.Loaded.{Loaded as LoadedFiles}
 use Rattle.log_pairs.specs.declared.pairs.Pair.{Pair as PairOfWords}
 use Rattle.log_pairs.specs.Pairs.{Loaded}
-use Rattle.log_pairs.specs.Seen.{AreLoadedPairs, IsLoadedPair, pair_of}
+use Rattle.log_pairs.specs.Meanings.{AreLoadedPairs, IsLoadedPair, pair_of}
 use Rattle.log_pairs.specs.Finding.{pair_of_process}
 
 abbrev is_of : ℕ → Loaded → Bool

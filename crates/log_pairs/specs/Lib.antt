@@ -1,6 +1,6 @@
 pub mod Pairs
 pub mod Finding
-pub mod Seen
+pub mod Meanings
 pub mod Valid
 pub mod Laws
 pub mod inside

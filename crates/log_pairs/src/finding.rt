@@ -2,7 +2,7 @@
 ghost use Rattle.std.specs.Prelude.{◌≡◌, List, map, option_map};
 ghost use Rattle.log_pairs.specs.Finding.{first_log, log_file, module_file, pair_of_process};
 ghost use Rattle.log_pairs.specs.Pairs.{Loaded as LoadedOf};
-ghost use Rattle.log_pairs.specs.Seen.{AreLoadedPairs, pair_of};
+ghost use Rattle.log_pairs.specs.Meanings.{AreLoadedPairs, pair_of};
 
 use crate::pairs::{Loaded, Pair};
 

@@ -8,8 +8,8 @@ ghost use Rattle.group_state.specs.Place.{AreParts};
 ghost use Rattle.command_run.specs.Call.{CountsFaults, RaisesCount, TellsResult, reads_after, writes_after};
 ghost use Rattle.command_run.specs.Kept.{AreOfFiles};
 ghost use Rattle.log_pairs.specs.Pairs.{Loaded as LoadedOf, NoneOpened, Pair as PairOf, WasOpened, clash_of_logs, has_name, has_process, insert_replay, is_other_group, replay_of_log};
-ghost use Rattle.log_pairs.specs.Seen.{AreLoadedPairs, AreOneGroup, IsLoadedPair, WereLoaded, pair_of};
-ghost use Rattle.log_pairs.specs.inside.Seen.{LoadsPair};
+ghost use Rattle.log_pairs.specs.Meanings.{AreLoadedPairs, AreOneGroup, IsLoadedPair, WereLoaded, pair_of};
+ghost use Rattle.log_pairs.specs.inside.Loading.{LoadsPair};
 
 use call_log::{LogHead, LogView};
 use command_run::{ModuleFiles, Reason, StopCause, begin_process};

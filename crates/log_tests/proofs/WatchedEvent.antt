@@ -4,7 +4,7 @@ use Rattle.std.specs.Prelude.{is_some}
 use Rattle.group_state.specs.declared.event.GroupEvent.{GroupEvent}
 use Rattle.group_state.specs.Moves.{GroupMoves}
 use Rattle.group_state.specs.Place.{GroupPlace}
-use Rattle.group_state.specs.Seen.{nodes_at}
+use Rattle.group_state.specs.Nodes.{nodes_at}
 use Rattle.page_watch.specs.Watched.{WatchStands, Watched}
 
 pub moved : (old new : GroupPlace) (event : Option GroupEvent) → is_some event ≡ true → GroupMoves old new event → 0 < new.at

@@ -2,7 +2,7 @@
 ghost use Rattle.std.specs.Prelude.{List};
 ghost use Rattle.group_state.specs.Place.{AreParts};
 ghost use Rattle.log_pairs.specs.Pairs.{Loaded as LoadedOf};
-ghost use Rattle.log_pairs.specs.Seen.{AreLoadedPairs, AreOneGroup};
+ghost use Rattle.log_pairs.specs.Meanings.{AreLoadedPairs, AreOneGroup};
 
 use fri_outside::MemFiles;
 use fri_text::Text;

@@ -1,8 +1,8 @@
 // Watches over the logs of two processes, and how often they load.
 ghost use Rattle.std.specs.Prelude.{◌≡◌, ◌<◌, IfOk, List};
-ghost use Rattle.group_state.specs.Seen.{nodes_at};
+ghost use Rattle.group_state.specs.Nodes.{nodes_at};
 ghost use Rattle.log_pairs.specs.Pairs.{Loaded as LoadedOf};
-ghost use Rattle.log_pairs.specs.Seen.{AreLoadedPairs, AreOneGroup};
+ghost use Rattle.log_pairs.specs.Meanings.{AreLoadedPairs, AreOneGroup};
 ghost use Rattle.page_watch.specs.Watched.{WatchStands};
 
 use fri_outside::MemFiles;
@@ -104,7 +104,7 @@ struct Counting<'g, 'm, 'a> {
 }
 
 impl<'g, 'm, 'a> View for Counting<'g, 'm, 'a> {
-    ghost use Rattle.group_state.specs.Seen.{nodes_at};
+    ghost use Rattle.group_state.specs.Nodes.{nodes_at};
 
     ghost nodes = { λ c. nodes_at c.group.now };
 
@@ -135,7 +135,7 @@ impl<'g, 'm, 'a> View for Counting<'g, 'm, 'a> {
 }
 
 impl<'g, 'm, 'a> TouchView for Counting<'g, 'm, 'a> {
-    ghost use Rattle.group_state.specs.Seen.{nodes_at};
+    ghost use Rattle.group_state.specs.Nodes.{nodes_at};
     ghost use Rattle.group_state.specs.Touch.{mark_of_place};
 
     ghost states = { λ c k. nodes_at (record { start = c.group.now.start; at = k }) };

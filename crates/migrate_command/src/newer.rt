@@ -4,7 +4,7 @@ ghost use Rattle.fri_outside.specs.Outside.{Counts, WhenTold};
 ghost use Rattle.call_log.specs.Log.{entries_of, rest_of_log};
 ghost use Rattle.command_run.specs.Call.{CountsFaults, RaisesCount, TellsResult, reads_after, writes_after};
 ghost use Rattle.migrate_command.specs.Migrate.{migrate_outcome, migrate_text, work_unless_grown};
-ghost use Rattle.migrate_command.specs.inside.Seen.{work_of_migration};
+ghost use Rattle.migrate_command.specs.inside.Meanings.{work_of_migration};
 
 use call_log::{LogView, MOST_LOG, rewrite};
 use command_run::{Reason, StopCause};

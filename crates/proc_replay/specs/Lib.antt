@@ -1,6 +1,6 @@
 pub mod Replaying
 pub mod AtHead
-pub mod Seen
+pub mod Meanings
 pub mod Course
 pub mod Sizes
 pub mod inside

@@ -4,7 +4,7 @@ ghost use Rattle.call_log.specs.Head.{head_of};
 ghost use Rattle.call_log.specs.Limits.{least_entry};
 ghost use Rattle.proc_replay.specs.inside.Ahead.{IsAhead, IsRoomy, replaying};
 ghost use Rattle.proc_replay.specs.Replaying.{after_replay_turn, turn};
-ghost use Rattle.proc_replay.specs.Seen.{move_of};
+ghost use Rattle.proc_replay.specs.Meanings.{move_of};
 
 use crate::turn::Turn;
 use call_log::{LogHead, LogView};

@@ -4,7 +4,7 @@
 //! Contracts see the outcome over the files (`record_outcome` of `specs/Expected`): the text, the logs, the images, or the
 //! stop. Wherever a recording was stopped its logs are those of a moment of its run (`specs/Agreement`). The laws say that
 //! the logs agree with the run, and that valid files have work (`specs/Valid`). Inside is what was gathered of the files so
-//! far (`specs/inside/Seen`).
+//! far (`specs/inside/Gathering`).
 #![tactic(auto)]
 
 mod inputs;

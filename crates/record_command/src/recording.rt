@@ -8,7 +8,7 @@ ghost use Rattle.command_run.specs.Outcome.{writes_of};
 ghost use Rattle.record_command.specs.Expected.{group_outcome, module_name, record_outcome};
 ghost use Rattle.record_command.specs.Agreement.{LeavesMoment, LeavesRecording};
 ghost use Rattle.command_run.specs.Call.{CountsFaults, TellsOutcome, MakesWorkFiles, KeepsFolder, DivergesOnlyIf, IsAnswerResult, RefusesFile, RaisesCount};
-ghost use Rattle.record_command.specs.inside.Seen.{GathersInputs, RefusesAs};
+ghost use Rattle.record_command.specs.inside.Gathering.{GathersInputs, RefusesAs};
 
 use crate::inputs::{take_modules, take_schedule};
 use crate::summary::print_summary;

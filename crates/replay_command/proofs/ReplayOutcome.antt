@@ -16,7 +16,7 @@ use Rattle.command_run.specs.Call.{MakesWorkFiles, MakesAllFiles, StopsAsCause, 
 use Rattle.replay_command.specs.Report.{replay_outcome, some_log_diverges, images_if, replay_work, report_text}
 use Rattle.command_run.specs.Outcome.{CommandOutcome, CommandStop, and_then, writes_of}
 use Rattle.log_pairs.specs.Pairs.{NoneOpened, Pair, WasOpened, replays_of_pairs}
-use Rattle.replay_command.specs.inside.Seen.{PrintsAtEnd}
+use Rattle.replay_command.specs.inside.Ending.{PrintsAtEnd}
 use Rattle.command_run.specs.OutcomeLaws.{outcome_when_told, stops_before_next}
 
 -- ---- the files were refused

@@ -1,2 +1,2 @@
 -- What no public contract cites.
-pub mod Seen
+pub mod Ending

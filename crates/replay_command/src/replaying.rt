@@ -5,7 +5,7 @@ ghost use Rattle.call_log.specs.Head.{IsHead};
 ghost use Rattle.command_run.specs.Call.{CountsFaults, KeepsFolder, MakesWorkFiles, MakesAllFiles, RaisesCount, TellsOutcome};
 ghost use Rattle.command_run.specs.Outcome.{writes_of};
 ghost use Rattle.replay_command.specs.Report.{images_if, images_in, replay_outcome};
-ghost use Rattle.log_pairs.specs.Seen.{pair_of};
+ghost use Rattle.log_pairs.specs.Meanings.{pair_of};
 
 use crate::report::print_report;
 use command_run::{StopCause, WorkText};

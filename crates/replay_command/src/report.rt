@@ -2,7 +2,7 @@
 ghost use Rattle.std.specs.Prelude.{◌≡◌, ◌++◌, IfOk, OnOk};
 ghost use Rattle.group_state.specs.Report.{counts_in};
 ghost use Rattle.replay_command.specs.Report.{count_text, divergence_text, some_log_diverges, group_text, is_divergence, report_line_text, report_text, verdict_text};
-ghost use Rattle.replay_command.specs.inside.Seen.{PrintsAtEnd};
+ghost use Rattle.replay_command.specs.inside.Ending.{PrintsAtEnd};
 
 use command_run::WorkText;
 use end_text::push_end;

@@ -11,7 +11,7 @@ use Rattle.group_state.specs.Place.{events_of_replays}
 use Rattle.schedule_back.specs.declared.refusal.BackError.TheVariants as error
 use Rattle.schedule_back.specs.Back.{back}
 use Rattle.schedule_back.specs.Outcome.{BadModuleName, NotWhole, TooLong, TooManyEvents, first_bad_name, first_not_whole, refuse_where, text_or_refusal, text_within}
-use Rattle.schedule_back.specs.Seen.{IsBackError}
+use Rattle.schedule_back.specs.Meanings.{IsBackError}
 use Rattle.schedule_back.specs.inside.Draft.{IsDraft}
 
 -- where nothing else is refused, the text decides

@@ -13,7 +13,7 @@ use Rattle.group_state.specs.declared.event.GroupEvent.{GroupEvent}
 use Rattle.group_state.specs.Moves.{GroupMoves, event_of}
 use Rattle.group_state.specs.Place.{GroupPlace, events_of_replays}
 use Rattle.schedule_text.specs.declared.process.ProcessLine.{ProcessLine}
-use Rattle.schedule_back.specs.Seen.{BringBytes}
+use Rattle.schedule_back.specs.Meanings.{BringBytes}
 use Rattle.schedule_back.specs.inside.Draft.{IsDraft}
 use Rattle.schedule_back.proofs.NodeFronts.{take_more}
 

@@ -34,7 +34,7 @@ use Rattle.schedule_back.specs.Back.{back, items_of}
 use Rattle.proc_replay.specs.AtHead.{IsAtHead}
 use Rattle.schedule_back.specs.Laws.{Converse, IsWholeGroup, NothingWaits, RecordsBack, back_group, back_run, front_run}
 use Rattle.schedule_back.specs.Outcome.{text_or_refusal}
-use Rattle.schedule_back.specs.Seen.{BringBytes}
+use Rattle.schedule_back.specs.Meanings.{BringBytes}
 use Rattle.schedule_back.proofs.ProcessRanges.{all_fit}
 use Rattle.schedule_back.proofs.ScheduleFits.{IsRanged, all_in, all_tries, items_of_events}
 use Rattle.schedule_back.proofs.AnswerItems.{at_rest}

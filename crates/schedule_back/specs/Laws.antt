@@ -14,7 +14,7 @@ use Rattle.schedule_text.specs.declared.process.ProcessLine.{ProcessLine}
 use Rattle.group_state.specs.Place.{AreParts, PartsFit, events_of_replays, group_count, node_names}
 use Rattle.schedule_back.specs.Back.{back, schedule_of_events}
 use Rattle.schedule_back.specs.Outcome.{text_or_refusal}
-use Rattle.schedule_back.specs.Seen.{BringBytes}
+use Rattle.schedule_back.specs.Meanings.{BringBytes}
 
 -- the logs of all processes of a group, in order of their numbers; and of each process a line of a schedule, with the name
 -- that its log says, which no other has

@@ -1,5 +1,5 @@
 pub mod Back
 pub mod Outcome
-pub mod Seen
+pub mod Meanings
 pub mod Laws
 pub mod inside

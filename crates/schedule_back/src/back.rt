@@ -2,7 +2,7 @@
 ghost use Rattle.std.specs.Prelude.{◌≡◌, IfOk, MatchResult, Ok, length};
 ghost use Rattle.group_state.specs.Place.{AreParts, events_of_replays};
 ghost use Rattle.schedule_back.specs.Outcome.{first_bad_name, first_not_whole, is_whole, text_or_refusal};
-ghost use Rattle.schedule_back.specs.Seen.{BringBytes, IsBackError};
+ghost use Rattle.schedule_back.specs.Meanings.{BringBytes, IsBackError};
 
 use crate::draft::{begin, walk};
 use crate::refusal::BackError;

@@ -7,7 +7,7 @@ ghost use Rattle.group_state.specs.Moves.{event_of};
 ghost use Rattle.group_state.specs.Place.{events_of_replays};
 ghost use Rattle.schedule_text.specs.Limits.{most_schedule};
 ghost use Rattle.schedule_text.specs.declared.process.ProcessLine.{ProcessLine as LineOf};
-ghost use Rattle.schedule_back.specs.Seen.{BringBytes};
+ghost use Rattle.schedule_back.specs.Meanings.{BringBytes};
 ghost use Rattle.schedule_back.specs.inside.Draft.{IsDraft};
 
 use crate::items::push_event;

@@ -10,7 +10,7 @@ use Rattle.schedule_text.specs.Laws.{TextIsRead}
 use Rattle.group_state.specs.Place.{AreParts, events_of_replays}
 use Rattle.schedule_back.specs.Laws.{Converse}
 use Rattle.schedule_back.specs.Outcome.{BackRefusal, text_or_refusal}
-use Rattle.schedule_back.specs.Seen.{BringBytes}
+use Rattle.schedule_back.specs.Meanings.{BringBytes}
 use Rattle.command_run.specs.declared.refusal.WorkText.{WorkText}
 use Rattle.command_run.specs.declared.refusal.WorkText.TheVariants as answered
 use Rattle.command_run.specs.declared.refusal.Reason.TheVariants as reason
@@ -21,8 +21,8 @@ use Rattle.command_run.specs.Outcome.{CommandOutcome, CommandStop, refuses_at_on
 use Rattle.log_pairs.specs.Pairs.{Loaded, Pair, loaded_pairs, replays_of_pairs, sort_replays}
 use Rattle.log_pairs.specs.Finding.{first_log}
 use Rattle.schedule_command.specs.Schedule.{is_complete, lines_of_replays, outcome_of_text, prints_text, unless_incomplete}
-use Rattle.schedule_command.specs.Seen.{AnswerRecordsBack}
-use Rattle.schedule_command.specs.inside.Seen.{IsMade}
+use Rattle.schedule_command.specs.Meanings.{AnswerRecordsBack}
+use Rattle.schedule_command.specs.inside.Meanings.{IsMade}
 use Rattle.schedule_command.proofs.RecordedAgain.{records_back}
 use Rattle.schedule_command.proofs.NoFileMade.{opened}
 

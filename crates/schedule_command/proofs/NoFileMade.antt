@@ -13,9 +13,9 @@ use Rattle.command_run.specs.OutcomeLaws.{result_follows, outcome_when_told, sam
 use Rattle.command_run.specs.Run.{PerformedCommand, expectation, file_state}
 use Rattle.log_pairs.specs.declared.pairs.Loaded.{Loaded as LoadedFiles}
 use Rattle.log_pairs.specs.Pairs.{Loaded, NoneOpened, Pair, WasOpened, loaded_pairs, replays_of, replays_of_pairs, sort_replays}
-use Rattle.log_pairs.specs.Seen.{AreLoadedPairs, WereLoaded}
+use Rattle.log_pairs.specs.Meanings.{AreLoadedPairs, WereLoaded}
 use Rattle.schedule_command.specs.Schedule.{prints_text, schedule_outcome, unless_incomplete}
-use Rattle.schedule_command.specs.inside.Seen.{IsMade}
+use Rattle.schedule_command.specs.inside.Meanings.{IsMade}
 
 -- ---- what was read decides
 

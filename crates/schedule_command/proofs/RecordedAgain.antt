@@ -24,7 +24,7 @@ use Rattle.schedule_text.specs.declared.process.ProcessLine.{ProcessLine}
 use Rattle.group_state.specs.Place.{AreParts, events_of_replays}
 use Rattle.schedule_back.specs.Laws.{Converse, RecordsBack as BackRecords, back_group, back_run}
 use Rattle.schedule_back.specs.Outcome.{text_or_refusal}
-use Rattle.schedule_back.specs.Seen.{BringBytes}
+use Rattle.schedule_back.specs.Meanings.{BringBytes}
 use Rattle.command_run.specs.Inputs.{module_in}
 use Rattle.command_run.specs.Laws.{ReadsModules}
 use Rattle.log_files.specs.Logs.{log_in}

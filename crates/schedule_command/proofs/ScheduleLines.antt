@@ -4,7 +4,7 @@ use Rattle.proc_replay.specs.Replaying.{Replaying}
 use Rattle.schedule_text.specs.declared.process.ProcessLine.{ProcessLine}
 use Rattle.log_pairs.specs.declared.pairs.Loaded.{Loaded as LoadedFiles}
 use Rattle.log_pairs.specs.Pairs.{Loaded, Pair}
-use Rattle.log_pairs.specs.Seen.{AreLoadedPairs}
+use Rattle.log_pairs.specs.Meanings.{AreLoadedPairs}
 use Rattle.schedule_command.specs.Schedule.{lines_of_replays}
 
 -- the lines of these replays

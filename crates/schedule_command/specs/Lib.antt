@@ -1,5 +1,5 @@
 pub mod Schedule
-pub mod Seen
+pub mod Meanings
 pub mod Valid
 pub mod Laws
 pub mod inside

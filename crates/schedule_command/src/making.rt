@@ -5,11 +5,11 @@ ghost use Rattle.command_run.specs.Call.{CountsFaults, RaisesCount, StopsAsCause
 ghost use Rattle.command_run.specs.Run.{PerformedCommand, expectation, file_state};
 ghost use Rattle.group_state.specs.Place.{AreParts, events_of_replays};
 ghost use Rattle.log_pairs.specs.Pairs.{Loaded as LoadedOf};
-ghost use Rattle.log_pairs.specs.Seen.{AreLoadedPairs, pair_of};
-ghost use Rattle.schedule_back.specs.Seen.{BringBytes};
+ghost use Rattle.log_pairs.specs.Meanings.{AreLoadedPairs, pair_of};
+ghost use Rattle.schedule_back.specs.Meanings.{BringBytes};
 ghost use Rattle.schedule_command.specs.Schedule.{is_complete, lines_of_replays, schedule_outcome, unless_incomplete};
-ghost use Rattle.schedule_command.specs.Seen.{AnswerRecordsBack};
-ghost use Rattle.schedule_command.specs.inside.Seen.{IsMade};
+ghost use Rattle.schedule_command.specs.Meanings.{AnswerRecordsBack};
+ghost use Rattle.schedule_command.specs.inside.Meanings.{IsMade};
 
 use command_run::{Reason, StopCause, WorkText};
 use fri_bytes::Bytes;

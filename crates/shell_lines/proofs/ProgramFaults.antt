@@ -6,7 +6,7 @@ use Rattle.watch_expr.specs.Lexing.{LexedLine, token_texts}
 use Rattle.embed_cmds.specs.Parsing.{ParsedProgram}
 use Rattle.embed_cmds.specs.Tree.{Statements}
 use Rattle.shell_lines.specs.Lines.{LineCommand, Do, located_program, program_from, then_takes}
-use Rattle.shell_lines.specs.inside.Seen.{ReadsCommand}
+use Rattle.shell_lines.specs.inside.Reading.{ReadsCommand}
 
 abbrev does_read : List (List ℕ) → ℕ → Result Statements (List (List ℕ)) → Result LineCommand ℕ
 does_read ts n r = then_takes (located_program ts r) (λ p. Ok (Do n p))

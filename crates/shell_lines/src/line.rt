@@ -4,8 +4,8 @@ ghost use Rattle.std.specs.List.{find};
 ghost use Rattle.shell_lines.specs.Lines.{has_nested, names_none, scopes_none, watches_variable};
 ghost use Rattle.shell_lines.specs.Meaning.{is_silent, judged_command, line_meaning, trimmed, without_end_blanks, without_front_blanks};
 ghost use Rattle.shell_lines.specs.declared.line.Line.TheVariants.{Silent};
-ghost use Rattle.shell_lines.specs.inside.Seen.{SpellsCommand};
-ghost use Rattle.shell_lines.specs.Seen.{command, meaning, scope};
+ghost use Rattle.shell_lines.specs.inside.Reading.{SpellsCommand};
+ghost use Rattle.shell_lines.specs.Spelled.{command, meaning, scope};
 ghost use Rattle.watch_expr.specs.Lexing.{is_blank};
 
 use crate::command::{DebuggerCommand, WhichNodes};

@@ -2,8 +2,8 @@
 ghost use Rattle.std.specs.Prelude.{◌≡◌, ◌<◌, ◌^◌, bytes_eq, length, option_map, position};
 ghost use Rattle.call_table.specs.Table.{kind_named};
 ghost use Rattle.shell_lines.specs.Lines.{count_or, ends_at, expression_from, node_named, number_from, scope_named, token_at, variable_at};
-ghost use Rattle.shell_lines.specs.inside.Seen.{ReadsAs, ReadsCommand};
-ghost use Rattle.shell_lines.specs.Seen.{command, scope};
+ghost use Rattle.shell_lines.specs.inside.Reading.{ReadsAs, ReadsCommand};
+ghost use Rattle.shell_lines.specs.Spelled.{command, scope};
 ghost use Rattle.watch_expr.specs.Lexing.{token_texts};
 ghost use Rattle.watch_expr.specs.Expression.{expression_of};
 

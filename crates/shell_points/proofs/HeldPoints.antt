@@ -8,7 +8,7 @@ use Rattle.embed_cmds.specs.declared.program.Program.{Program}
 use Rattle.embed_cmds.specs.Tree.{program_body}
 use Rattle.shell_points.specs.declared.point.Point.{Point as Held}
 use Rattle.shell_points.specs.Points.{Point, has_point, index_of_point, point_text, with_program, without_point}
-use Rattle.shell_points.specs.inside.Seen.{point}
+use Rattle.shell_points.specs.inside.Meanings.{point}
 
 pub held_same : (ps : List Held) (n : ℕ) → list_any (λ (p : Held). nat_eq p.number n) ps ≡ has_point (map {A = Held} point ps) n
 held_same [] n = refl

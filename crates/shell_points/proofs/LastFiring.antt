@@ -12,8 +12,8 @@ use Rattle.shell_points.specs.declared.point.Point.{Point as Held}
 use Rattle.shell_points.specs.Firing.{firing_line, firing_lines, has_due_point, is_due_at, place_at, point_said_at}
 use Rattle.shell_points.specs.Points.{Break, Point, Trigger, Watch}
 use Rattle.shell_points.specs.Returning.{Return, last_due, return_from, return_to}
-use Rattle.shell_points.specs.Seen.{PointsReturn}
-use Rattle.shell_points.specs.inside.Seen.{point}
+use Rattle.shell_points.specs.Meanings.{PointsReturn}
+use Rattle.shell_points.specs.inside.Meanings.{point}
 use Rattle.shell_points.proofs.PointWalks.{past, place_is}
 
 -- ---- at one position

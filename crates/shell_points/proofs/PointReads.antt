@@ -8,7 +8,7 @@ use Rattle.std.specs.Prelude.{All, MatchOption, count_by, slice_get}
 use Rattle.std.specs.List.{AllByRecursion, list_any}
 use Rattle.proc_replay.specs.Replaying.{Replaying}
 use Rattle.group_state.specs.Place.{GroupPlace}
-use Rattle.group_state.specs.Seen.{nodes_at}
+use Rattle.group_state.specs.Nodes.{nodes_at}
 use Rattle.group_state.specs.Touch.{is_met_by_event, mark_of_place, watch_ticks, is_touched_at}
 use Rattle.watch_expr.specs.declared.reads.Place.{Place as Location}
 use Rattle.expression_text.specs.declared.expr.Expr.{Expr}
@@ -26,8 +26,8 @@ use Rattle.shell_points.specs.declared.watching.Watching.{Watching}
 use Rattle.shell_points.specs.Firing.{firing_line, firing_lines, has_due_point, is_due_at, place_at, reading, value_at_position}
 use Rattle.shell_points.specs.Points.{Break, Point, Trigger, Watch}
 use Rattle.shell_points.specs.inside.Reading.{point_readings}
-use Rattle.shell_points.specs.inside.Seen.{point}
-use Rattle.shell_points.specs.Seen.{trigger}
+use Rattle.shell_points.specs.inside.Meanings.{point}
+use Rattle.shell_points.specs.Meanings.{trigger}
 use Rattle.shell_points.specs.Walking.{fired_point, treat_points}
 use Rattle.shell_points.specs.inside.Watches.{IsWatching, dealt_values, is_break, is_break_by, values_by}
 use Rattle.shell_points.specs.Watching.{expressions_by, expressions_of, watched_expressions}

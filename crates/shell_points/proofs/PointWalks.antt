@@ -10,7 +10,7 @@ use Rattle.fri_text.specs.Line.{is_line_feed}
 use Rattle.group_state.specs.declared.event.GroupEvent.{GroupEvent}
 use Rattle.group_state.specs.Moves.{GroupMoves, event_of, last_event_of}
 use Rattle.group_state.specs.Place.{GroupPlace, events_of_replays}
-use Rattle.group_state.specs.Seen.{nodes_at}
+use Rattle.group_state.specs.Nodes.{nodes_at}
 use Rattle.proc_replay.specs.Replaying.{Replaying}
 use Rattle.embed_cmds.specs.Running.{ProgramState}
 use Rattle.embed_cmds.specs.Variables.{Variable}
@@ -18,8 +18,8 @@ use Rattle.shell_points.specs.declared.point.Point.{Point as Held}
 use Rattle.shell_points.specs.Firing.{place_at, reading, point_said_at}
 use Rattle.shell_points.specs.Points.{Point}
 use Rattle.shell_points.specs.inside.Reading.{point_readings, point_said_by, treat_by}
-use Rattle.shell_points.specs.Seen.{PointsWalk, trigger}
-use Rattle.shell_points.specs.inside.Seen.{point}
+use Rattle.shell_points.specs.Meanings.{PointsWalk, trigger}
+use Rattle.shell_points.specs.inside.Meanings.{point}
 use Rattle.shell_points.specs.declared.walk.WalkEnd.{WalkEnd}
 use Rattle.group_texts.specs.Texts.{position_line}
 use Rattle.shell_points.specs.Walking.{Walk, lines_in, most_lines, quiet_program, treat_point, treat_points, walk_ended, walk_from, walk_on, walk_over}

@@ -3,6 +3,6 @@ pub mod Firing
 pub mod Walking
 pub mod Watching
 pub mod Returning
-pub mod Seen
+pub mod Meanings
 pub mod Laws
 pub mod inside

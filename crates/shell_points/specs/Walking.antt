@@ -3,7 +3,7 @@ use Rattle.std.specs.Prelude.{ℕ, zero, suc, ◌-◌, nat_le, Bool, true, false
 use Rattle.fri_text.specs.Line.{is_line_feed}
 use Rattle.proc_replay.specs.Replaying.{Replaying}
 use Rattle.group_state.specs.Place.{GroupPlace, events_of_replays}
-use Rattle.group_state.specs.Seen.{nodes_at}
+use Rattle.group_state.specs.Nodes.{nodes_at}
 use Rattle.watch_expr.specs.View.{Node}
 use Rattle.embed_cmds.specs.Running.{ProgramState, after_statements}
 use Rattle.embed_cmds.specs.Tree.{Statements}

@@ -1,4 +1,4 @@
 -- What no public contract cites.
 pub mod Reading
-pub mod Seen
+pub mod Meanings
 pub mod Watches

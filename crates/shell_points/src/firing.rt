@@ -2,7 +2,7 @@
 ghost use Rattle.std.specs.Prelude.{◌≡◌, ◌++◌, Some, OnOk};
 ghost use Rattle.group_state.specs.Moves.{event_of, last_event_of};
 ghost use Rattle.shell_points.specs.Firing.{is_due_by, is_event_of_kind, firing_line_by};
-ghost use Rattle.shell_points.specs.Seen.{trigger as seen_trigger};
+ghost use Rattle.shell_points.specs.Meanings.{trigger as seen_trigger};
 
 use crate::point::{Point, Trigger};
 use embed_cmds::push_value;

@@ -4,8 +4,8 @@ ghost use Rattle.std.specs.List.{flat_map};
 ghost use Rattle.embed_cmds.specs.Tree.{program_body};
 ghost use Rattle.group_state.specs.Touch.{watch_ticks};
 ghost use Rattle.shell_points.specs.Points.{has_point, new_point, index_of_point, point_text, with_program, without_point};
-ghost use Rattle.shell_points.specs.Seen.{PointsReturn, PointsWalk, trigger as trigger_meant};
-ghost use Rattle.shell_points.specs.inside.Seen.{point as point_meant};
+ghost use Rattle.shell_points.specs.Meanings.{PointsReturn, PointsWalk, trigger as trigger_meant};
+ghost use Rattle.shell_points.specs.inside.Meanings.{point as point_meant};
 ghost use Rattle.shell_points.specs.Watching.{watched_expressions};
 
 use crate::back::walk_back;
@@ -38,7 +38,7 @@ impl Model for Points {
     ghost coded = { Prim.hlevel (codes, expression_code, statements_code) };
 
     ghost use Rattle.std.specs.Prelude.{map};
-    ghost use Rattle.shell_points.specs.inside.Seen.{point};
+    ghost use Rattle.shell_points.specs.inside.Meanings.{point};
     ghost use Rattle.shell_points.specs.declared.point.Point.{Point as Held};
 
     ghost view = { λ p. map {A = Held} point p.held.items };

@@ -1,12 +1,12 @@
 // What points do at a position.
 ghost use Rattle.std.specs.Prelude.{◌≡◌, ◌<◌, IfOk, MatchOption, OnOk, map};
 ghost use Rattle.shell_points.specs.inside.Reading.{NoneFires, point_readings, readings_before, treat_by};
-ghost use Rattle.shell_points.specs.inside.Seen.{point as seen, run_so_far};
+ghost use Rattle.shell_points.specs.inside.Meanings.{point as seen, run_so_far};
 ghost use Rattle.shell_points.specs.Walking.{quiet_program, treat_points};
 ghost use Rattle.shell_points.specs.inside.Watches.{IsWatching};
 ghost use Rattle.shell_points.specs.declared.point.Point.{Point as Held};
 ghost use Rattle.group_state.specs.Moves.{last_event_of};
-ghost use Rattle.group_state.specs.Seen.{nodes_at};
+ghost use Rattle.group_state.specs.Nodes.{nodes_at};
 
 use crate::firing::{fires, push_line};
 use crate::point::Point;

@@ -1,8 +1,8 @@
 // Goes on to where a point asks to stop.
 ghost use Rattle.std.specs.Prelude.{◌≡◌, ◌+◌, ◌-◌, ◌++◌, IfOk, map};
 ghost use Rattle.group_state.specs.Touch.{watch_ticks};
-ghost use Rattle.shell_points.specs.Seen.{PointsWalk};
-ghost use Rattle.shell_points.specs.inside.Seen.{point as seen};
+ghost use Rattle.shell_points.specs.Meanings.{PointsWalk};
+ghost use Rattle.shell_points.specs.inside.Meanings.{point as seen};
 ghost use Rattle.group_texts.specs.Texts.{position_line};
 ghost use Rattle.shell_points.specs.Walking.{lines_in};
 ghost use Rattle.shell_points.specs.Watching.{watched_expressions};

@@ -1,12 +1,12 @@
 // What points read on a walk, from position to position.
 ghost use Rattle.std.specs.Prelude.{◌≡◌, ℕ, ℤ, ◌+◌, ◌-◌, ◌<◌, ◌≤◌, ◌^◌, ◌∷◌, ◌++◌, All, List, Option, IfOk, MatchOption, OnOk, count_by, drop, length, map};
 ghost use Rattle.std.specs.List.{list_any};
-ghost use Rattle.group_state.specs.Seen.{nodes_at};
+ghost use Rattle.group_state.specs.Nodes.{nodes_at};
 ghost use Rattle.group_state.specs.Touch.{is_met_by_event};
 ghost use Rattle.page_watch.specs.Watched.{WatchStands, Watched};
 ghost use Rattle.shell_points.specs.inside.Reading.{NoneFires, readings_before};
-ghost use Rattle.shell_points.specs.inside.Seen.{point as seen};
-ghost use Rattle.shell_points.specs.Seen.{trigger};
+ghost use Rattle.shell_points.specs.inside.Meanings.{point as seen};
+ghost use Rattle.shell_points.specs.Meanings.{trigger};
 ghost use Rattle.shell_points.specs.inside.Watches.{IsWatching, dealt_values, is_break, values_by};
 ghost use Rattle.shell_points.specs.Watching.{expressions_of, watched_expressions};
 ghost use Rattle.shell_points.specs.declared.point.Point.{Point as Held};

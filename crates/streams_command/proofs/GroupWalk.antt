@@ -15,7 +15,7 @@ use Rattle.group_state.specs.Place.{AreParts, PartsFit, GroupPlace, events_of_re
 use Rattle.byte_streams.specs.Laws.{UnsentIsFree}
 use Rattle.byte_streams.specs.Traffic.{SendOrReceive}
 use Rattle.streams_command.specs.declared.telling.Told.{Told}
-use Rattle.streams_command.specs.inside.Seen.{IsToldOf}
+use Rattle.streams_command.specs.inside.Meanings.{IsToldOf}
 use Rattle.streams_command.specs.Streams.{process_at, traffic_of_events}
 use Rattle.streams_command.proofs.ToldByEvents.{few, foreign_within, odd_within, one_behind, traffic_at}
 use Rattle.streams_command.proofs.NoClockTwice.{unsent}

@@ -5,7 +5,7 @@ use Rattle.byte_streams.specs.Keys.{ContentsByStream}
 use Rattle.byte_streams.specs.Lines.{stream_lines}
 use Rattle.byte_streams.specs.Traffic.{SendOrReceive}
 use Rattle.streams_command.specs.declared.telling.Told.{Told}
-use Rattle.streams_command.specs.inside.Seen.{IsToldOf}
+use Rattle.streams_command.specs.inside.Meanings.{IsToldOf}
 use Rattle.streams_command.specs.Streams.{stream_counts_text, stream_line_text, streams_in, streams_text}
 use Rattle.streams_command.proofs.CountedStreams.{streams_are}
 

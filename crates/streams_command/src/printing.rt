@@ -1,7 +1,7 @@
 // Prints what is said of streams.
 ghost use Rattle.std.specs.Prelude.{◌≡◌, ◌++◌, decimal, IfOk, List, OnOk};
 ghost use Rattle.byte_streams.specs.Traffic.{SendOrReceive};
-ghost use Rattle.streams_command.specs.inside.Seen.{IsToldOf};
+ghost use Rattle.streams_command.specs.inside.Meanings.{IsToldOf};
 ghost use Rattle.streams_command.specs.Streams.{stream_counts_text, stream_line_text, streams_text};
 
 use crate::telling::Told;

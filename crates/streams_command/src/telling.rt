@@ -3,7 +3,7 @@ ghost use Rattle.std.specs.Prelude.{◌≡◌, ◌+◌, ◌<◌, ◌≤◌, ◌^
 ghost use Rattle.std.specs.FinMap as map;
 ghost use Rattle.lib_calls.specs.Entry.{entry_of};
 ghost use Rattle.byte_streams.specs.Traffic.{SendOrReceive};
-ghost use Rattle.streams_command.specs.inside.Seen.{IsToldOf};
+ghost use Rattle.streams_command.specs.inside.Meanings.{IsToldOf};
 ghost use Rattle.streams_command.specs.Streams.{one_if_strange, received_traffic, traffic_of_event};
 
 use byte_streams::{PayloadMark, Streams};

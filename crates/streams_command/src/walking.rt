@@ -2,8 +2,8 @@
 ghost use Rattle.std.specs.Prelude.{◌≡◌, [], false, map, option_map, IfOk};
 ghost use Rattle.command_run.specs.Run.{PerformedCommand, expectation, file_state};
 ghost use Rattle.group_state.specs.Place.{AreParts, events_of_replays, group_count};
-ghost use Rattle.log_pairs.specs.Seen.{pair_of};
-ghost use Rattle.streams_command.specs.inside.Seen.{IsToldOf};
+ghost use Rattle.log_pairs.specs.Meanings.{pair_of};
+ghost use Rattle.streams_command.specs.inside.Meanings.{IsToldOf};
 ghost use Rattle.streams_command.specs.Streams.{streams_outcome, streams_text, traffic_of_events};
 
 use crate::printing::print;

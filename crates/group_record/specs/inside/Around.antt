@@ -11,7 +11,7 @@ use Rattle.guest_process.specs.declared.need.Need.{Need}
 use Rattle.guest_process.specs.declared.need.Need.TheVariants as needs
 use Rattle.guest_process.specs.Answers.{replies_with}
 use Rattle.guest_process.specs.Live.{Env, chosen_signal, world_answer}
-use Rattle.guest_process.specs.Seen.{answered_at}
+use Rattle.guest_process.specs.Meanings.{answered_at}
 use Rattle.guest_process.specs.State.{State, thread_at}
 use Rattle.group_world.specs.World.{World, has_pending, surroundings_of}
 

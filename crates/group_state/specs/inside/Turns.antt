@@ -2,7 +2,7 @@
 use Rattle.std.specs.Prelude.{◌≡◌, ℕ, List, Some, slice_get, slice_set, Option, None}
 use Rattle.proc_replay.specs.declared.turn.Turn.{Turn}
 use Rattle.proc_replay.specs.Replaying.{Replaying, after_replay_turn, turn, Diverges, Ends, Makes, ReplayMove}
-use Rattle.proc_replay.specs.Seen.{move_of}
+use Rattle.proc_replay.specs.Meanings.{move_of}
 use Rattle.guest_process.specs.declared.verdict.Verdict.{Verdict}
 use Rattle.guest_process.specs.Replay.{verdict}
 use Rattle.proc_replay.specs.Course.{TellsVerdict, outcome_of_replay}

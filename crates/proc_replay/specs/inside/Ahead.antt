@@ -7,7 +7,7 @@ use Rattle.proc_replay.specs.declared.turn.Turn.{Turn}
 use Rattle.guest_process.specs.State.{State}
 use Rattle.call_log.specs.Limits.{least_entry}
 use Rattle.proc_replay.specs.Replaying.{Makes, Replaying, after_replay_turn, turn}
-use Rattle.proc_replay.specs.Seen.{move_of}
+use Rattle.proc_replay.specs.Meanings.{move_of}
 
 -- this is what the next turn gives, and the log is what is left where it makes an event
 pub record IsAhead (r : Replaying) (next : Turn) (following : Log) : Type 0 where

@@ -3,7 +3,7 @@ use Rattle.std.specs.Prelude.{Bool, true, false, List, [], ◌∷◌, Option, No
 use Rattle.std.specs.List.{list_any}
 use Rattle.page_watch.specs.Watched.{Watched, WatchStands}
 use Rattle.proc_replay.specs.Replaying.{Replaying}
-use Rattle.group_state.specs.Seen.{nodes_at}
+use Rattle.group_state.specs.Nodes.{nodes_at}
 use Rattle.shell_points.specs.declared.watching.Watching.{Watching}
 use Rattle.shell_points.specs.Points.{Break, Trigger, Watch, Point}
 use Rattle.shell_points.specs.Firing.{place_at}

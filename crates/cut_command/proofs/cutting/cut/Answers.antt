@@ -4,7 +4,7 @@ use Rattle.command_run.specs.declared.refusal.WorkText.TheVariants as answered
 use Rattle.command_run.specs.CountLaws.{counts_still}
 use Rattle.command_run.specs.FileLaws.{some_files_made}
 use Rattle.command_run.specs.OutcomeLaws.{refused_makes, refused_tells}
-use Rattle.log_pairs.specs.Seen.{WereLoaded, pair_of}
+use Rattle.log_pairs.specs.Meanings.{WereLoaded, pair_of}
 use Rattle.cut_command.specs.Cut.{cut_outcome}
 use Rattle.cut_command.proofs.CutOutcome.{files_made, found_past, opening_stops, work_cuts, work_makes, work_tells}
 use Rattle.cut_command.proofs.cutting.cut.Goals as goal

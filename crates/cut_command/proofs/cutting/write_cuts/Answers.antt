@@ -3,7 +3,7 @@ use Rattle.std.proofs.lemmas.Result.{err_from_is_err_and}
 use Rattle.call_log.specs.Head.{Head}
 use Rattle.command_run.specs.CountLaws.{counts_same}
 use Rattle.command_run.specs.FileLaws.{failed_makes}
-use Rattle.cut_command.specs.inside.Seen.{front_file}
+use Rattle.cut_command.specs.inside.Meanings.{front_file}
 use Rattle.cut_command.proofs.MadeFiles.{file_here, first_made, head_here, one_made, part_made}
 use Rattle.cut_command.proofs.cutting.write_cuts.Goals as goal
 

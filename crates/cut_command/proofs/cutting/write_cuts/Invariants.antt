@@ -2,7 +2,7 @@ use Rattle.std.proofs.Common.{◌≡◌, map, take}
 use Rattle.std.specs.Prelude.{⊤, Ok}
 use Rattle.fri_outside.specs.Several.{with_files}
 use Rattle.command_run.specs.Call.{CountsFaults}
-use Rattle.cut_command.specs.inside.Seen.{front_file}
+use Rattle.cut_command.specs.inside.Meanings.{front_file}
 use Rattle.cut_command.proofs.cutting.write_cuts.Given as goal
 
 abbrev pub invariant-loop-front : goal.invariant-loop-front

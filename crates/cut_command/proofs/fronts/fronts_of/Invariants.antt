@@ -1,5 +1,5 @@
 use Rattle.std.proofs.Common.{◌≡◌, take}
-use Rattle.cut_command.specs.inside.Seen.{fronts_of}
+use Rattle.cut_command.specs.inside.Meanings.{fronts_of}
 use Rattle.cut_command.proofs.fronts.fronts_of.Given as goal
 
 abbrev pub invariant-loop-node : goal.invariant-loop-node

@@ -1,5 +1,5 @@
 use Rattle.std.proofs.Common.{◌≡◌, map, take}
-use Rattle.cut_command.specs.inside.Seen.{log_of_replay}
+use Rattle.cut_command.specs.inside.Meanings.{log_of_replay}
 use Rattle.cut_command.proofs.fronts.logs_of.Given as goal
 
 abbrev pub invariant-loop-part : goal.invariant-loop-part

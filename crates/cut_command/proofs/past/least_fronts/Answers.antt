@@ -1,6 +1,6 @@
 use Rattle.std.proofs.Common.{◌≡◌, ◌∙◌, ap, length, sym}
 use Rattle.std.proofs.lemmas.List.{length-map}
-use Rattle.cut_command.specs.inside.Seen.{log_of_replay}
+use Rattle.cut_command.specs.inside.Meanings.{log_of_replay}
 use Rattle.cut_command.proofs.KeptLengths.{fit_logs}
 use Rattle.cut_command.proofs.past.least_fronts.Goals as goal
 

@@ -1,8 +1,8 @@
 use Rattle.std.proofs.Common.{◌≡◌, ◌∙◌, Some, ap, map, sym}
 use Rattle.std.specs.List.{flat_map}
-use Rattle.log_pairs.specs.Seen.{pair_of}
+use Rattle.log_pairs.specs.Meanings.{pair_of}
 use Rattle.cut_command.specs.Cut.{node_of_process}
-use Rattle.cut_command.specs.inside.Seen.{front_line}
+use Rattle.cut_command.specs.inside.Meanings.{front_line}
 use Rattle.cut_command.proofs.KeptLengths.{all_heads, is_cut, past_works}
 use Rattle.cut_command.proofs.past.take_past.Goals as goal
 

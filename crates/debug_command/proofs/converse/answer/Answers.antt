@@ -2,7 +2,7 @@ use Rattle.std.proofs.Common.{ap, sym, take, ◌∙◌}
 use Rattle.std.proofs.lemmas.Result.{err_from_is_err_and}
 use Rattle.fri_text.specs.Line.{lines_of}
 use Rattle.debug_command.proofs.InputPieces.{spoke_failed, spoke_last, spoke_nothing}
-use Rattle.friday_shell.specs.Seen.{is_quit}
+use Rattle.friday_shell.specs.Meanings.{is_quit}
 use Rattle.debug_command.proofs.converse.answer.Goals as goal
 
 pub returns-in_err-write_whole-clause-said : goal.returns-in_err-write_whole-clause-said

@@ -2,7 +2,7 @@ use Rattle.std.proofs.Common.{List, map, subst, sym}
 use Rattle.command_run.specs.CountLaws.{counts_none, counts_of_part, counts_still}
 use Rattle.command_run.specs.Run.{Outside, outside}
 use Rattle.log_pairs.specs.declared.pairs.Loaded.{Loaded}
-use Rattle.log_pairs.specs.Seen.{WereLoaded, pair_of}
+use Rattle.log_pairs.specs.Meanings.{WereLoaded, pair_of}
 use Rattle.debug_command.proofs.DebugOutcome.{performed, run_conversed, run_refused}
 use Rattle.debug_command.proofs.debugging.debug.Goals as goal
 

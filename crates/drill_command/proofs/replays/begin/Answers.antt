@@ -3,7 +3,7 @@ use Rattle.std.specs.Prelude.{option_copied}
 use Rattle.call_log.specs.Head.{Head}
 use Rattle.wasm_types.specs.Modules.{module_of}
 use Rattle.group_record.specs.Run.{RunStep}
-use Rattle.drill_command.specs.inside.Seen.{HoldLogs}
+use Rattle.drill_command.specs.inside.Results.{HoldLogs}
 use Rattle.drill_command.proofs.LogReplays.{begins_as, never_absent, never_headless, opened_as, replay_is}
 use Rattle.drill_command.proofs.replays.begin.Goals as goal
 

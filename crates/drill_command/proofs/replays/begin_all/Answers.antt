@@ -1,6 +1,6 @@
 use Rattle.std.proofs.Common.{List}
 use Rattle.group_record.specs.Run.{RunStep}
-use Rattle.drill_command.specs.inside.Seen.{HoldLogs}
+use Rattle.drill_command.specs.inside.Results.{HoldLogs}
 use Rattle.drill_command.proofs.LogReplays.{parts_are, replays_are}
 use Rattle.drill_command.proofs.replays.begin_all.Goals as goal
 

@@ -1,6 +1,6 @@
 use Rattle.std.proofs.Common.{◌≡◌, ◌∙◌, ◌+◌, ◌≤◌, Bool, true, false, cond, not, suc, ap, arith, sym}
 use Rattle.std.specs.Prelude.{is_some}
-use Rattle.group_state.specs.Seen.{nodes_at}
+use Rattle.group_state.specs.Nodes.{nodes_at}
 use Rattle.page_watch.specs.Firing.{is_same_value}
 use Rattle.shell_points.specs.Firing.{no_variable}
 use Rattle.watch_expr.specs.Value.{value}

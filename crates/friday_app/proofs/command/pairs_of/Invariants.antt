@@ -1,6 +1,6 @@
 use Rattle.std.proofs.Common.{◌≡◌, ◌++◌, map, option_map, length}
 use Rattle.friday_app.specs.Command.{pairs_of}
-use Rattle.log_pairs.specs.Seen.{pair_of}
+use Rattle.log_pairs.specs.Meanings.{pair_of}
 use Rattle.friday_app.proofs.command.pairs_of.Given as goal
 
 abbrev pub invariant-pairs : goal.invariant-pairs

@@ -1,13 +1,13 @@
 use Rattle.std.proofs.Common.{◌∙◌, List, Some, ap, false, map, option_map, sym, true}
 use Rattle.command_run.specs.Run.{Outside, outside}
-use Rattle.log_pairs.specs.Seen.{pair_of}
+use Rattle.log_pairs.specs.Meanings.{pair_of}
 use Rattle.log_pairs.specs.declared.pairs.Pair.{Pair}
 use Rattle.record_command.specs.Expected.{record_outcome}
 use Rattle.replay_command.specs.Report.{replay_outcome}
 use Rattle.cut_command.specs.Cut.{cut_outcome}
 use Rattle.migrate_command.specs.Migrate.{migrate_outcome}
 use Rattle.friday_app.specs.Command.{Cut, Debug, Replay, Schedule, Streams}
-use Rattle.friday_app.specs.inside.Seen.{command_meaning}
+use Rattle.friday_app.specs.inside.Meanings.{command_meaning}
 use Rattle.friday_app.proofs.CommandRuns.{may_diverge, performed, run_cut, run_debugged, run_drilled, run_migrated, run_none, run_recorded, run_replayed, run_same, run_scheduled, run_stopped, run_streamed}
 use Rattle.friday_app.proofs.top.run.Goals as goal
 

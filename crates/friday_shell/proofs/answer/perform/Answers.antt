@@ -1,5 +1,5 @@
-use Rattle.shell_lines.specs.Seen.{command}
-use Rattle.friday_shell.specs.inside.Seen.{session_state}
+use Rattle.shell_lines.specs.Spelled.{command}
+use Rattle.friday_shell.specs.inside.Meanings.{session_state}
 use Rattle.friday_shell.proofs.LineAnswers.{start_stays}
 use Rattle.friday_shell.proofs.answer.perform.Goals as goal
 

@@ -1,6 +1,6 @@
 use Rattle.std.proofs.Common.{◌∙◌, sym}
 use Rattle.embed_cmds.specs.Tree.{program_body}
-use Rattle.friday_shell.specs.inside.Seen.{session_state}
+use Rattle.friday_shell.specs.inside.Meanings.{session_state}
 use Rattle.friday_shell.proofs.AttachAnswers.{attached_there, none_held, too_many}
 use Rattle.friday_shell.proofs.points.attach.Goals as goal
 

@@ -5,7 +5,7 @@ use Rattle.wasm_types.specs.Valid.{IsValid}
 use Rattle.wasm_step.specs.Strand.{Strand}
 use Rattle.guest_process.specs.declared.body.Body.{Body}
 use Rattle.guest_process.specs.declared.end.End.TheVariants.{Running}
-use Rattle.guest_process.specs.inside.Seen.{IsOfModule}
+use Rattle.guest_process.specs.inside.Meanings.{IsOfModule}
 use Rattle.guest_process.specs.Start.{waits_at_begin}
 use Rattle.guest_process.proofs.FirstState.{is_process}
 use Rattle.guest_process.proofs.process.begin.Goals as goal

@@ -1,7 +1,7 @@
 use Rattle.std.proofs.Common.{◌∙◌, ap, sym}
 use Rattle.std.specs.Prelude.{option_map}
 use Rattle.std.proofs.lemmas.Bool.{ne_eqb}
-use Rattle.log_pairs.specs.Seen.{pair_of}
+use Rattle.log_pairs.specs.Meanings.{pair_of}
 use Rattle.log_pairs.proofs.PairPlaces.{found_at, found_none, got, item_at, none_more}
 use Rattle.log_pairs.proofs.finding.pair_of_process.Goals as goal
 

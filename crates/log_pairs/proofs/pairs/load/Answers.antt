@@ -3,7 +3,7 @@ use Rattle.std.proofs.lemmas.Result.{err_from_is_err_and}
 use Rattle.wasm_types.specs.Modules.{module_of as shown}
 use Rattle.call_log.specs.Limits.{most_log}
 use Rattle.log_pairs.specs.Pairs.{clash_of_logs}
-use Rattle.log_pairs.specs.Seen.{pair_of}
+use Rattle.log_pairs.specs.Meanings.{pair_of}
 use Rattle.command_run.specs.CountLaws.{counts_later, counts_none, counts_still}
 use Rattle.log_pairs.proofs.LoadedPairs.{is_loaded, pair_read, read_as}
 use Rattle.log_pairs.proofs.pairs.load.Goals as goal

@@ -2,7 +2,7 @@ use Rattle.std.proofs.Common.{◌∙◌, ◌+◌, List, Option, drop, map, refl,
 use Rattle.std.proofs.lemmas.List.{drop_all, drop_more}
 use Rattle.std.proofs.lemmas.Result.{err_from_is_err_and}
 use Rattle.log_pairs.specs.declared.pairs.Loaded.{Loaded}
-use Rattle.log_pairs.specs.Seen.{AreLoadedPairs, pair_of}
+use Rattle.log_pairs.specs.Meanings.{AreLoadedPairs, pair_of}
 use Rattle.log_pairs.proofs.OpenedReplays.{unread_stops}
 use Rattle.log_pairs.proofs.LoadedPairs.{AreRead, all_read, none_read, one_read, reading_stops}
 use Rattle.fri_outside.specs.Outside.{Folder}

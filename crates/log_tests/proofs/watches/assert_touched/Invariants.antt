@@ -1,4 +1,4 @@
-use Rattle.group_state.specs.Seen.{nodes_at}
+use Rattle.group_state.specs.Nodes.{nodes_at}
 use Rattle.page_watch.specs.Watched.{WatchStands}
 use Rattle.log_tests.proofs.watches.assert_touched.Given as goal
 

@@ -1,7 +1,7 @@
 use Rattle.std.proofs.Common.{◌≡◌, ◌-◌, true, rules, subst, sym}
 use Rattle.std.specs.Prelude.{is_some}
 use Rattle.group_state.specs.Place.{GroupPlace}
-use Rattle.group_state.specs.Seen.{nodes_at}
+use Rattle.group_state.specs.Nodes.{nodes_at}
 use Rattle.page_watch.specs.Watched.{WatchStands}
 use Rattle.log_tests.proofs.WatchedEvent.{stood}
 use Rattle.log_tests.proofs.watches.step.Goals as goal

@@ -6,7 +6,7 @@ use Rattle.call_log.specs.Log.{Unread}
 use Rattle.command_run.specs.Call.{StopsAsCause}
 use Rattle.command_run.specs.CountLaws.{counts_still}
 use Rattle.command_run.specs.Outcome.{CommandOutcome}
-use Rattle.migrate_command.specs.inside.Seen.{work_of_migration}
+use Rattle.migrate_command.specs.inside.Meanings.{work_of_migration}
 use Rattle.migrate_command.proofs.MigrateOutcome.{at_log}
 use Rattle.migrate_command.proofs.newer.take_migration.Goals as goal
 

@@ -5,7 +5,7 @@ use Rattle.command_run.specs.CountLaws.{counts_still}
 use Rattle.command_run.specs.FileLaws.{all_files_made, some_files_made}
 use Rattle.command_run.specs.OutcomeLaws.{refused_makes, refused_tells}
 use Rattle.log_pairs.specs.declared.pairs.Loaded.{Loaded}
-use Rattle.log_pairs.specs.Seen.{WereLoaded, pair_of}
+use Rattle.log_pairs.specs.Meanings.{WereLoaded, pair_of}
 use Rattle.replay_command.specs.Report.{replay_outcome}
 use Rattle.replay_command.proofs.ReplayOutcome.{images_begun, images_made, opening_stops, replay_makes, report_tells}
 use Rattle.replay_command.proofs.replaying.replay.Goals as goal

@@ -4,7 +4,7 @@ use Rattle.proc_replay.specs.Replaying.{Replaying}
 use Rattle.schedule_text.specs.Limits.{most_runs}
 use Rattle.group_state.specs.Place.{GroupPlace, events_of_replays}
 use Rattle.schedule_back.specs.Outcome.{first_not_whole, text_or_refusal}
-use Rattle.schedule_back.specs.Seen.{IsBackError}
+use Rattle.schedule_back.specs.Meanings.{IsBackError}
 use Rattle.schedule_back.specs.inside.Draft.{IsDraft}
 use Rattle.schedule_back.proofs.DraftOutcome.{answers}
 use Rattle.schedule_back.proofs.back.schedule_back.Goals as goal

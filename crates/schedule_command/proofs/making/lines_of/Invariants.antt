@@ -1,5 +1,5 @@
 use Rattle.std.proofs.Common.{map, take}
-use Rattle.log_pairs.specs.Seen.{pair_of}
+use Rattle.log_pairs.specs.Meanings.{pair_of}
 use Rattle.schedule_command.proofs.ScheduleLines.{AreLines}
 use Rattle.schedule_command.proofs.making.lines_of.Given as goal
 

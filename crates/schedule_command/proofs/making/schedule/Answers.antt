@@ -2,7 +2,7 @@ use Rattle.std.proofs.Common.{◌≡◌, ◌∙◌, List, Err, map, subst, sym}
 use Rattle.std.proofs.lemmas.Result.{err_from_is_err_and}
 use Rattle.command_run.specs.CountLaws.{counts_of_part, counts_still}
 use Rattle.log_pairs.specs.declared.pairs.Loaded.{Loaded}
-use Rattle.log_pairs.specs.Seen.{AreLoadedPairs, WereLoaded, pair_of}
+use Rattle.log_pairs.specs.Meanings.{AreLoadedPairs, WereLoaded, pair_of}
 use Rattle.schedule_command.proofs.MadeSchedule.{made_back}
 use Rattle.schedule_command.proofs.NoFileMade.{not_diverged, not_read, performed, was_made}
 use Rattle.schedule_command.proofs.making.schedule.Goals as goal

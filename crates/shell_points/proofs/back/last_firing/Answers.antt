@@ -5,7 +5,7 @@ use Rattle.group_state.specs.Touch.{watch_ticks}
 use Rattle.shell_points.specs.declared.point.Point.{Point as Held}
 use Rattle.shell_points.specs.Firing.{firing_lines, place_at}
 use Rattle.shell_points.specs.Returning.{return_from}
-use Rattle.shell_points.specs.inside.Seen.{point, return_of}
+use Rattle.shell_points.specs.inside.Meanings.{point, return_of}
 use Rattle.shell_points.proofs.LastFiring.{begins_so, goes_to, later_last}
 use Rattle.shell_points.specs.Watching.{watched_expressions}
 use Rattle.shell_points.proofs.PointReads.{moved_on, read_before, read_now, ticked_from_start}

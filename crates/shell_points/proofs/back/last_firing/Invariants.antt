@@ -3,7 +3,7 @@ use Rattle.group_state.specs.Touch.{watch_ticks}
 use Rattle.shell_points.specs.declared.point.Point.{Point as Held}
 use Rattle.shell_points.specs.Firing.{place_at}
 use Rattle.shell_points.specs.Returning.{return_from}
-use Rattle.shell_points.specs.inside.Seen.{point, return_of}
+use Rattle.shell_points.specs.inside.Meanings.{point, return_of}
 use Rattle.shell_points.specs.inside.Watches.{IsWatching}
 use Rattle.shell_points.specs.Watching.{watched_expressions}
 use Rattle.shell_points.proofs.back.last_firing.Given as goal

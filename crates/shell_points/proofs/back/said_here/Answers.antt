@@ -1,7 +1,7 @@
 use Rattle.std.proofs.Common.{◌≡◌, ◌<◌, ◌-◌, None, length, get_or, map, sym, arith}
 use Rattle.shell_points.specs.declared.point.Point.{Point as Held}
 use Rattle.shell_points.specs.Firing.{firing_lines}
-use Rattle.shell_points.specs.inside.Seen.{point}
+use Rattle.shell_points.specs.inside.Meanings.{point}
 use Rattle.shell_points.proofs.LastFiring.{said_more}
 use Rattle.shell_points.proofs.PointWalks.{read_at, said}
 use Rattle.shell_points.proofs.back.said_here.Goals as goal

@@ -4,7 +4,7 @@ use Rattle.group_state.specs.Place.{GroupPlace, events_of_replays}
 use Rattle.shell_points.specs.declared.point.Point.{Point as Held}
 use Rattle.shell_points.specs.Firing.{place_at}
 use Rattle.shell_points.specs.Returning.{return_from}
-use Rattle.shell_points.specs.inside.Seen.{point, return_of}
+use Rattle.shell_points.specs.inside.Meanings.{point, return_of}
 use Rattle.shell_points.proofs.LastFiring.{gone_to, last_within, returns_there}
 use Rattle.shell_points.proofs.back.walk_back.Goals as goal
 

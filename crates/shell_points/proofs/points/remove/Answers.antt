@@ -1,7 +1,7 @@
 use Rattle.std.proofs.Common.{◌≡◌, ◌∙◌, List, filter, map, nat_eq, not, ap, rules}
 use Rattle.std.proofs.lemmas.Fn.{filter_same}
 use Rattle.shell_points.specs.declared.point.Point.{Point as Held}
-use Rattle.shell_points.specs.inside.Seen.{point}
+use Rattle.shell_points.specs.inside.Meanings.{point}
 use Rattle.shell_points.proofs.HeldPoints.{without_same}
 use Rattle.shell_points.proofs.points.remove.Goals as goal
 

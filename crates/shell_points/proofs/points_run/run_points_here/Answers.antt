@@ -2,7 +2,7 @@ use Rattle.std.proofs.Common.{◌≡◌, ◌-◌, false, map, sym, ◌∙◌}
 use Rattle.shell_points.specs.declared.point.Point.{Point as Held}
 use Rattle.shell_points.specs.Firing.{has_due_point}
 use Rattle.shell_points.specs.inside.Reading.{point_readings}
-use Rattle.shell_points.specs.inside.Seen.{point}
+use Rattle.shell_points.specs.inside.Meanings.{point}
 use Rattle.shell_points.specs.Walking.{quiet_program}
 use Rattle.shell_points.proofs.PointReads.{nothing_done, where_none}
 use Rattle.shell_points.proofs.points_run.run_points_here.Goals as goal

@@ -1,6 +1,6 @@
 use Rattle.std.proofs.Common.{◌≡◌, ◌<◌, ◌-◌, None, length, get_or, map, sym, arith}
 use Rattle.shell_points.specs.declared.point.Point.{Point as Held}
-use Rattle.shell_points.specs.inside.Seen.{point, run_so_far}
+use Rattle.shell_points.specs.inside.Meanings.{point, run_so_far}
 use Rattle.shell_points.specs.Walking.{quiet_program, treat_points}
 use Rattle.shell_points.proofs.PointWalks.{read_at, treated, treated_more}
 use Rattle.shell_points.proofs.points_run.treat_points.Goals as goal

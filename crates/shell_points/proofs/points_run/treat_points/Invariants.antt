@@ -1,6 +1,6 @@
 use Rattle.std.proofs.Common.{◌≡◌, drop, map}
 use Rattle.shell_points.specs.declared.point.Point.{Point as Held}
-use Rattle.shell_points.specs.inside.Seen.{point, run_so_far}
+use Rattle.shell_points.specs.inside.Meanings.{point, run_so_far}
 use Rattle.shell_points.specs.Walking.{quiet_program, treat_points}
 use Rattle.shell_points.proofs.points_run.treat_points.Given as goal
 

@@ -6,8 +6,8 @@ use Rattle.group_state.specs.Place.{GroupPlace, events_of_replays}
 use Rattle.group_state.specs.Touch.{watch_ticks}
 use Rattle.shell_points.specs.declared.point.Point.{Point as Held}
 use Rattle.shell_points.specs.Firing.{place_at}
-use Rattle.shell_points.specs.Seen.{PointsWalk}
-use Rattle.shell_points.specs.inside.Seen.{point, run_so_far}
+use Rattle.shell_points.specs.Meanings.{PointsWalk}
+use Rattle.shell_points.specs.inside.Meanings.{point, run_so_far}
 use Rattle.group_texts.specs.Texts.{position_line}
 use Rattle.shell_points.specs.Walking.{lines_in, most_lines, quiet_program, treat_points, walk_ended, walk_from, walk_on, walk_over}
 use Rattle.shell_points.proofs.PointWalks.{arrives, lines_append, moves_on, pauses_here, rests_here, stays, step, stops_here}

@@ -2,7 +2,7 @@ use Rattle.std.proofs.Common.{◌≡◌, ◌+◌, ◌-◌, ◌≤◌, length, ma
 use Rattle.group_state.specs.Place.{events_of_replays}
 use Rattle.group_state.specs.Touch.{watch_ticks}
 use Rattle.shell_points.specs.declared.point.Point.{Point as Held}
-use Rattle.shell_points.specs.inside.Seen.{point}
+use Rattle.shell_points.specs.inside.Meanings.{point}
 use Rattle.shell_points.specs.Walking.{lines_in, walk_from, walk_over}
 use Rattle.shell_points.specs.inside.Watches.{IsWatching}
 use Rattle.shell_points.specs.Watching.{watched_expressions}

@@ -1,6 +1,6 @@
 use Rattle.std.proofs.Common.{◌<◌, ◌++◌, List, length, map, sym, ap, ◌∙◌, arith}
 use Rattle.watch_expr.specs.Expression.{Expression}
-use Rattle.shell_points.specs.inside.Seen.{point}
+use Rattle.shell_points.specs.inside.Meanings.{point}
 use Rattle.shell_points.specs.Watching.{expressions_of}
 use Rattle.shell_points.proofs.PointReads.{watched_next}
 use Rattle.shell_points.proofs.watching.watch_all.Goals as goal

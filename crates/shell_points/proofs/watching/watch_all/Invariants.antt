@@ -1,9 +1,9 @@
 use Rattle.std.proofs.Common.{◌≡◌, map, take}
 use Rattle.std.specs.Prelude.{All}
-use Rattle.group_state.specs.Seen.{nodes_at}
+use Rattle.group_state.specs.Nodes.{nodes_at}
 use Rattle.page_watch.specs.Watched.{WatchStands, Watched}
 use Rattle.shell_points.specs.declared.point.Point.{Point as Held}
-use Rattle.shell_points.specs.inside.Seen.{point}
+use Rattle.shell_points.specs.inside.Meanings.{point}
 use Rattle.shell_points.specs.Watching.{watched_expressions}
 use Rattle.shell_points.proofs.watching.watch_all.Given as goal
 

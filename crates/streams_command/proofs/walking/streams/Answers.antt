@@ -4,7 +4,7 @@ use Rattle.command_run.specs.declared.refusal.WorkText.TheVariants as answered
 use Rattle.command_run.specs.declared.refusal.StopCause.TheVariants as refusal
 use Rattle.command_run.specs.CountLaws.{counts_of_part, counts_still}
 use Rattle.log_pairs.specs.declared.pairs.Loaded.{Loaded}
-use Rattle.log_pairs.specs.Seen.{WereLoaded, pair_of}
+use Rattle.log_pairs.specs.Meanings.{WereLoaded, pair_of}
 use Rattle.streams_command.proofs.NoFileMade.{finished, stopped, stops_too}
 use Rattle.streams_command.proofs.walking.streams.Goals as goal
 

@@ -5,7 +5,7 @@ use Rattle.proc_replay.specs.Replaying.{Replaying}
 use Rattle.group_state.specs.declared.event.GroupEvent.{GroupEvent}
 use Rattle.group_state.specs.Moves.{GroupMoves}
 use Rattle.group_state.specs.Place.{group_count}
-use Rattle.streams_command.specs.inside.Seen.{IsToldOf}
+use Rattle.streams_command.specs.inside.Meanings.{IsToldOf}
 use Rattle.streams_command.specs.Streams.{traffic_of_event}
 use Rattle.streams_command.proofs.GroupWalk.{all_walked, is_next, one_walked, process_read}
 use Rattle.streams_command.proofs.walking.walk.Goals as goal

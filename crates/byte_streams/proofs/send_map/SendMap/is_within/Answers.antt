@@ -1,6 +1,6 @@
 use Rattle.std.proofs.Common.{Option, ap, sym, ◌∙◌}
 use Rattle.byte_streams.specs.inside.Keeping.{is_front_of_sent}
-use Rattle.byte_streams.specs.Seen.{piece_of}
+use Rattle.byte_streams.specs.Meanings.{piece_of}
 use Rattle.byte_streams.specs.declared.send_map.SentChunk.{SentChunk}
 use Rattle.byte_streams.proofs.TreeMaps.{by_sender_exact, get-seen}
 use Rattle.byte_streams.proofs.send_map.SendMap.is_within.Goals as goal

@@ -1,6 +1,6 @@
 use Rattle.std.proofs.Common.{None, Some, ap, sym, ◌∙◌, rules}
 use Rattle.byte_streams.specs.inside.Keeping.{piece_stands_among}
-use Rattle.byte_streams.specs.Seen.{piece_of}
+use Rattle.byte_streams.specs.Meanings.{piece_of}
 use Rattle.byte_streams.proofs.PieceChanges.{taken_there}
 use Rattle.byte_streams.proofs.TreeMaps.{by_stream_exact, get-seen, insert-seen}
 use Rattle.byte_streams.proofs.stream_map.StreamMap.cover.Goals as goal

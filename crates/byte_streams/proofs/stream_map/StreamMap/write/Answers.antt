@@ -2,7 +2,7 @@ use Rattle.std.proofs.Common.{None, Some, ap, ◌∙◌, rules}
 use Rattle.std.specs.BTreeMap.{BTreeMap}
 use Rattle.std.specs.FinMap as map
 use Rattle.byte_streams.specs.Keys.{StreamContents, StreamKey}
-use Rattle.byte_streams.specs.Seen.{piece_of}
+use Rattle.byte_streams.specs.Meanings.{piece_of}
 use Rattle.byte_streams.proofs.PieceChanges.{begun, counts_there, sent_there}
 use Rattle.byte_streams.proofs.TreeMaps.{by_stream_exact, get-seen, insert-seen}
 use Rattle.byte_streams.proofs.stream_map.StreamMap.write.Goals as goal

@@ -1,5 +1,5 @@
 use Rattle.std.proofs.Common.{sym}
-use Rattle.byte_streams.specs.Seen.{piece_of}
+use Rattle.byte_streams.specs.Meanings.{piece_of}
 use Rattle.byte_streams.proofs.StreamsSteps.{receive_covering, receive_outside, receive_elsewhere}
 use Rattle.byte_streams.proofs.streams.Streams.add_received.Goals.{then-not-is_within-via-then-not-is_within, then-not-is_within-via-else-not-is_within+then-not-cover}
 use Rattle.byte_streams.proofs.KeptAfterReceive.{received_plain}

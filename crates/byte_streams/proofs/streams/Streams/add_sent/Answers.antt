@@ -1,5 +1,5 @@
 use Rattle.std.proofs.Common.{sym}
-use Rattle.byte_streams.specs.Seen.{piece_of}
+use Rattle.byte_streams.specs.Meanings.{piece_of}
 use Rattle.byte_streams.proofs.KeptAfterSend.{sent_plain}
 use Rattle.byte_streams.proofs.StreamsSteps.{counting_send, strange_send}
 use Rattle.byte_streams.proofs.streams.Streams.add_sent.Goals as goal

@@ -1,5 +1,5 @@
 use Rattle.std.proofs.Common.{◌≡◌, ◌+◌, ℕ, sym, ap, ◌∙◌, arith}
-use Rattle.shell_lines.specs.Seen.{command}
+use Rattle.shell_lines.specs.Spelled.{command}
 use Rattle.group_state.specs.Place.{node_names}
 use Rattle.friday_shell.specs.Points.{SessionState}
 use Rattle.friday_shell.specs.Ticks.{command_ticks}

@@ -1,7 +1,7 @@
 use Rattle.std.proofs.Common.{ap, arith, subst, sym, ◌∙◌}
 use Rattle.lib_calls.specs.Entry.{entry_of}
 use Rattle.wasm_step.specs.Suits.{SuitsModule}
-use Rattle.guest_process.specs.inside.Seen.{state_of}
+use Rattle.guest_process.specs.inside.Meanings.{state_of}
 use Rattle.guest_process.proofs.EventCounts.{counts}
 use Rattle.guest_process.proofs.EventMarks.{numbered_suits}
 use Rattle.guest_process.proofs.body.Body.advance.Goals as goal

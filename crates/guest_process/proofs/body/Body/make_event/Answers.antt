@@ -7,7 +7,7 @@ use Rattle.wasm_step.specs.Strand.{IsHandler, answered_strand}
 use Rattle.guest_process.specs.Answers.{exited_process}
 use Rattle.guest_process.specs.GoesOn.{after_running, with_event_counted, handler, with_handler_frame}
 use Rattle.guest_process.specs.Kinds.{reply_value}
-use Rattle.guest_process.specs.inside.Seen.{state_of}
+use Rattle.guest_process.specs.inside.Meanings.{state_of}
 use Rattle.guest_process.specs.Sound.{StandsAtKind}
 use Rattle.guest_process.specs.State.{awaits_event, thread_at, with_thread}
 use Rattle.guest_process.specs.inside.Advancing.{pending_kind}

@@ -1,7 +1,7 @@
 use Rattle.std.proofs.Common.{◌≡◌, None, ap, sym, subst, ◌∙◌}
 use Rattle.lib_calls.specs.Entry.{entry_of}
 use Rattle.guest_process.specs.Legal.{reason}
-use Rattle.guest_process.specs.inside.Seen.{IsOfModule, state_of}
+use Rattle.guest_process.specs.inside.Meanings.{IsOfModule, state_of}
 use Rattle.guest_process.proofs.EventCode.{process_kept}
 use Rattle.guest_process.proofs.EventMarks.{MarkLaws}
 use Rattle.guest_process.proofs.process.Process.advance.Goals as goal

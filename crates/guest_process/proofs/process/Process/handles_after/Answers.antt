@@ -2,8 +2,8 @@ use Rattle.std.proofs.Common.{◌≡◌, Some, ap, sym, subst, ◌∙◌}
 use Rattle.std.specs.Prelude.{is_some, option_copied}
 use Rattle.guest_process.specs.declared.body.Body.{Body}
 use Rattle.guest_process.specs.GoesOn.{handler}
-use Rattle.guest_process.specs.Seen.{answered_at}
-use Rattle.guest_process.specs.inside.Seen.{state_of}
+use Rattle.guest_process.specs.Meanings.{answered_at}
+use Rattle.guest_process.specs.inside.Meanings.{state_of}
 use Rattle.guest_process.specs.State.{thread_at}
 use Rattle.guest_process.proofs.process.Process.handles_after.Goals as goal
 

@@ -4,7 +4,7 @@ use Rattle.call_log.specs.Log.{Log}
 use Rattle.guest_process.specs.State.{State}
 use Rattle.proc_replay.specs.declared.replayer.Ahead.{Ahead}
 use Rattle.proc_replay.specs.inside.Ahead.{IsAhead, replaying}
-use Rattle.proc_replay.specs.Seen.{move_of}
+use Rattle.proc_replay.specs.Meanings.{move_of}
 use Rattle.proc_replay.proofs.NextEntry.{made}
 use Rattle.proc_replay.proofs.replayer.Replayer.next_event.Goals as goal
 

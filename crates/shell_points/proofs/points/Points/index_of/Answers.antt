@@ -2,7 +2,7 @@ use Rattle.std.proofs.Common.{◌∙◌, ℕ, ◌<◌, List, length, map, ap, su
 use Rattle.std.proofs.lemmas.List.{length-map}
 use Rattle.std.specs.Prelude.{IfSome}
 use Rattle.shell_points.specs.Points.{Point, index_of_point}
-use Rattle.shell_points.specs.inside.Seen.{point}
+use Rattle.shell_points.specs.inside.Meanings.{point}
 use Rattle.shell_points.specs.declared.point.Point.{Point as Held}
 use Rattle.shell_points.proofs.HeldPoints.{places_same}
 use Rattle.shell_points.proofs.points.Points.index_of.Goals as goal

@@ -1,4 +1,4 @@
--- What an expression sees of a group.
+-- The nodes of a group that an expression is evaluated over.
 use Rattle.std.specs.Prelude.{List, map, ℤ, pos}
 use Rattle.std.specs.Int.{cast_signed, w32, w64}
 use Rattle.wasm_types.specs.declared.code.Value.{Value}

@@ -1,4 +1,4 @@
--- What the values of the code stand for.
+-- The schedule that the answer of the code stands for.
 use Rattle.std.specs.Prelude.{◌≡◌, List, Ok}
 use Rattle.command_run.specs.declared.refusal.WorkText.{WorkText}
 use Rattle.command_run.specs.declared.refusal.WorkText.TheVariants as answered

@@ -1,4 +1,4 @@
--- What the values of the code stand for.
+-- The move of a replay that a turn of the code stands for.
 use Rattle.lib_calls.specs.Entry.{entry_of}
 use Rattle.proc_replay.specs.declared.turn.Turn.{Turn}
 use Rattle.proc_replay.specs.declared.turn.Turn.TheVariants as code

@@ -1,4 +1,4 @@
--- What the values of the code stand for.
+-- The traffic that what the code told stands for.
 use Rattle.std.specs.Prelude.{◌≡◌, List}
 use Rattle.byte_streams.specs.Stands.{StandsFor}
 use Rattle.byte_streams.specs.Traffic.{SendOrReceive}

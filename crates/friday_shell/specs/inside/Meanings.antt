@@ -1,10 +1,10 @@
--- What the values of the code stand for.
+-- The session that the state of the code stands for, and what a line is to each session.
 use Rattle.std.specs.Prelude.{◌≡◌, ℕ, List}
 use Rattle.group_state.specs.Place.{GroupPlace, node_names}
 use Rattle.friday_shell.specs.declared.state.PointsAndVariables.{PointsAndVariables}
 use Rattle.friday_shell.specs.declared.state.State.{State as Stands}
 use Rattle.shell_lines.specs.Meaning.{trimmed}
-use Rattle.shell_lines.specs.Seen.{meaning}
+use Rattle.shell_lines.specs.Spelled.{meaning}
 use Rattle.shell_lines.specs.declared.line.Line.{Line}
 use Rattle.friday_shell.specs.Points.{SessionState}
 use Rattle.friday_shell.specs.Answer.{LineAnswer, answer, answer_of_meaning}

@@ -1,4 +1,4 @@
--- What the values of the code stand for.
+-- The points, the run of their programs and the end of a walk back that values of the code stand for.
 use Rattle.std.specs.Prelude.{option_map}
 use Rattle.embed_cmds.specs.Tree.{program_body}
 use Rattle.shell_points.specs.declared.point.Point.{Point as Held}
@@ -6,7 +6,7 @@ use Rattle.embed_cmds.specs.Running.{ProgramState}
 use Rattle.shell_points.specs.declared.points_run.PointsRun.{PointsRun}
 use Rattle.shell_points.specs.declared.back.Return.{Return as Ended}
 use Rattle.shell_points.specs.Points.{Point}
-use Rattle.shell_points.specs.Seen.{trigger}
+use Rattle.shell_points.specs.Meanings.{trigger}
 use Rattle.shell_points.specs.Returning.{Return}
 
 abbrev pub point : Held → Point

@@ -1,4 +1,4 @@
--- What the values of the code stand for.
+-- What an error of a cut says of the lengths that were asked for.
 use Rattle.std.specs.Prelude.{◌≡◌, Option, None}
 use Rattle.causal_cut.specs.declared.refusal.CutError.{CutError}
 use Rattle.causal_cut.specs.declared.refusal.CutError.TheVariants as error

@@ -1,4 +1,4 @@
--- What the values of the code stand for.
+-- The line, and the command, that the values of the code spell.
 use Rattle.watch_expr.specs.Expression.{expression_of}
 use Rattle.embed_cmds.specs.Tree.{program_body}
 use Rattle.shell_lines.specs.declared.command.DebuggerCommand.{DebuggerCommand as Spelled}

@@ -1,4 +1,4 @@
--- What the values of the code stand for.
+-- The pairs of files, and what the files hold, that the values of the code stand for.
 use Rattle.std.specs.List.{AllByRecursion}
 use Rattle.std.specs.Prelude.{◌≡◌, ◌≢◌, ◌≤◌, List, [], ◌∷◌, length, Option, Some, Ok}
 use Rattle.fri_outside.specs.Outside.{Folder, WhenTold}

@@ -1,4 +1,4 @@
--- The state that the body of a process stands for.
+-- The state that the body of a process stands for, and what holds of it.
 use Rattle.std.specs.Prelude.{◌≡◌}
 use Rattle.guest_process.specs.declared.body.Body.{Body}
 use Rattle.wasm_types.specs.Modules.{module_of}

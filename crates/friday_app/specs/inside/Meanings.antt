@@ -1,6 +1,6 @@
--- Which command the words of the code stand for.
+-- The command that the words of the code stand for.
 use Rattle.std.specs.Prelude.{◌≤◌, map}
-use Rattle.log_pairs.specs.Seen.{pair_of}
+use Rattle.log_pairs.specs.Meanings.{pair_of}
 use Rattle.schedule_text.specs.Limits.{most_rounds}
 use Rattle.friday_app.specs.declared.command.Command.{Command as Words}
 use Rattle.friday_app.specs.declared.command.Command.TheVariants as words

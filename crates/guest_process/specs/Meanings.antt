@@ -1,4 +1,4 @@
--- What contracts see of a process, and what the code answers.
+-- What a process answers its caller: the need of a call, the threads that can go on, and why an entry was refused.
 use Rattle.std.specs.Prelude.{ℕ, ⊤, Bool, Option, Some, None, is_some, Result, Ok, Err, if◌then◌else◌}
 use Rattle.lib_calls.specs.Answer.{Answer}
 use Rattle.guest_process.specs.declared.divergence.Divergence.{Divergence}

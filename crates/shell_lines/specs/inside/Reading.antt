@@ -8,7 +8,7 @@ use Rattle.shell_lines.specs.declared.command.DebuggerCommand.{DebuggerCommand a
 use Rattle.watch_expr.specs.Computed.{cut_tokens}
 use Rattle.shell_lines.specs.declared.refusal.LineRefusal.TheVariants as refusal
 use Rattle.shell_lines.specs.Lines.{LineCommand, has_nested, names_none}
-use Rattle.shell_lines.specs.Seen.{command}
+use Rattle.shell_lines.specs.Spelled.{command}
 use Rattle.shell_lines.specs.Meaning.{Refuses, by_cut, judged_command}
 
 -- what was read of tokens: what there is to read, or the column of the token that is none such; or want of memory

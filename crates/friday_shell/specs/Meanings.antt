@@ -1,4 +1,4 @@
--- What the values of the code stand for.
+-- What the code says that a line did: its text, the session after it, and whether it quits.
 use Rattle.std.specs.Prelude.{◌≡◌, ℕ, Bool, true, false, List}
 use Rattle.friday_shell.specs.declared.session.Go.{Go}
 use Rattle.friday_shell.specs.declared.session.Go.TheVariants as go

@@ -1,4 +1,4 @@
--- What was made ready.
+-- The work that a migration of the code stands for.
 use Rattle.std.specs.Prelude.{ℕ, List, [], ◌∷◌, false}
 use Rattle.command_run.specs.Outcome.{CommandWork}
 use Rattle.migrate_command.specs.declared.newer.Migration.{Migration}

@@ -1,4 +1,4 @@
--- What the values of the code stand for.
+-- The trigger of a point of the code, and where the walks of the code end.
 use Rattle.std.specs.Prelude.{◌≡◌, ℕ, List, ◌++◌}
 use Rattle.watch_expr.specs.Expression.{expression_of}
 use Rattle.group_state.specs.Place.{GroupPlace}

@@ -1,4 +1,4 @@
--- What the values of the code stand for.
+-- The fronts of logs, and the work, that a past of the code stands for.
 use Rattle.std.specs.Prelude.{◌≡◌, ℕ, false, List, [], ◌∷◌, map, take, Some}
 use Rattle.call_log.specs.Log.{Log, entries_of, rewritten_log}
 use Rattle.proc_replay.specs.Replaying.{Replaying}

@@ -1,4 +1,4 @@
--- What the values of the code stand for.
+-- The texts of the code's answer: each records to the logs again.
 use Rattle.std.specs.Prelude.{List}
 use Rattle.fri_outside.specs.Outside.{Folder}
 use Rattle.command_run.specs.declared.refusal.WorkText.{WorkText}

@@ -1,4 +1,4 @@
--- What code has at hand, as contracts see it.
+-- The piece of a stream that a chunk of the code stands for.
 use Rattle.byte_streams.specs.declared.chunk.Chunk.{Chunk}
 use Rattle.byte_streams.specs.Chunk.{StreamPiece}
 

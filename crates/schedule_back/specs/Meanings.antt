@@ -1,4 +1,4 @@
--- What the values of the code stand for.
+-- The refusal that an error of the way back stands for, and events that bring bytes in.
 use Rattle.std.specs.Prelude.{◌≡◌, ℕ, List, All, Result, Err}
 use Rattle.fri_bytes.specs.Laws.{AreBytes}
 use Rattle.lib_calls.specs.declared.entry.Entry.{Entry}
