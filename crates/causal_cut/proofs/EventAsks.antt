@@ -14,7 +14,7 @@ use Rattle.group_order.specs.Order.{NodeEvent, of_node}
 use Rattle.proc_replay.specs.Course.{entries_ahead}
 use Rattle.proc_replay.specs.Replaying.{Replaying}
 use Rattle.group_state.specs.Laws.{SendsFirst}
-use Rattle.group_state.specs.Place.{AscendsByProcess, PartsFit, entry_clock, events_of_replays}
+use Rattle.group_state.specs.Place.{AscendsByProcess, ReplaysFit, entry_clock, events_of_replays}
 use Rattle.causal_cut.specs.declared.asks.Ask.{Ask}
 use Rattle.causal_cut.specs.inside.Asks.{ask_by, ask_for, ask_of, number_among, process_numbers}
 use Rattle.causal_cut.specs.Past.{count_asked, count_to, is_within_lengths}
@@ -112,7 +112,7 @@ count_none : (place : Option ℕ) → option_map suc place ≡ None → option_m
 count_none None is = refl
 count_none (Some i) is = absurd (cc)
 
-module _ (sends : SendsFirst) (start : List Replaying) (fits : PartsFit start) (k : ℕ) (taken : NodeEvent Entry) (there : slice_get (events_of_replays start) k ≡ Some taken) (tag : Tag)
+module _ (sends : SendsFirst) (start : List Replaying) (fits : ReplaysFit start) (k : ℕ) (taken : NodeEvent Entry) (there : slice_get (events_of_replays start) k ≡ Some taken) (tag : Tag)
     (tagged : taken.entry.tag ≡ Some tag) where
   -- it is among the events before, where it is accepted
   early : (node i : ℕ) (x : Entry) → slice_get (of_node node (events_of_replays start)) i ≡ Some x → has_clock tag.clock x ≡ true → i < length (of_node node (take k (events_of_replays start)))
@@ -157,7 +157,7 @@ asked_own tag r same = ap (λ b. cond b (count_to tag.clock (entries_ahead r)) 0
 asked_other : (tag : Tag) (r : Replaying) → (r.head.process == tag.sender) ≡ false → count_asked (Some tag) r ≡ 0
 asked_other tag r other = ap (λ b. cond b (count_to tag.clock (entries_ahead r)) 0) other
 
-module _ (sends : SendsFirst) (start : List Replaying) (fits : PartsFit start) (up : AscendsByProcess start) (own : (j : ℕ) (r : Replaying) → slice_get start j ≡ Some r → of_node j (events_of_replays start) ≡ entries_ahead r)
+module _ (sends : SendsFirst) (start : List Replaying) (fits : ReplaysFit start) (up : AscendsByProcess start) (own : (j : ℕ) (r : Replaying) → slice_get start j ≡ Some r → of_node j (events_of_replays start) ≡ entries_ahead r)
     (clocks : List (List ℕ)) (k : ℕ) (so_far : (j : ℕ) → get_or clocks j [] ≡ map entry_clock (of_node j (take k (events_of_replays start))))
     (taken : NodeEvent Entry) (there : slice_get (events_of_replays start) k ≡ Some taken) where
   abbrev ask_with : ℕ → ℕ → Ask

@@ -13,7 +13,7 @@ use Rattle.proc_replay.specs.Course.{entries_ahead}
 use Rattle.proc_replay.specs.Replaying.{Replaying}
 use Rattle.group_state.specs.Laws.{Ordered, SendsFirst}
 use Rattle.group_state.specs.Moves.{GroupMoves, event_of}
-use Rattle.group_state.specs.Place.{AreParts, PartsFit, GroupPlace, entry_clock, events_of_replays}
+use Rattle.group_state.specs.Place.{AreGroupReplays, ReplaysFit, GroupPlace, entry_clock, events_of_replays}
 use Rattle.group_state.specs.declared.event.GroupEvent.{GroupEvent}
 use Rattle.causal_cut.specs.declared.asks.Ask.{Ask}
 use Rattle.causal_cut.specs.inside.Asks.{AreAsks, AreClocks, AreCountedAsks, AreOrderedAsks, AreRisingClocks, AreOfNodes, IsMetAsk, PrecedesAsk, ask_of, process_numbers, with_node_clock}
@@ -196,7 +196,7 @@ lengths_at [] j = refl
 lengths_at (own ∷ clocks) zero = refl
 lengths_at (own ∷ clocks) (suc j) = lengths_at clocks j
 
-module _ (ordered : Ordered) (sends : SendsFirst) (start : List Replaying) (parts : AreParts start) (fits : PartsFit start) where
+module _ (ordered : Ordered) (sends : SendsFirst) (start : List Replaying) (replayers : AreGroupReplays start) (fits : ReplaysFit start) where
   own : (j : ℕ) → of_node j (events_of_replays start) ≡ list_of (map entries_ahead start) j
   own j = (ordered start fits).0.own j
 
@@ -230,7 +230,7 @@ module _ (ordered : Ordered) (sends : SendsFirst) (start : List Replaying) (part
   pub one_seen : (k : ℕ) (e : NodeEvent Entry) (clocks : List (List ℕ)) (asks : List Ask) → slice_get (events_of_replays start) k ≡ Some e → IsSeen start (take k (events_of_replays start)) clocks asks
       → IsSeen start (take (suc k) (events_of_replays start)) (with_node_clock clocks e.node e.entry.clock) (asks ++ option_to_list (ask_of (process_numbers start) clocks e))
   one_seen k e clocks asks there seen =
-      let asks_so = event_asks sends start fits parts.ascends (λ j r at_j. own j ∙ list_at start j r at_j) clocks k seen.so_far e there in
+      let asks_so = event_asks sends start fits replayers.ascends (λ j r at_j. own j ∙ list_at start j r at_j) clocks k seen.so_far e there in
       subst (λ (front : List (NodeEvent Entry)). IsSeen start front (with_node_clock clocks e.node e.entry.clock) (asks ++ option_to_list (ask_of (process_numbers start) clocks e))) (sym (take_more (events_of_replays start) k e there))
       (event_seen start k clocks asks e seen (node_within k e there) (ask_of (process_numbers start) clocks e) asks_so)
 
@@ -275,7 +275,7 @@ walk_begins first numbers clocks asks none are none_yet no_asks =
           (subst (λ (n : ℕ). IsSeen first.start (take n (events_of_replays first.start)) clocks []) (sym none) seen);
     }
 
-module _ (ordered : Ordered) (sends : SendsFirst) (first : GroupPlace) (parts : AreParts first.start) (fits : PartsFit first.start) (numbers : List ℕ) (are : numbers ≡ process_numbers first.start)
+module _ (ordered : Ordered) (sends : SendsFirst) (first : GroupPlace) (replayers : AreGroupReplays first.start) (fits : ReplaysFit first.start) (numbers : List ℕ) (are : numbers ≡ process_numbers first.start)
     (old new : GroupPlace) (clocks : List (List ℕ)) (asks : List Ask) (so_far : IsWalked first old clocks asks) where
   count : length numbers ≡ length first.start
   count = ap length are ∙ length-map first.start (λ (r : Replaying). r.head.process)
@@ -284,13 +284,13 @@ module _ (ordered : Ordered) (sends : SendsFirst) (first : GroupPlace) (parts : 
   given event moves = ap (λ (rs : List Replaying). slice_get (events_of_replays rs) old.at) (sym so_far.start) ∙ sym moves.gives
 
   pub few_nodes : length numbers ≤ 16
-  few_nodes = omega (arith, count, parts.few)
+  few_nodes = omega (arith, count, replayers.few)
 
   pub clocks_ready : AreClocks (length numbers) clocks
-  clocks_ready = subst (λ n. AreClocks n clocks) (sym count) (are_clocks ordered sends first.start parts fits old.at clocks asks so_far.seen)
+  clocks_ready = subst (λ n. AreClocks n clocks) (sym count) (are_clocks ordered sends first.start replayers fits old.at clocks asks so_far.seen)
 
   pub node_ready : (event : GroupEvent) → GroupMoves old new (Some event) → event.node < length numbers
-  node_ready event moves = omega (arith, node_within ordered sends first.start parts fits old.at (event_of event) (given event moves), count)
+  node_ready event moves = omega (arith, node_within ordered sends first.start replayers fits old.at (event_of event) (given event moves), count)
 
   pub walk_more : (event : GroupEvent) (later : List (List ℕ)) (more : List Ask) → GroupMoves old new (Some event) → later ≡ with_node_clock clocks event.node event.entry.clock
       → more ≡ asks ++ option_to_list (ask_of numbers clocks (event_of event)) → IsWalked first new later more × (old.at < length (events_of_replays first.start)) × (new.at ≡ suc old.at)
@@ -298,7 +298,7 @@ module _ (ordered : Ordered) (sends : SendsFirst) (first : GroupPlace) (parts : 
       let one : old.at + 1 ≡ suc old.at = omega arith in
       let at_new : new.at ≡ suc old.at = ap (λ (p : GroupPlace). p.at) moves.place ∙ one in
       let below_end = slice_get_within (events_of_replays first.start) old.at (event_of event) (given event moves) in
-      let seen = one_seen ordered sends first.start parts fits old.at (event_of event) clocks asks (given event moves) so_far.seen in
+      let seen = one_seen ordered sends first.start replayers fits old.at (event_of event) clocks asks (given event moves) so_far.seen in
       let all : more ≡ asks ++ option_to_list (ask_of (process_numbers first.start) clocks (event_of event)) = asked_so ∙ ap (λ (ps : List ℕ). asks ++ option_to_list (ask_of ps clocks (event_of event))) are in (
         record {
           start = ap (λ (p : GroupPlace). p.start) moves.place ∙ so_far.start;
@@ -318,4 +318,4 @@ module _ (ordered : Ordered) (sends : SendsFirst) (first : GroupPlace) (parts : 
       let end : old.at ≡ length (events_of_replays first.start) = omega (arith, so_far.within, past (events_of_replays first.start) old.at none) in
       let whole : take old.at (events_of_replays first.start) ≡ events_of_replays first.start = ap (λ n. take n (events_of_replays first.start)) end ∙ take-length (events_of_replays first.start) in
       let seen : IsSeen first.start (events_of_replays first.start) clocks asks = subst (λ (front : List (NodeEvent Entry)). IsSeen first.start front clocks asks) whole so_far.seen in
-      (all_asked ordered sends first.start parts fits clocks asks seen, all_counted ordered sends first.start parts fits clocks asks seen)
+      (all_asked ordered sends first.start replayers fits clocks asks seen, all_counted ordered sends first.start replayers fits clocks asks seen)

@@ -23,13 +23,13 @@ pub(crate) struct Ask {
 /// The number of each node's process.
 pub(crate) fn process_numbers(
     alloc: Global,
-    parts: &[Replayer<'_, '_>],
+    replayers: &[Replayer<'_, '_>],
 ) -> Result<Vec<u32>, AllocError>
-    ensures { IfOk result (λ numbers. numbers.items ≡ process_numbers parts.now) }
+    ensures { IfOk result (λ numbers. numbers.items ≡ process_numbers replayers.now) }
 {
     let mut numbers = Vec::new(alloc);
-    for part in parts {
-        numbers.push(part.head().process)?;
+    for replayer in replayers {
+        numbers.push(replayer.head().process)?;
     }
     Ok(numbers)
 }

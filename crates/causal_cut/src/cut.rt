@@ -1,6 +1,6 @@
 // How much of each log an event needs.
 ghost use Rattle.std.specs.Prelude.{◌≡◌, ◌<◌, IfOk, MatchResult, Some, length, slice_get};
-ghost use Rattle.group_state.specs.Place.{AreParts, PartsFit};
+ghost use Rattle.group_state.specs.Place.{AreGroupReplays, ReplaysFit};
 ghost use Rattle.causal_cut.specs.Laws.{IsLeastPast};
 ghost use Rattle.causal_cut.specs.Past.{lengths_or_none};
 ghost use Rattle.causal_cut.specs.Meanings.{IsCutError};
@@ -49,19 +49,19 @@ impl Cut {
 /// of their processes' numbers, counted from 0.
 pub fn least_cut(
     alloc: Global,
-    parts: Vec<Replayer<'_, '_>>,
+    replayers: Vec<Replayer<'_, '_>>,
     node: u32,
     event: u64,
 ) -> Result<Cut, CutError>
-    requires parts { AreParts parts.items }
-    requires node { node < length parts.items }
-    ensures answer { MatchResult result (λ cut. lengths_or_none parts.entry.items node event ≡ Some cut)
-        (IsCutError (lengths_or_none parts.entry.items node event)) }
-    ensures least { IfOk result (λ cut. IsLeastPast parts.entry.items node event cut.kept) }
-    ensures fits { IfOk result (λ _. PartsFit parts.entry.items) }
+    requires replayers { AreGroupReplays replayers.items }
+    requires node { node < length replayers.items }
+    ensures answer { MatchResult result (λ cut. lengths_or_none replayers.entry.items node event ≡ Some cut)
+        (IsCutError (lengths_or_none replayers.entry.items node event)) }
+    ensures least { IfOk result (λ cut. IsLeastPast replayers.entry.items node event cut.kept) }
+    ensures fits { IfOk result (λ _. ReplaysFit replayers.entry.items) }
 {
-    let processes = process_numbers(alloc, &parts)?;
-    let group = Group::begin(alloc, parts)?;
+    let processes = process_numbers(alloc, &replayers)?;
+    let group = Group::begin(alloc, replayers)?;
     let walked = walk(alloc, group, &processes)?;
     let accepted = walked.counts;
     if event > accepted[node as usize] {

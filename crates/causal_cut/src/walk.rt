@@ -1,6 +1,6 @@
 // The walk over the events of a group.
 ghost use Rattle.std.specs.Prelude.{◌≡◌, IfOk};
-ghost use Rattle.group_state.specs.Place.{PartsFit};
+ghost use Rattle.group_state.specs.Place.{ReplaysFit};
 ghost use Rattle.causal_cut.specs.inside.Asks.{AreAsks, process_numbers};
 ghost use Rattle.causal_cut.specs.Past.{accepted_counts};
 
@@ -26,7 +26,7 @@ pub(crate) fn walk(
     requires numbers { numbers.now ≡ process_numbers group.start }
     ensures asks { IfOk result (λ walked. AreAsks group.entry.start walked.asks.items) }
     ensures counts { IfOk result (λ walked. walked.counts.items ≡ accepted_counts group.entry.start) }
-    ensures fits { IfOk result (λ _. PartsFit group.entry.start) }
+    ensures fits { IfOk result (λ _. ReplaysFit group.entry.start) }
 {
     group_state::laws::ordered();
     let _ = group.position();

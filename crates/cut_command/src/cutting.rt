@@ -52,8 +52,8 @@ pub fn cut<F: Files>(
     ensures least { WhenTold (F.told files.old) (λ folder. IfOk result (λ _. CutsToPast process event (map pair_of pairs.now) folder)) }
 {
     let all = load_all(alloc, pairs, files)?;
-    let parts = begin_all(alloc, &all)?;
-    let past = take_past(alloc, process, event, pairs, &all, parts)?;
+    let replayers = begin_all(alloc, &all)?;
+    let past = take_past(alloc, process, event, pairs, &all, replayers)?;
     write_cuts(alloc, &past.fronts, files)?;
     Ok(WorkText::Done(past.text))
 }

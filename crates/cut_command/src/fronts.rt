@@ -22,13 +22,13 @@ pub(crate) struct Front<'m> {
 /// The logs of these replays.
 pub(crate) fn logs_of<'m>(
     alloc: Global,
-    parts: &[Replayer<'_, 'm>],
+    replayers: &[Replayer<'_, 'm>],
 ) -> Result<Vec<LogView<'m>>, AllocError>
-    ensures { IfOk result (λ logs. logs.items ≡ map log_of_replay parts.now) }
+    ensures { IfOk result (λ logs. logs.items ≡ map log_of_replay replayers.now) }
 {
     let mut logs = Vec::new(alloc);
-    for part in parts {
-        logs.push(part.log())?;
+    for replayer in replayers {
+        logs.push(replayer.log())?;
     }
     Ok(logs)
 }

@@ -4,7 +4,7 @@ ghost use Rattle.fri_outside.specs.Outside.{Counts};
 ghost use Rattle.call_log.specs.Head.{IsHead};
 ghost use Rattle.command_run.specs.Call.{RaisesCount, TellsResult, reads_after, writes_after};
 ghost use Rattle.proc_replay.specs.AtHead.{IsAtHead};
-ghost use Rattle.group_state.specs.Place.{AreParts};
+ghost use Rattle.group_state.specs.Place.{AreGroupReplays};
 ghost use Rattle.causal_cut.specs.Past.{lengths_or_none};
 ghost use Rattle.causal_cut.specs.Meanings.{IsCutError};
 ghost use Rattle.log_pairs.specs.Pairs.{Loaded as LoadedOf};
@@ -29,26 +29,26 @@ pub(crate) struct Past<'m> {
 }
 
 // The node of this process.
-fn node_of(parts: &[Replayer<'_, '_>], process: u32) -> Option<usize>
-    ensures { result ≡ node_of_process process parts.now }
+fn node_of(replayers: &[Replayer<'_, '_>], process: u32) -> Option<usize>
+    ensures { result ≡ node_of_process process replayers.now }
 {
-    parts.iter().position(|part| part.head().process == process)
+    replayers.iter().position(|replayer| replayer.head().process == process)
 }
 
 // How much of these logs the event of this number of a node needs.
 fn least_fronts<'m>(
     alloc: Global,
-    parts: Vec<Replayer<'m, 'm>>,
+    replayers: Vec<Replayer<'m, 'm>>,
     node: usize,
     event: u64,
 ) -> Result<Vec<Front<'m>>, CutError>
-    requires parts { AreParts parts.items }
-    requires node { node < length parts.items }
-    ensures { MatchResult result (λ fronts. AreLeastFronts parts.entry.items node event fronts.items)
-        (IsCutError (lengths_or_none parts.entry.items node event)) }
+    requires replayers { AreGroupReplays replayers.items }
+    requires node { node < length replayers.items }
+    ensures { MatchResult result (λ fronts. AreLeastFronts replayers.entry.items node event fronts.items)
+        (IsCutError (lengths_or_none replayers.entry.items node event)) }
 {
-    let logs = logs_of(alloc, &parts)?;
-    let cut = least_cut(alloc, parts, node as u32, event)?;
+    let logs = logs_of(alloc, &replayers)?;
+    let cut = least_cut(alloc, replayers, node as u32, event)?;
     Ok(fronts_of(alloc, &logs, &cut)?)
 }
 
@@ -59,21 +59,21 @@ pub(crate) fn take_past<'m>(
     event: u64,
     pairs: &[Pair<'_>],
     all: &[Loaded<'_>],
-    parts: Vec<Replayer<'m, 'm>>,
+    replayers: Vec<Replayer<'m, 'm>>,
 ) -> Result<Past<'m>, StopCause>
-    requires parts { AreParts parts.items }
-    requires at_heads { All IsAtHead parts.items }
-    ensures answer { (ls : List LoadedOf) → AreLoadedPairs all.now ls → TellsResult work_of_past (cut_of_replays (map pair_of pairs.now) ls process event parts.entry.items) result }
-    ensures least { IfOk result (λ past. IsCutLog process event parts.entry.items (work_of_past past)) }
+    requires replayers { AreGroupReplays replayers.items }
+    requires at_heads { All IsAtHead replayers.items }
+    ensures answer { (ls : List LoadedOf) → AreLoadedPairs all.now ls → TellsResult work_of_past (cut_of_replays (map pair_of pairs.now) ls process event replayers.entry.items) result }
+    ensures least { IfOk result (λ past. IsCutLog process event replayers.entry.items (work_of_past past)) }
     ensures heads { IfOk result (λ past. All (λ front. IsHead front.log.head) past.fronts.items) }
     ensures cause { (old new : Counts) → IfErr result (RaisesCount old new) }
     ensures still { (n : ℕ) → (reads_after n result ≡ n) × (writes_after n result ≡ n) }
 {
     causal_cut::laws::fronts_replay();
-    let Some(node) = node_of(&parts, process) else {
+    let Some(node) = node_of(&replayers, process) else {
         return Err(StopCause::refuse(alloc, first_log(pairs), Reason::NoProcess));
     };
-    let fronts = match least_fronts(alloc, parts, node, event) {
+    let fronts = match least_fronts(alloc, replayers, node, event) {
         Ok(fronts) => fronts,
         Err(CutError::NoEvent) => {
             let file = log_file(pairs, all, process);

@@ -1,7 +1,7 @@
 // A session that is read from an input, and answered line by line.
 ghost use Rattle.std.specs.Prelude.{◌≡◌, ◌∷◌, ◌≤◌, ◌<◌, ◌+◌, [], length, take, IfOk, IsTrue, MatchResult};
 ghost use Rattle.fri_text.specs.Line.{lines_of};
-ghost use Rattle.group_state.specs.Place.{AreParts};
+ghost use Rattle.group_state.specs.Place.{AreGroupReplays};
 ghost use Rattle.debug_command.specs.declared.converse.Ended.TheVariants as cause;
 ghost use Rattle.debug_command.specs.inside.Conversing.{ConversesInSession, terminal_at};
 ghost use Rattle.debug_command.specs.inside.Talk.{SessionBreaksFrom, SessionGoesOn, SessionHearsFrom, HeldSession, SessionHoldsFrom, SessionOpens, SessionOpensPart, SpokeLines, SessionStopsIn, ended_by, exchange_of, heard_of, listened_after, failed_says_of_session, session_talk_of, why_session_ended};
@@ -79,18 +79,18 @@ struct LineReader<'m, 'a> {
 // Begins a session over these replays, and says so.
 fn begin<'m, 'a, K: Sink>(
     alloc: Global,
-    parts: Vec<Replayer<'m, 'a>>,
+    replayers: Vec<Replayer<'m, 'a>>,
     out: &mut K,
 ) -> Result<LineReader<'m, 'a>, Ended>
-    requires { AreParts parts.items }
+    requires { AreGroupReplays replayers.items }
     ensures said { MatchResult result
-        (λ talk. SessionOpens parts.entry.items (K.taken out.old) (K.taken out.new) (session_talk_of talk))
-        (SessionOpensPart parts.entry.items (K.taken out.old) (K.taken out.new)) }
+        (λ talk. SessionOpens replayers.entry.items (K.taken out.old) (K.taken out.new) (session_talk_of talk))
+        (SessionOpensPart replayers.entry.items (K.taken out.old) (K.taken out.new)) }
     ensures count { IfOk result (λ talk. talk.count ≡ 0) }
     ensures counted { K.faults out.new ≡ failed_says_of_session (K.faults out.old) result }
     ensures heard { K.hearing out.new ≡ K.hearing out.old }
 {
-    let group = Group::begin(alloc, parts)?;
+    let group = Group::begin(alloc, replayers)?;
     let (session, text) = Session::begin(alloc, group)?;
     write_whole(out, text.bytes())?;
     Ok(LineReader {
@@ -241,16 +241,16 @@ fn read_lines<T: Terminal, L: Ledger>(
 // Begins a session, and holds it to its end.
 fn run_session<T: Terminal, L: Ledger>(
     alloc: Global,
-    parts: Vec<Replayer<'_, '_>>,
+    replayers: Vec<Replayer<'_, '_>>,
     io: &mut T,
     steps: &mut Steps<L>,
 ) -> Result<(), Ended>
-    requires { AreParts parts.items }
-    ensures said { let terminal = terminal_at T.hearing T.taken T.faults in HeldSession parts.entry.items (terminal io.old) (terminal io.new) (why_session_ended result) }
+    requires { AreGroupReplays replayers.items }
+    ensures said { let terminal = terminal_at T.hearing T.taken T.faults in HeldSession replayers.entry.items (terminal io.old) (terminal io.new) (why_session_ended result) }
     ensures reads { (T.hearing io.new).faults ≡ listened_after (T.hearing io.old).faults result }
     ensures counted { T.faults io.new ≡ failed_says_of_session (T.faults io.old) result }
 {
-    let talk = begin(alloc, parts, io)?;
+    let talk = begin(alloc, replayers, io)?;
     read_lines(alloc, talk, io, steps)
 }
 
@@ -259,17 +259,17 @@ fn run_session<T: Terminal, L: Ledger>(
 pub(crate) fn debug_lines<T: Terminal, L: Ledger>(
     alloc: Global,
     blank: Blank,
-    parts: Vec<Replayer<'_, '_>>,
+    replayers: Vec<Replayer<'_, '_>>,
     io: &mut T,
 ) -> Status
     requires name { blank.name ≡ L.name }
     requires parts { blank.parts ≡ L.parts }
     requires some { 0 < blank.parts }
-    requires replays { AreParts parts.items }
-    ensures { let terminal = terminal_at T.hearing T.taken T.faults in ConversesInSession parts.entry.items (terminal io.old) (terminal io.new) result }
+    requires replays { AreGroupReplays replayers.items }
+    ensures { let terminal = terminal_at T.hearing T.taken T.faults in ConversesInSession replayers.entry.items (terminal io.old) (terminal io.new) result }
 {
     let mut steps = Steps::<L>::new(blank);
-    match run_session(alloc, parts, io, &mut steps) {
+    match run_session(alloc, replayers, io, &mut steps) {
         Ok(()) => Status::Done,
         Err(Ended::Done) => Status::Done,
         Err(Ended::TooLarge) => say_refused(alloc, "input", Reason::TooLarge, io),

@@ -29,7 +29,7 @@ pub fn debug<F: Files, T: Terminal>(
         Err(refusal) => return finish(alloc, Err(refusal), io),
     };
     match begin_all(alloc, &all) {
-        Ok(parts) => debug_lines::<T, Brand>(alloc, Blank::new(1), parts, io),
+        Ok(replayers) => debug_lines::<T, Brand>(alloc, Blank::new(1), replayers, io),
         Err(refusal) => finish(alloc, Err(refusal), io),
     }
 }

@@ -9,11 +9,11 @@ use Rattle.drill_command.specs.Drill.{drill_group, drill_run, drill_text, replay
 use Rattle.drill_command.specs.inside.Results.{HoldLogs, HasAllRounds, IsWatchedDrill, TellsDrill}
 
 pub tells : (rounds : ℕ) (recording : Recording) → HasAllRounds rounds recording
-    → (parts : List Replaying) → ((steps : List RunStep) → HoldLogs steps recording.files → parts ≡ replays_of_logs drill_group steps)
-    → (group : GroupPlace) → group ≡ record { start = parts; at = 0 }
+    → (replayers : List Replaying) → ((steps : List RunStep) → HoldLogs steps recording.files → replayers ≡ replays_of_logs drill_group steps)
+    → (group : GroupPlace) → group ≡ record { start = replayers; at = 0 }
     → (watched : Watched) → IsWatchedDrill group.start watched
     → (text : List ℕ) → ((start : List Replaying) → IsWatchedDrill start watched → text ≡ drill_text rounds recording.idle start) → TellsDrill rounds text
-tells rounds recording is parts are group begun watched walked text printed =
+tells rounds recording is replayers are group begun watched walked text printed =
     let steps = (drill_run rounds).steps in
     let here : group.start ≡ replays_of_logs drill_group steps = ap (λ (g : GroupPlace). g.start) begun ∙ are steps is.logs in
     record {

@@ -15,7 +15,7 @@ use Rattle.guest_process.specs.EventCount.{BeginsFresh}
 use Rattle.guest_process.specs.Start.{start}
 use Rattle.guest_process.specs.State.{State}
 use Rattle.proc_replay.specs.Replaying.{Replaying}
-use Rattle.group_state.specs.Place.{AreParts, group_count}
+use Rattle.group_state.specs.Place.{AreGroupReplays, group_count}
 use Rattle.group_record.specs.Logs.{TellsEvents, log_name}
 use Rattle.group_record.specs.Run.{RunStep, head_of_log, log_of, name_of_process}
 use Rattle.drill_command.specs.Drill.{drill_group, drill_states, left_of_log, replay_of_process, replays_from, replays_of_logs}
@@ -92,7 +92,7 @@ left_within : (steps : List RunStep) (p : ℕ) → TellsEvents drill_group steps
 left_within steps p tells = omega (arith, length-drop (length (head_bytes (head_of_log drill_group p))) (log_of drill_group steps p), tells.within)
 
 pub are_parts : (steps : List RunStep) (files : FilesInMemory) → HoldLogs steps files → (n0 n1 n2 n3 : State) → n0.events ≡ 0 → n1.events ≡ 0 → n2.events ≡ 0 → n3.events ≡ 0
-    → AreParts (replays_of steps n0 n1 n2 n3)
+    → AreGroupReplays (replays_of steps n0 n1 n2 n3)
 are_parts steps files holds n0 n1 n2 n3 fresh0 fresh1 fresh2 fresh3 = record {
   few = few;
   fresh = each (λ r. r.state.events ≡ 0) (replays_of steps n0 n1 n2 n3) (fresh0, (fresh1, (fresh2, (fresh3, tt))));
@@ -116,7 +116,7 @@ are_parts steps files holds n0 n1 n2 n3 fresh0 fresh1 fresh2 fresh3 = record {
 pub parts_are : BeginsFresh → (steps : List RunStep) (files : FilesInMemory) → HoldLogs steps files → (n0 n1 n2 n3 : State) (r0 r1 r2 r3 : Replaying)
     → start ring_module 0 4 ≡ Some n0 → start ring_module 1 4 ≡ Some n1 → start ring_module 2 4 ≡ Some n2 → start ring_module 3 4 ≡ Some n3
     → r0 ≡ replay_of_process drill_group steps 0 n0 → r1 ≡ replay_of_process drill_group steps 1 n1 → r2 ≡ replay_of_process drill_group steps 2 n2 → r3 ≡ replay_of_process drill_group steps 3 n3
-    → (items : List Replaying) → items ≡ r0 ∷ r1 ∷ r2 ∷ r3 ∷ [] → AreParts items
+    → (items : List Replaying) → items ≡ r0 ∷ r1 ∷ r2 ∷ r3 ∷ [] → AreGroupReplays items
 parts_are fresh steps files holds n0 n1 n2 n3 r0 r1 r2 r3 s0 s1 s2 s3 is0 is1 is2 is3 items are =
     rw (are, is0, is1, is2, is3) (are_parts steps files holds n0 n1 n2 n3 (fresh ring_module 0 4 n0 s0).events (fresh ring_module 1 4 n1 s1).events (fresh ring_module 2 4 n2 s2).events (fresh ring_module 3 4 n3 s3).events)
 

@@ -5,7 +5,7 @@ ghost use Rattle.guest_process.specs.Start.{start};
 ghost use Rattle.guest_process.specs.State.{State};
 ghost use Rattle.group_record.specs.Logs.{log_name};
 ghost use Rattle.group_record.specs.Run.{RunStep, name_of_process};
-ghost use Rattle.group_state.specs.Place.{AreParts};
+ghost use Rattle.group_state.specs.Place.{AreGroupReplays};
 ghost use Rattle.drill_command.specs.Drill.{drill_group, replay_of_process, replays_of_logs};
 ghost use Rattle.drill_command.specs.Ring.{ring_module};
 ghost use Rattle.drill_command.specs.inside.Results.{HoldLogs};
@@ -58,8 +58,8 @@ pub(crate) fn begin_all<'m, 'a>(
 ) -> Result<Vec<Replayer<'m, 'a>>, AllocError>
     requires module { module_of «module».now ≡ ring_module }
     requires held { (steps : List RunStep) × HoldLogs steps files.now }
-    ensures parts { IfOk result (λ parts. AreParts parts.items) }
-    ensures replays { IfOk result (λ parts. (steps : List RunStep) → HoldLogs steps files.now → parts.items ≡ replays_of_logs drill_group steps) }
+    ensures replayers { IfOk result (λ replayers. AreGroupReplays replayers.items) }
+    ensures replays { IfOk result (λ replayers. (steps : List RunStep) → HoldLogs steps files.now → replayers.items ≡ replays_of_logs drill_group steps) }
 {
     guest_process::laws::counting();
     let n0 = begin(alloc, module, files, 0, "n0.log")?;

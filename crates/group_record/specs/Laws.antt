@@ -1,6 +1,6 @@
 -- What holds of each recording: at each moment its logs tell its events, and each datagram that was taken
 -- came from outside or is one that was sent.
-use Rattle.std.specs.Prelude.{◌≡◌, ℕ, Bool, true, false, Option, ◌<◌, ◌≤◌, ◌^◌, IsTrue, List, ◌∷◌, ◌++◌, length, take, All, slice_get, Contains, Some, Ok}
+use Rattle.std.specs.Prelude.{◌≡◌, ℕ, Bool, true, false, Option, ◌<◌, ◌≤◌, IsTrue, List, ◌∷◌, ◌++◌, length, take, All, slice_get, Contains, Some, Ok}
 use Rattle.lamport_tag.specs.Tag.{read_datagram}
 use Rattle.call_table.specs.Table.{kind_numbered}
 use Rattle.call_table.specs.declared.kind.Kind.{Kind}

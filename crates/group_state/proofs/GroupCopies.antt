@@ -11,42 +11,42 @@ use Rattle.proc_replay.specs.Replaying.{Replaying}
 use Rattle.group_state.specs.declared.stand.Stand.{Stand}
 use Rattle.group_state.specs.Moves.{event_of, last_event_of}
 use Rattle.group_state.specs.Place.{events_of_replays}
-use Rattle.group_state.specs.inside.Stands.{AreSoundMemories, AreStands, IsStand, KeepsStands, SameStand, StillStandGroups, parts_from}
-use Rattle.group_state.proofs.ReplaysAfter.{parts_none}
+use Rattle.group_state.specs.inside.Stands.{AreSoundMemories, AreStands, IsStand, KeepsStands, SameStand, StillStandGroups, replayers_from}
+use Rattle.group_state.proofs.ReplaysAfter.{replayers_none}
 
-abbrev parts_at : List Replaying → ℕ → List Replaying
-parts_at start n = parts_from 0 start (take n (events_of_replays start))
+abbrev replayers_at : List Replaying → ℕ → List Replaying
+replayers_at start n = replayers_from 0 start (take n (events_of_replays start))
 
 -- a copy stands where the group does
 pub same_stand : (start : List Replaying) (stand copy : Stand) → SameStand stand copy → IsStand start stand → IsStand start copy
 same_stand start stand copy same is = record {
-  parts = same.parts ∙ is.parts ∙ ap (parts_at start) (sym same.at);
+  replayers = same.replayers ∙ is.replayers ∙ ap (replayers_at start) (sym same.at);
   within = omega (arith, same.at, is.within);
   last = ap (option_map event_of) same.last ∙ is.last ∙ ap (λ n. last_event_of (record { start = start; at = n })) (sym same.at);
-  sound = subst AreSoundMemories (sym same.parts) is.sound;
+  sound = subst AreSoundMemories (sym same.replayers) is.sound;
 }
 
 -- where it begins
-pub first_stand : (start : List Replaying) (stand : Stand) → stand.parts.items ≡ start → stand.at ≡ 0 → stand.last ≡ None → AreSoundMemories start → IsStand start stand
-first_stand start stand parts at last sound = record {
-  parts = parts ∙ sym (parts_none 0 start) ∙ ap (parts_at start) (sym at);
+pub first_stand : (start : List Replaying) (stand : Stand) → stand.replayers.items ≡ start → stand.at ≡ 0 → stand.last ≡ None → AreSoundMemories start → IsStand start stand
+first_stand start stand replayers at last sound = record {
+  replayers = replayers ∙ sym (replayers_none 0 start) ∙ ap (replayers_at start) (sym at);
   within = omega (arith, at);
   last = ap (option_map event_of) last ∙ ap (λ n. last_event_of (record { start = start; at = n })) (sym at);
-  sound = subst AreSoundMemories (sym parts) sound;
+  sound = subst AreSoundMemories (sym replayers) sound;
 }
 
-pub length_parts : (i : ℕ) (rs : List Replaying) (es : List (NodeEvent Entry)) → length (parts_from i rs es) ≡ length rs
-length_parts i [] es = refl
-length_parts i (r ∷ rs) es = ap suc (length_parts (suc i) rs es)
+pub length_replayers : (i : ℕ) (rs : List Replaying) (es : List (NodeEvent Entry)) → length (replayers_from i rs es) ≡ length rs
+length_replayers i [] es = refl
+length_replayers i (r ∷ rs) es = ap suc (length_replayers (suc i) rs es)
 
 -- a checkpoint, where there is one, is among those that are kept
 pub kept_checkpoint : (start : List Replaying) (stands : List Stand) (o : Option (Bor Stand)) → IfSome o (λ s. Contains stands s.now) → AreStands start stands → IfSome o (λ s. IsStand start s.now)
 kept_checkpoint start stands None among all = tt
 kept_checkpoint start stands (Some s) among all = All-contains (IsStand start) stands s.now all among
 
--- wherever it stands it has as many parts
-pub few_parts : (start : List Replaying) (stand : Stand) → IsStand start stand → length start ≤ 16 → length stand.parts.items ≤ 16
-few_parts start stand is few = omega (arith, ap length is.parts, length_parts 0 start (take stand.at (events_of_replays start)), few)
+-- wherever it stands it has as many replays
+pub few_replayers : (start : List Replaying) (stand : Stand) → IsStand start stand → length start ≤ 16 → length stand.replayers.items ≤ 16
+few_replayers start stand is few = omega (arith, ap length is.replayers, length_replayers 0 start (take stand.at (events_of_replays start)), few)
 
 -- what a group keeps where it is
 pub keeps_more : (old room : List Stand) (here copy : Stand) (new : List Stand) → StillStandGroups old room → SameStand here copy → new ≡ room ++ copy ∷ [] → KeepsStands old here new

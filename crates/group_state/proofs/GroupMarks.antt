@@ -25,7 +25,7 @@ use Rattle.page_watch.specs.Touch.{MarksTell, node_of}
 use Rattle.group_state.specs.Laws.{IsStepOfGroup}
 use Rattle.group_state.specs.inside.Motions.{AreMotions, Motions, nth_position, position_of, positions, positions_from}
 use Rattle.group_state.specs.Moves.{last_event_of}
-use Rattle.group_state.specs.Place.{AreParts, PartsFit, GroupPlace, events_of_replays, states_of_nodes}
+use Rattle.group_state.specs.Place.{AreGroupReplays, ReplaysFit, GroupPlace, events_of_replays, states_of_nodes}
 use Rattle.group_state.specs.Nodes.{nodes_at, seen_node, signed_global}
 use Rattle.group_state.specs.inside.Stands.{AreSoundMemories}
 use Rattle.group_state.specs.Touch.{is_touched_by, is_touched_in, mark_of_place, mark_in, is_touched_at}
@@ -42,9 +42,9 @@ sound_nodes : (rs : List Replaying) → AllByRecursion (λ (r : Replaying). IsMe
 sound_nodes [] all = tt
 sound_nodes (r ∷ rs) all = (all.0, sound_nodes rs all.1)
 
-pub sound_at : (start parts : List Replaying) (k : ℕ) → AreSoundMemories parts → map (λ (r : Replaying). r.state) parts ≡ states_of_nodes start k → AreMemories (nodes_at (at_position start k))
-sound_at start parts k sound are =
-    subst (λ (S : List State). AreMemories (map seen_node S)) are (sound_nodes parts (recursion_from_All (λ (r : Replaying). IsMemory r.state.store.memory) parts sound))
+pub sound_at : (start replayers : List Replaying) (k : ℕ) → AreSoundMemories replayers → map (λ (r : Replaying). r.state) replayers ≡ states_of_nodes start k → AreMemories (nodes_at (at_position start k))
+sound_at start replayers k sound are =
+    subst (λ (S : List State). AreMemories (map seen_node S)) are (sound_nodes replayers (recursion_from_All (λ (r : Replaying). IsMemory r.state.store.memory) replayers sound))
 
 memory_at : (nodes : List Node) (node : ℕ) (s : Node) → AreMemories nodes → slice_get nodes node ≡ Some s → IsMemory s.memory
 memory_at [] node s all is = absurd (cc)
@@ -143,14 +143,14 @@ module _ (old new : List Node) (T S : State) (fits : StateFits T) (fits_after : 
   untouched (location.Size node) before after not =
       ap (option_map (λ (s : Node). size_of s.memory)) after ∙ ap Some (untouched_size not) ∙ sym (ap (option_map (λ (s : Node). size_of s.memory)) before)
 
-module _ (steps : (start : List Replaying) → AreParts start → PartsFit start → (k : ℕ) (e : NodeEvent Entry) → slice_get (events_of_replays start) k ≡ Some e → IsStepOfGroup start k e)
-    (rising : AreRising) (kept : IsKeptByEvents) (unmarked : UnmarkedStays) (start : List Replaying) (parts : AreParts start) (fits : PartsFit start) where
+module _ (steps : (start : List Replaying) → AreGroupReplays start → ReplaysFit start → (k : ℕ) (e : NodeEvent Entry) → slice_get (events_of_replays start) k ≡ Some e → IsStepOfGroup start k e)
+    (rising : AreRising) (kept : IsKeptByEvents) (unmarked : UnmarkedStays) (start : List Replaying) (replayers : AreGroupReplays start) (fits : ReplaysFit start) where
   stays_at : (k : ℕ) (l : Location) → suc k ≤ length (events_of_replays start) → (mark_of_place start (suc k) l ≡ suc k → ⊥) → AreMemories (nodes_at (at_position start k)) → AreMemories (nodes_at (at_position start (suc k)))
       → SameAtPlace (nodes_at (at_position start k)) (nodes_at (at_position start (suc k))) l
   stays_at k l within not old_sound new_sound =
       let t = there (events_of_replays start) k (omega (arith, within)) in
       let x = t.item in
-      let s = steps start parts fits k x t.is in
+      let s = steps start replayers fits k x t.is in
       let T = s.state in
       let S = next T x.entry in
       elim (cases_eq x.node (node_of l)) [
@@ -159,7 +159,7 @@ module _ (steps : (start : List Replaying) → AreParts start → PartsFit start
             let after : slice_get (states_of_nodes start (suc k)) x.node ≡ Some S = ap (λ states. slice_get states x.node) s.after ∙ set_here (states_of_nodes start k) x.node T S before in
             let seen_before : slice_get (nodes_at (at_position start k)) (node_of l) ≡ Some (seen_node T) = ap (slice_get (nodes_at (at_position start k))) (sym own) ∙ node_at (states_of_nodes start k) x.node T before in
             let seen_after : slice_get (nodes_at (at_position start (suc k))) (node_of l) ≡ Some (seen_node S) = ap (slice_get (nodes_at (at_position start (suc k)))) (sym own) ∙ node_at (states_of_nodes start (suc k)) x.node S after in
-            let prior = marked_at steps rising kept unmarked start parts fits k (omega (arith, within)) x.node T before in
+            let prior = marked_at steps rising kept unmarked start replayers fits k (omega (arith, within)) x.node T before in
             let counted : S.events ≡ T.events + 1 = (rising T x.entry prior.fits s.legal).events in
             let untold : (mark_in S l == S.events) ≡ false = sym (touched_own (slice_get (events_of_replays start) k) (states_of_nodes start (suc k)) x l S t.is (sym own) after) ∙ not_mark start k l not in
             untouched (nodes_at (at_position start k)) (nodes_at (at_position start (suc k))) T S prior.fits (kept T x.entry prior.fits s.legal) (unmarked T x.entry prior.fits s.legal) counted
@@ -195,7 +195,7 @@ module _ (steps : (start : List Replaying) → AreParts start → PartsFit start
   pub position_told : (at node : ℕ) (m : Motions) (S : State) (l : Location) → AreMotions start m → at ≤ m.reached → slice_get (states_of_nodes start at) node ≡ Some S → node_of l ≡ node
       → position_of m node (mark_in S l) ≡ mark_of_place start at l
   position_told at node m S l are been here own =
-      let marked = marked_at steps rising kept unmarked start parts fits at (omega (arith, been, are.within)) node S here in
+      let marked = marked_at steps rising kept unmarked start replayers fits at (omega (arith, been, are.within)) node S here in
       let within : node < length start = omega (arith, slice_get_within (states_of_nodes start at) node S here, states_length 0 start (take at (events_of_replays start))) in
       let ps = positions node (take at (events_of_replays start)) in
       let from_zero : 0 + node ≡ node = omega arith in

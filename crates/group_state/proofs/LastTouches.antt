@@ -24,7 +24,7 @@ use Rattle.page_watch.specs.Touch.{node_of}
 use Rattle.group_state.specs.Laws.{IsStepOfGroup}
 use Rattle.group_state.specs.inside.Motions.{nth_position, positions, positions_from}
 use Rattle.group_state.specs.Moves.{event_before}
-use Rattle.group_state.specs.Place.{AreParts, PartsFit, events_of_replays, states_of_nodes}
+use Rattle.group_state.specs.Place.{AreGroupReplays, ReplaysFit, events_of_replays, states_of_nodes}
 use Rattle.group_state.specs.Touch.{is_touched_by, is_touched_in, mark_of_place, mark_in, is_touched_at}
 use Rattle.group_state.proofs.NodeMoves.{one_more_other, one_more_own}
 use Rattle.group_state.proofs.NodeViews.{states_length}
@@ -108,24 +108,24 @@ by_touch : (b : Bool) (at last now : ℕ) → (b ≡ true → at ≡ now) → (b
 by_touch true at last now first later = first refl
 by_touch false at last now first later = later refl
 
-module _ (steps : (start : List Replaying) → AreParts start → PartsFit start → (k : ℕ) (e : NodeEvent Entry) → slice_get (events_of_replays start) k ≡ Some e → IsStepOfGroup start k e)
-    (rising : AreRising) (kept : IsKeptByEvents) (unmarked : UnmarkedStays) (start : List Replaying) (parts : AreParts start) (fits : PartsFit start) where
+module _ (steps : (start : List Replaying) → AreGroupReplays start → ReplaysFit start → (k : ℕ) (e : NodeEvent Entry) → slice_get (events_of_replays start) k ≡ Some e → IsStepOfGroup start k e)
+    (rising : AreRising) (kept : IsKeptByEvents) (unmarked : UnmarkedStays) (start : List Replaying) (replayers : AreGroupReplays start) (fits : ReplaysFit start) where
   abbrev so_far : ℕ → List (NodeEvent Entry)
   so_far k = take k (events_of_replays start)
 
   first_marked : (node : ℕ) (S : State) → slice_get (states_of_nodes start 0) node ≡ Some S → IsMarked start 0 node S
   first_marked node S here =
       let found : option_map (λ (r : Replaying). r.state) (slice_get start node) ≡ Some S = sym (slice_get-map (λ (r : Replaying). r.state) start node) ∙ sym (ap (λ states. slice_get states node) (none_made 0 start)) ∙ here in
-      by_part (slice_get start node) refl found
+      by_replayer (slice_get start node) refl found
     where
-      by_part : (o : Option Replaying) → slice_get start node ≡ o → option_map (λ (r : Replaying). r.state) o ≡ Some S → IsMarked start 0 node S
-      by_part None is found = absurd (cc)
-      by_part (Some r) is found =
+      by_replayer : (o : Option Replaying) → slice_get start node ≡ o → option_map (λ (r : Replaying). r.state) o ≡ Some S → IsMarked start 0 node S
+      by_replayer None is found = absurd (cc)
+      by_replayer (Some r) is found =
           let same : r.state ≡ S = same_Some r.state S found in
           let within = slice_get_within start node r is in
           let at = get_or_from_slice_get start node r r is in
           let fits_first : StateFits S = subst StateFits (ap (λ (r : Replaying). r.state) at ∙ same) (fits node r within) in
-          let fresh : S.events ≡ 0 = ap (λ (S : State). S.events) (sym (ap (λ (r : Replaying). r.state) at ∙ same)) ∙ parts.fresh node r within in
+          let fresh : S.events ≡ 0 = ap (λ (S : State). S.events) (sym (ap (λ (r : Replaying). r.state) at ∙ same)) ∙ replayers.fresh node r within in
           record {
             fits = fits_first;
             moved = fresh;
@@ -178,7 +178,7 @@ module _ (steps : (start : List Replaying) → AreParts start → PartsFit start
   marked_at (suc k) within node S here =
       let t = there (events_of_replays start) k (omega (arith, within)) in
       let x = t.item in
-      let s = steps start parts fits k x t.is in
+      let s = steps start replayers fits k x t.is in
       let more : take (suc k) (events_of_replays start) ≡ so_far k ++ x ∷ [] =
       let one : suc k ≡ k + 1 = omega arith in
       ap (λ n. take n (events_of_replays start)) one ∙ take_more (events_of_replays start) k x (omega (arith, within)) ∙ ap (λ y. so_far k ++ y ∷ []) (get_or_from_slice_get (events_of_replays start) k x x t.is) in

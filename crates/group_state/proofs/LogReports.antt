@@ -11,7 +11,7 @@ use Rattle.proc_replay.specs.Replaying.{Replaying}
 use Rattle.group_order.specs.Order.{NodeEvent, events_from, insert_event, node_event, event_precedes, sort_events}
 use Rattle.group_order.specs.Sends.{FindsOneMoreSend}
 use Rattle.group_state.specs.declared.report.ReportLine.{ReportLine}
-use Rattle.group_state.specs.Place.{AreParts, PartsFit, entry_clock, events_of_replays, group_count}
+use Rattle.group_state.specs.Place.{AreGroupReplays, ReplaysFit, entry_clock, events_of_replays, group_count}
 use Rattle.group_state.specs.Report.{accepted_in, all_accepted_events, report_line}
 use Rattle.group_state.specs.Tally.{AcceptedEvent, tally_of_events}
 use Rattle.group_state.specs.inside.Tallying.{AreNewEvents, HasTallyRoomFor, GroupTallying, counts_of, nothing_tallied, with_all_accepted}
@@ -60,23 +60,23 @@ pub record Reports (start rest : List Replaying) (t : GroupTallying) (lines : Li
   pub told : lines ++ map report_line rest ≡ map report_line start
   pub fresh : All (λ r. r.state.events ≡ 0) rest
 
-parts_new : FindsOneMoreSend → Rises → IsKeptByEvents → (start : List Replaying) → AreParts start → PartsFit start → AreNewEvents (nothing_tallied (group_count start)) (all_accepted_events start)
-parts_new finds rises kept start parts fits = all_new finds rises kept (group_count start) start parts.ascends (recursion_from_All (λ r. StateFits r.state) start fits)
+replayers_new : FindsOneMoreSend → Rises → IsKeptByEvents → (start : List Replaying) → AreGroupReplays start → ReplaysFit start → AreNewEvents (nothing_tallied (group_count start)) (all_accepted_events start)
+replayers_new finds rises kept start replayers fits = all_new finds rises kept (group_count start) start replayers.ascends (recursion_from_All (λ r. StateFits r.state) start fits)
 
-pub reports_first : FindsOneMoreSend → Rises → IsKeptByEvents → (start : List Replaying) → AreParts start → PartsFit start → length (events_of_replays start) < 2 ^ 64 → Reports start start (nothing_tallied (group_count start)) []
-reports_first finds rises kept start parts fits few =
+pub reports_first : FindsOneMoreSend → Rises → IsKeptByEvents → (start : List Replaying) → AreGroupReplays start → ReplaysFit start → length (events_of_replays start) < 2 ^ 64 → Reports start start (nothing_tallied (group_count start)) []
+reports_first finds rises kept start replayers fits few =
     let many = as_many start in record {
       tallied = refl;
-      new = parts_new finds rises kept start parts fits;
+      new = replayers_new finds rises kept start replayers fits;
       room = has_room (all_accepted_events start) (nothing_tallied (group_count start)) (omega (arith, many, few)) (omega (arith, many, few));
       told = refl;
-      fresh = parts.fresh;
+      fresh = replayers.fresh;
     }
 
 pub reports_begin : FindsOneMoreSend → Rises → IsKeptByEvents → (start first items : List Replaying) (count : ℕ) (t : GroupTallying) (lines : List ReportLine) → first ≡ start → items ≡ first → count ≡ group_count first
-    → t ≡ nothing_tallied count → lines ≡ [] → AreParts first → PartsFit first → length (events_of_replays first) < 2 ^ 64 → Reports start items t lines
-reports_begin finds rises kept start first items count t lines is_start is_items is_count is_t is_lines parts fits few =
-    let begun = reports_first finds rises kept first parts fits few in
+    → t ≡ nothing_tallied count → lines ≡ [] → AreGroupReplays first → ReplaysFit first → length (events_of_replays first) < 2 ^ 64 → Reports start items t lines
+reports_begin finds rises kept start first items count t lines is_start is_items is_count is_t is_lines replayers fits few =
+    let begun = reports_first finds rises kept first replayers fits few in
     subst (λ (s : List Replaying). Reports s items t lines) is_start
     (subst (λ (rs : List Replaying). Reports first rs t lines) (sym is_items)
     (subst (λ (n : GroupTallying). Reports first first n lines) (sym (is_t ∙ ap nothing_tallied is_count))
@@ -105,11 +105,11 @@ reports_more start rest r t new lines line k counts said =
     })
 
 -- at the end all logs are counted
-pub all_counted : FindsOneMoreSend → Rises → IsKeptByEvents → (start first items : List Replaying) (t : GroupTallying) (lines : List ReportLine) → first ≡ start → items ≡ [] → AreParts first → PartsFit first
+pub all_counted : FindsOneMoreSend → Rises → IsKeptByEvents → (start first items : List Replaying) (t : GroupTallying) (lines : List ReportLine) → first ≡ start → items ≡ [] → AreGroupReplays first → ReplaysFit first
     → Reports start items t lines → counts_of t ≡ tally_of_events (group_count start) (all_accepted_events start)
-all_counted finds rises kept start first items t lines is_start none parts fits k =
+all_counted finds rises kept start first items t lines is_start none replayers fits k =
     let counts : counts_of (with_all_accepted (nothing_tallied (group_count start)) (all_accepted_events start)) ≡ tally_of_events (group_count start) (all_accepted_events start) =
-    counted finds (group_count start) (all_accepted_events start) (subst (λ (s : List Replaying). AreNewEvents (nothing_tallied (group_count s)) (all_accepted_events s)) is_start (parts_new finds rises kept first parts fits)) in
+    counted finds (group_count start) (all_accepted_events start) (subst (λ (s : List Replaying). AreNewEvents (nothing_tallied (group_count s)) (all_accepted_events s)) is_start (replayers_new finds rises kept first replayers fits)) in
     ap counts_of (ap (λ (rs : List Replaying). with_all_accepted t (all_accepted_events rs)) (sym none) ∙ k.tallied) ∙ counts
 
 pub all_lines : (start items : List Replaying) (t : GroupTallying) (lines : List ReportLine) → items ≡ [] → Reports start items t lines → lines ≡ map report_line start

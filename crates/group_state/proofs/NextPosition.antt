@@ -14,13 +14,13 @@ use Rattle.guest_process.specs.State.{State}
 use Rattle.group_order.specs.Order.{AreMergedOrders, NodeEvent, of_node}
 use Rattle.proc_replay.specs.Course.{AreReplays, AreTurns}
 use Rattle.proc_replay.specs.Replaying.{Makes, Replaying, after_replay_turn, after_at, move_by, moved, turn, turn_at}
-use Rattle.group_state.specs.inside.Stands.{parts_from}
+use Rattle.group_state.specs.inside.Stands.{replayers_from}
 use Rattle.group_state.specs.Laws.{IsStepOfGroup}
-use Rattle.group_state.specs.Place.{AreParts, PartsFit, events_of_replays, states_of_nodes, states_from}
+use Rattle.group_state.specs.Place.{AreGroupReplays, ReplaysFit, events_of_replays, states_of_nodes, states_from}
 use Rattle.group_state.proofs.TurnsAhead.{made_first}
 use Rattle.group_state.proofs.AheadInOrder.{front, own_left, states_at}
 use Rattle.group_state.proofs.NodeEvents.{own_first}
-use Rattle.group_state.proofs.ReplaysAfter.{both, found, parts_more}
+use Rattle.group_state.proofs.ReplaysAfter.{both, found, replayers_more}
 
 -- the replay's next entry is legal, and its event is made
 record IsMade (r : Replaying) (e : Entry) : Type 0 where
@@ -57,22 +57,22 @@ none_made i [] = refl
 none_made i (r ∷ rs) = both _ _ _ _ refl (none_made (suc i) rs)
 
 module _ (merging : AreMergedOrders Entry) (rising : AreRising) (kept : IsKeptByEvents) (course : AreTurns) (replays : AreReplays) (finds : FindsEntries) where
-  pub one_step : (start : List Replaying) → AreParts start → PartsFit start → (k : ℕ) (e : NodeEvent Entry) → slice_get (events_of_replays start) k ≡ Some e → IsStepOfGroup start k e
-  one_step start parts fits k e is =
+  pub one_step : (start : List Replaying) → AreGroupReplays start → ReplaysFit start → (k : ℕ) (e : NodeEvent Entry) → slice_get (events_of_replays start) k ≡ Some e → IsStepOfGroup start k e
+  one_step start replayers fits k e is =
       let es = take k (events_of_replays start) in
       let left : drop k (events_of_replays start) ≡ e ∷ drop (suc k) (events_of_replays start) = at_front (events_of_replays start) k e is in
       let own = sym (own_left merging rising kept course start fits k e.node) ∙ ap (of_node e.node) left ∙ own_first e.node e (drop (suc k) (events_of_replays start)) refl in
-      let f = found (parts_from 0 start es) e.node e.entry (of_node e.node (drop (suc k) (events_of_replays start))) own in
-      let m = made f.part e.entry (made_first course f.part e.entry (of_node e.node (drop (suc k) (events_of_replays start))) f.ahead_is) in
-      let here = states_at merging rising kept course start fits k replays parts.fresh in
-      let there = states_at merging rising kept course start fits (suc k) replays parts.fresh in
-      let more : parts_from 0 start (take (suc k) (events_of_replays start)) ≡ set (parts_from 0 start es) e.node (after_replay_turn f.part) =
-      ap (parts_from 0 start) (front (events_of_replays start) k e (drop (suc k) (events_of_replays start)) left).more ∙ parts_more 0 start es e e.node f.part (omega arith) f.here in
+      let f = found (replayers_from 0 start es) e.node e.entry (of_node e.node (drop (suc k) (events_of_replays start))) own in
+      let m = made f.replayer e.entry (made_first course f.replayer e.entry (of_node e.node (drop (suc k) (events_of_replays start))) f.ahead_is) in
+      let here = states_at merging rising kept course start fits k replays replayers.fresh in
+      let there = states_at merging rising kept course start fits (suc k) replays replayers.fresh in
+      let more : replayers_from 0 start (take (suc k) (events_of_replays start)) ≡ set (replayers_from 0 start es) e.node (after_replay_turn f.replayer) =
+      ap (replayers_from 0 start) (front (events_of_replays start) k e (drop (suc k) (events_of_replays start)) left).more ∙ replayers_more 0 start es e e.node f.replayer (omega arith) f.here in
       record {
-        state = f.part.state;
-        stands = sym (ap (λ states. slice_get states e.node) here) ∙ slice_get-map (λ (r : Replaying). r.state) (parts_from 0 start es) e.node ∙ ap (option_map (λ (r : Replaying). r.state)) f.here;
-        shaped = ((finds f.part.left e.entry m.behind).0 m.found).0;
+        state = f.replayer.state;
+        stands = sym (ap (λ states. slice_get states e.node) here) ∙ slice_get-map (λ (r : Replaying). r.state) (replayers_from 0 start es) e.node ∙ ap (option_map (λ (r : Replaying). r.state)) f.here;
+        shaped = ((finds f.replayer.left e.entry m.behind).0 m.found).0;
         legal = m.legal;
-        after = sym there ∙ ap (map (λ (r : Replaying). r.state)) more ∙ map-set (λ (r : Replaying). r.state) (parts_from 0 start es) e.node (after_replay_turn f.part)
-            ∙ ap (λ (states : List State). set states e.node (after_replay_turn f.part).state) here ∙ ap (set (states_of_nodes start k) e.node) m.goes;
+        after = sym there ∙ ap (map (λ (r : Replaying). r.state)) more ∙ map-set (λ (r : Replaying). r.state) (replayers_from 0 start es) e.node (after_replay_turn f.replayer)
+            ∙ ap (λ (states : List State). set states e.node (after_replay_turn f.replayer).state) here ∙ ap (set (states_of_nodes start k) e.node) m.goes;
       }

@@ -9,17 +9,17 @@ use Rattle.guest_process.specs.State.{State}
 use Rattle.group_order.specs.Order.{IsOrder, NodeEvent}
 use Rattle.proc_replay.specs.Course.{entries_ahead}
 use Rattle.proc_replay.specs.Replaying.{Replaying}
-use Rattle.group_state.specs.Place.{AreParts, PartsFit, entry_clock, events_of_replays, states_of_nodes}
+use Rattle.group_state.specs.Place.{AreGroupReplays, ReplaysFit, entry_clock, events_of_replays, states_of_nodes}
 
 -- it is sorted by clock and then by node, and has of each node its accepted events, each after the other; and
 -- no other list is
 abbrev pub Ordered : Type 0
-Ordered = (start : List Replaying) → PartsFit start
+Ordered = (start : List Replaying) → ReplaysFit start
     → IsOrder entry_clock (map entries_ahead start) (events_of_replays start) × ((es : List (NodeEvent Entry)) → IsOrder entry_clock (map entries_ahead start) es → es ≡ events_of_replays start)
 
 -- the event of the clock and the process that an event's tag names comes before it, whatever the logs say
 abbrev pub SendsFirst : Type 0
-SendsFirst = (start : List Replaying) → PartsFit start → (i j : ℕ) (sent taken : NodeEvent Entry) (tag : Tag)
+SendsFirst = (start : List Replaying) → ReplaysFit start → (i j : ℕ) (sent taken : NodeEvent Entry) (tag : Tag)
     → slice_get (events_of_replays start) i ≡ Some sent → slice_get (events_of_replays start) j ≡ Some taken
     → taken.entry.tag ≡ Some tag → sent.entry.clock ≡ tag.clock → i < j
 
@@ -34,4 +34,4 @@ pub record IsStepOfGroup (start : List Replaying) (k : ℕ) (e : NodeEvent Entry
 -- the states at all positions, one after the other
 pub record Stepwise : Type 0 where
   pub begins : (start : List Replaying) → states_of_nodes start 0 ≡ map (λ r. r.state) start
-  pub steps : (start : List Replaying) → AreParts start → PartsFit start → (k : ℕ) (e : NodeEvent Entry) → slice_get (events_of_replays start) k ≡ Some e → IsStepOfGroup start k e
+  pub steps : (start : List Replaying) → AreGroupReplays start → ReplaysFit start → (k : ℕ) (e : NodeEvent Entry) → slice_get (events_of_replays start) k ≡ Some e → IsStepOfGroup start k e

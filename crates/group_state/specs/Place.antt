@@ -34,16 +34,16 @@ AscendsByProcess [] = Unit {0}
 AscendsByProcess (r ∷ rs) = AllByRecursion (λ s. r.head.process < s.head.process) rs × AscendsByProcess rs
 
 -- some of one group's logs, in order of their processes' numbers, each before its first event and within the limit
-pub record AreParts (parts : List Replaying) : Type 0 where
-  pub few : length parts ≤ most_processes
-  pub fresh : All (λ r. r.state.events ≡ 0) parts
-  pub one : All (λ r. r.head.count ≡ group_count parts) parts
-  pub ascends : AscendsByProcess parts
-  pub within : All (λ r. length r.left.bytes ≤ most_log) parts
+pub record AreGroupReplays (replayers : List Replaying) : Type 0 where
+  pub few : length replayers ≤ most_processes
+  pub fresh : All (λ r. r.state.events ≡ 0) replayers
+  pub one : All (λ r. r.head.count ≡ group_count replayers) replayers
+  pub ascends : AscendsByProcess replayers
+  pub within : All (λ r. length r.left.bytes ≤ most_log) replayers
 
 -- each process is in the ranges of its module
-abbrev pub PartsFit : List Replaying → Type 0
-PartsFit parts = All (λ r. StateFits r.state) parts
+abbrev pub ReplaysFit : List Replaying → Type 0
+ReplaysFit replayers = All (λ r. StateFits r.state) replayers
 
 -- ---- the order of events, and the state after the first of them
 

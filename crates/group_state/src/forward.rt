@@ -6,10 +6,10 @@ use proc_replay::{Replayer, Turn};
 use std::alloc::AllocError;
 
 /// The clock of a replay's next event, where it has one.
-pub(crate) fn head_of(part: &Replayer<'_, '_>) -> Option<u64>
-    ensures { result ≡ head_of_replay part.now }
+pub(crate) fn head_of(replayer: &Replayer<'_, '_>) -> Option<u64>
+    ensures { result ≡ head_of_replay replayer.now }
 {
-    match part.peek() {
+    match replayer.peek() {
         Turn::Event(entry) => Some(entry.clock),
         Turn::LogEnd => None,
         Turn::Diverged(..) => None,
@@ -18,16 +18,16 @@ pub(crate) fn head_of(part: &Replayer<'_, '_>) -> Option<u64>
 
 /// Gives a node its next turn. The others stay as they are.
 pub(crate) fn take_turn<'a>(
-    parts: &mut Vec<Replayer<'_, 'a>>,
+    replayers: &mut Vec<Replayer<'_, 'a>>,
     node: u32,
 ) -> Result<Turn<'a>, AllocError>
-    requires { node < length parts.old.items }
-    ensures { IfOk result (NodeTurns parts.old.items node parts.new.items) }
+    requires { node < length replayers.old.items }
+    ensures { IfOk result (NodeTurns replayers.old.items node replayers.new.items) }
 {
-    let last = parts.len() - 1;
-    let part = parts.swap_remove(node as usize);
-    let (part, turn) = part.next_event()?;
-    parts.push(part)?;
-    parts.swap(node as usize, last);
+    let last = replayers.len() - 1;
+    let replayer = replayers.swap_remove(node as usize);
+    let (replayer, turn) = replayer.next_event()?;
+    replayers.push(replayer)?;
+    replayers.swap(node as usize, last);
     Ok(turn)
 }

@@ -1,6 +1,6 @@
 // A group at a position.
 ghost use Rattle.std.specs.Prelude.{◌≡◌, ◌≤◌, ◌-◌, ℕ, Some, None, IfOk, IsTrue, IsFalse, OnOk, ◌↔◌, length, map, option_map, slice_get};
-ghost use Rattle.group_state.specs.Place.{AreParts, PartsFit, GroupPlace, events_of_replays, states_of_nodes};
+ghost use Rattle.group_state.specs.Place.{AreGroupReplays, ReplaysFit, GroupPlace, events_of_replays, states_of_nodes};
 ghost use Rattle.group_state.specs.inside.At.{IsSoundCourse, place_of_course};
 ghost use Rattle.group_state.specs.Moves.{IsAtPosition, GroupMoves, event_of, last_event_of};
 
@@ -52,10 +52,10 @@ impl<'m, 'a> Course<'m, 'a> {
         let Some(node) = self.merge.next_node() else {
             return Ok(None);
         };
-        let turn = take_turn(&mut self.here.parts, node)?;
-        let part = &self.here.parts[node as usize];
-        let _ = part.process().memory().size();
-        let head = head_of(part);
+        let turn = take_turn(&mut self.here.replayers, node)?;
+        let replayer = &self.here.replayers[node as usize];
+        let _ = replayer.process().memory().size();
+        let head = head_of(replayer);
         self.merge.set_head(node, head);
         let Turn::Event(entry) = turn else {
             unreachable!();
@@ -86,7 +86,7 @@ impl<'m, 'a> Course<'m, 'a> {
             return Ok(());
         }
         let stand = Stand::at_checkpoint(alloc, nearest, &self.start)?;
-        let merge = merge_of(alloc, &stand.parts)?;
+        let merge = merge_of(alloc, &stand.replayers)?;
         self.here = stand;
         self.merge = merge;
         Ok(())
@@ -95,14 +95,14 @@ impl<'m, 'a> Course<'m, 'a> {
     // The replay of a node, at the position.
     fn replay(&self, node: u32) -> Option<&Replayer<'m, 'a>>
         requires { IsSoundCourse self.now }
-        ensures { option_map (λ part. part.now.state) result ≡ slice_get (states_of_nodes self.now.start.items self.now.here.at) node }
+        ensures { option_map (λ replayer. replayer.now.state) result ≡ slice_get (states_of_nodes self.now.start.items self.now.here.at) node }
     {
         group_order::laws::merges::<Entry>();
         proc_replay::laws::replays();
         guest_process::laws::rises();
         guest_process::laws::states_fit();
-        let part = self.here.parts.get(node as usize)?;
-        Some(part)
+        let replayer = self.here.replayers.get(node as usize)?;
+        Some(replayer)
     }
 }
 
@@ -124,17 +124,17 @@ impl<'m, 'a> Model for Group<'m, 'a> {
 impl<'m, 'a> Group<'m, 'a> {
     /// The replays of a group's logs, at position 0: in order of their processes' numbers, each before its
     /// first event.
-    pub fn begin(alloc: Global, parts: Vec<Replayer<'m, 'a>>) -> Result<Group<'m, 'a>, AllocError>
-        requires { AreParts parts.items }
-        ensures { IfOk result (λ group. group ≡ record { start = parts.entry.items; at = 0 }) }
+    pub fn begin(alloc: Global, replayers: Vec<Replayer<'m, 'a>>) -> Result<Group<'m, 'a>, AllocError>
+        requires { AreGroupReplays replayers.items }
+        ensures { IfOk result (λ group. group ≡ record { start = replayers.entry.items; at = 0 }) }
     {
         proc_replay::laws::replays();
-        let here = Stand::first(alloc, &parts)?;
-        let merge = merge_of(alloc, &here.parts)?;
-        let motions = Motions::none(alloc, parts.len())?;
+        let here = Stand::first(alloc, &replayers)?;
+        let merge = merge_of(alloc, &here.replayers)?;
+        let motions = Motions::none(alloc, replayers.len())?;
         let course = Course {
             alloc,
-            start: parts,
+            start: replayers,
             checkpoints: Checkpoints::new(alloc),
             here,
             merge,
@@ -202,8 +202,8 @@ impl<'m, 'a> Group<'m, 'a> {
     pub fn position(&self) -> u64
         ensures position { result ≡ self.now.at }
         ensures within { self.now.at ≤ length (events_of_replays self.now.start) }
-        ensures parts { AreParts self.now.start }
-        ensures fits { PartsFit self.now.start }
+        ensures replayers { AreGroupReplays self.now.start }
+        ensures fits { ReplaysFit self.now.start }
     {
         self.course.here.at
     }
@@ -238,7 +238,7 @@ impl<'m, 'a> Group<'m, 'a> {
 
     // The replay of a node, at the position.
     pub(crate) fn replay(&self, node: u32) -> Option<&Replayer<'m, 'a>>
-        ensures { option_map (λ part. part.now.state) result ≡ slice_get (states_of_nodes self.now.start self.now.at) node }
+        ensures { option_map (λ replayer. replayer.now.state) result ≡ slice_get (states_of_nodes self.now.start self.now.at) node }
     {
         self.course.replay(node)
     }

@@ -2,7 +2,7 @@
 ghost use Rattle.std.specs.Prelude.{◌≡◌, IfOk};
 ghost use Rattle.group_state.specs.Image.{image_of};
 
-use crate::part::print_events;
+use crate::one_replay::print_events;
 use fri_bytes::Bytes;
 use lib_calls::memory_bytes;
 use proc_replay::Replayer;

@@ -17,7 +17,7 @@ mod group;
 mod image;
 pub mod laws;
 mod motions;
-mod part;
+mod one_replay;
 mod report;
 mod stand;
 mod tally;

@@ -1,10 +1,10 @@
 // What is said of a whole group.
 ghost use Rattle.std.specs.Prelude.{◌≡◌, IfOk, OnOk};
-ghost use Rattle.group_state.specs.Place.{AreParts, PartsFit, group_count};
+ghost use Rattle.group_state.specs.Place.{AreGroupReplays, ReplaysFit, group_count};
 ghost use Rattle.group_state.specs.Report.{IsReport, accepted_in, report_line};
 ghost use Rattle.group_state.specs.inside.Tallying.{AreNewEvents, HasTallyRoomFor, with_all_accepted};
 
-use crate::part::{tally_events, verdict};
+use crate::one_replay::{tally_events, verdict};
 use crate::tally::Tally;
 use fri_bytes::Bytes;
 use guest_process::{End, Verdict};
@@ -34,29 +34,29 @@ pub struct Report {
 }
 
 // The number of processes of the group whose logs these are.
-fn group_count(parts: &[Replayer<'_, '_>]) -> u32
-    ensures { result ≡ group_count parts.now }
+fn group_count(replayers: &[Replayer<'_, '_>]) -> u32
+    ensures { result ≡ group_count replayers.now }
 {
-    match parts {
+    match replayers {
         [] => 0,
-        [part, ..] => part.head().count,
+        [replayer, ..] => replayer.head().count,
     }
 }
 
 // Replays a log to its end, counts the datagrams of its events, and says what came of it.
 fn report_log(
     alloc: Global,
-    part: Replayer<'_, '_>,
+    replayer: Replayer<'_, '_>,
     tally: &mut Tally,
 ) -> Result<ReportLine, AllocError>
-    requires fresh { part.state.events ≡ 0 }
-    requires new { AreNewEvents tally.old (accepted_in part) }
-    requires room { HasTallyRoomFor tally.old (accepted_in part) }
-    ensures tally { OnOk result (tally.new ≡ with_all_accepted tally.old (accepted_in part.entry)) }
-    ensures line { IfOk result (λ line. line ≡ report_line part.entry) }
+    requires fresh { replayer.state.events ≡ 0 }
+    requires new { AreNewEvents tally.old (accepted_in replayer) }
+    requires room { HasTallyRoomFor tally.old (accepted_in replayer) }
+    ensures tally { OnOk result (tally.new ≡ with_all_accepted tally.old (accepted_in replayer.entry)) }
+    ensures line { IfOk result (λ line. line ≡ report_line replayer.entry) }
 {
     proc_replay::laws::replays();
-    let last = tally_events(part, tally)?;
+    let last = tally_events(replayer, tally)?;
     let process = last.process();
     Ok(ReportLine {
         name: Bytes::from_slice(alloc, last.head().name)?,
@@ -67,29 +67,29 @@ fn report_log(
 }
 
 // The process of each log is in the ranges of its module.
-fn parts_fit(parts: &[Replayer<'_, '_>])
-    ensures { PartsFit parts.now }
+fn replayers_fit(replayers: &[Replayer<'_, '_>])
+    ensures { ReplaysFit replayers.now }
 {
-    for part in parts {
-        let _ = part.process().events();
+    for replayer in replayers {
+        let _ = replayer.process().events();
     }
 }
 
 /// What is said of all accepted events of the logs of a group. Each log is replayed to its first entry that is not
 /// legal, whatever the other logs hold.
-pub fn report_of(alloc: Global, parts: Vec<Replayer<'_, '_>>) -> Result<Report, AllocError>
-    requires { AreParts parts.items }
-    ensures { IfOk result (IsReport parts.entry.items) }
+pub fn report_of(alloc: Global, replayers: Vec<Replayer<'_, '_>>) -> Result<Report, AllocError>
+    requires { AreGroupReplays replayers.items }
+    ensures { IfOk result (IsReport replayers.entry.items) }
 {
     group_order::laws::finds_one_more();
     proc_replay::laws::replays();
     guest_process::laws::rises();
     guest_process::laws::states_fit();
-    parts_fit(&parts);
-    let mut tally = Tally::new(alloc, group_count(&parts));
+    replayers_fit(&replayers);
+    let mut tally = Tally::new(alloc, group_count(&replayers));
     let mut lines = Vec::new(alloc);
-    for part in parts {
-        lines.push(report_log(alloc, part, &mut tally)?)?;
+    for replayer in replayers {
+        lines.push(report_log(alloc, replayer, &mut tally)?)?;
     }
     let counts = tally.counts();
     Ok(Report {

@@ -5,7 +5,7 @@ ghost use Rattle.group_state.specs.Place.{events_of_replays};
 ghost use Rattle.group_state.specs.Report.{verdict_on};
 
 use crate::group::{Course, Group};
-use crate::part::verdict;
+use crate::one_replay::verdict;
 use guest_process::Verdict;
 use lib_calls::Entry;
 
@@ -30,7 +30,7 @@ impl<'m, 'a> Course<'m, 'a> {
         proc_replay::laws::replays();
         guest_process::laws::rises();
         guest_process::laws::states_fit();
-        let part = self.here.parts.get(node as usize)?;
-        Some(verdict(part))
+        let replayer = self.here.replayers.get(node as usize)?;
+        Some(verdict(replayer))
     }
 }

@@ -46,9 +46,9 @@ impl<'m, 'a> View for Group<'m, 'a> {
         self.nodes()
     }
 
-    fn part(&self, node: u32, addr: u64, len: u64) -> Option<&[u8]> {
+    fn lent(&self, node: u32, addr: u64, len: u64) -> Option<&[u8]> {
         self.course.counter.count_load();
-        self.at(node).memory().part(addr, len)
+        self.at(node).memory().lent(addr, len)
     }
 
     fn global(&self, node: u32, n: u32) -> Option<i64> {

@@ -189,7 +189,7 @@ impl Memory {
     }
 
     /// The longest first part of the range that stays in one watch page of 4,096 bytes.
-    pub fn part(&self, addr: u64, len: u64) -> Option<&[u8]>
+    pub fn lent(&self, addr: u64, len: u64) -> Option<&[u8]>
         ensures some { IsSome result ↔ (addr + len ≤ length self.now.bytes) }
         ensures value { IfSome result (λ part. part.now ≡ bytes_from self.now addr (stretch_in_page addr len)) }
     {

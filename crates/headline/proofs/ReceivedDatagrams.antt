@@ -18,7 +18,7 @@ use Rattle.group_record.specs.Laws.{TakesDatagram, TellsSend}
 use Rattle.group_record.specs.Run.{GroupStart, Had, RunStep, act_of, entries_of_steps, history_of_steps, processes_in_group}
 use Rattle.group_record.specs.Standing.{IsRun}
 use Rattle.group_state.specs.Laws.{SendsFirst}
-use Rattle.group_state.specs.Place.{PartsFit, entry_clock, events_of_replays}
+use Rattle.group_state.specs.Place.{ReplaysFit, entry_clock, events_of_replays}
 use Rattle.headline.specs.Shown.{FromOutside, FromSend, ReceivedDatagram, StandsBefore, recorded_run}
 use Rattle.headline.proofs.RecordedCourse.{entries_stay}
 use Rattle.headline.proofs.RecordedOrder.{own_is, own_of, place_of}
@@ -54,7 +54,7 @@ injects q p given bytes is = by_test (q == p) refl is where
   by_test true same is = record { to = eqb-true q p same; same = ap first_of is }
   by_test false other is = cc
 
-module _ (group : GroupStart) (steps : List RunStep) (ps : List ℕ) (start : List Replaying) (run : IsRun group steps) (fits : PartsFit start) (sends : SendsFirst)
+module _ (group : GroupStart) (steps : List RunStep) (ps : List ℕ) (start : List Replaying) (run : IsRun group steps) (fits : ReplaysFit start) (sends : SendsFirst)
     (order : IsOrder entry_clock (map (entries_of_steps steps) ps) (events_of_replays start)) where
   -- the send of a tag that an event bears comes before it
   before : (j node q k : ℕ) (e sent : Entry) → slice_get (events_of_replays start) j ≡ Some (node_event node e) → slice_get (entries_of_steps steps q) k ≡ Some sent → e.tag ≡ Some (record { sender = q; clock = sent.clock })

@@ -10,7 +10,7 @@ use Rattle.proc_replay.specs.Course.{entries_ahead}
 use Rattle.proc_replay.specs.Replaying.{Replaying}
 use Rattle.group_record.specs.Run.{GroupStart, RunStep, entries_of_steps}
 use Rattle.group_state.specs.Laws.{Ordered}
-use Rattle.group_state.specs.Place.{PartsFit, after_entries, entry_clock, events_of_replays, node_event_count, states_of_nodes, states_from}
+use Rattle.group_state.specs.Place.{ReplaysFit, after_entries, entry_clock, events_of_replays, node_event_count, states_of_nodes, states_from}
 use Rattle.headline.specs.Shown.{AreShown, IsRecorded, ShowsProcess, recorded_run}
 
 -- ---- the replay of a process
@@ -137,7 +137,7 @@ own_of (x ∷ es) j node e at = by_test (λ j here. own_of es j node e here) (x.
 
 -- ---- the order is that of the recorded events
 
-pub order_is : Ordered → (group : GroupStart) (steps : List RunStep) (cut : ℕ → List ℕ) (ps : List ℕ) (start : List Replaying) → PartsFit start → AreShown group steps cut ps start
+pub order_is : Ordered → (group : GroupStart) (steps : List RunStep) (cut : ℕ → List ℕ) (ps : List ℕ) (start : List Replaying) → ReplaysFit start → AreShown group steps cut ps start
     → IsOrder entry_clock (map (entries_of_steps steps) ps) (events_of_replays start) × ((es : List (NodeEvent Entry)) → IsOrder entry_clock (map (entries_of_steps steps) ps) es → es ≡ events_of_replays start)
 order_is ordered group steps cut ps start fits shown =
     let known = ordered start fits in

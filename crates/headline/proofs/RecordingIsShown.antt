@@ -22,7 +22,7 @@ use Rattle.group_record.specs.RunLaws.{before_steps}
 use Rattle.group_record.specs.Run.{GroupStart, Had, IsMoment, RunStep, entries_of_steps, entry_bytes, head_of_log, log_of, processes_in_group}
 use Rattle.group_record.specs.Standing.{RunStandsAs, Standing}
 use Rattle.group_state.specs.Laws.{Ordered, SendsFirst}
-use Rattle.group_state.specs.Place.{PartsFit}
+use Rattle.group_state.specs.Place.{ReplaysFit}
 use Rattle.command_run.specs.Laws.{ReadsModules}
 use Rattle.command_run.specs.Outcome.{CommandStop, CommandWork, and_then}
 use Rattle.log_pairs.specs.Pairs.{Loaded, replays_of, replays_of_pairs, sort_replays}
@@ -66,7 +66,7 @@ all_come group steps cut (p ∷ ps) (r ∷ rs) all = (all.0.comes, all_come grou
 all_come group steps cut [] (r ∷ rs) all = absurd all
 all_come group steps cut (p ∷ ps) [] all = absurd all
 
-all_fit : (group : GroupStart) (steps : List RunStep) (cut : ℕ → List ℕ) (ps : List ℕ) (rs : List Replaying) → AreKnown group steps cut ps rs → PartsFit rs
+all_fit : (group : GroupStart) (steps : List RunStep) (cut : ℕ → List ℕ) (ps : List ℕ) (rs : List Replaying) → AreKnown group steps cut ps rs → ReplaysFit rs
 all_fit group steps cut [] [] all k d below = absurd (omega (arith, below))
 all_fit group steps cut (p ∷ ps) (r ∷ rs) all zero d below = all.0.fits
 all_fit group steps cut (p ∷ ps) (r ∷ rs) all (suc k) d below = all_fit group steps cut ps rs all.1 k d (omega (arith, below))

@@ -1,5 +1,5 @@
 -- The tag in front of a datagram that was sent into the group, and the rule of the clocks that it bears.
-use Rattle.std.specs.Prelude.{◌≡◌, ℕ, ◌+◌, ◌^◌, ◌<◌, ◌≤◌, max, List, ◌∷◌, ◌++◌, drop, codes, nat_eq, nat_lt, nat_le, ◌&&◌, Bool, Option, Some, None, if◌then◌else◌}
+use Rattle.std.specs.Prelude.{◌≡◌, ℕ, ◌+◌, ◌<◌, ◌≤◌, max, List, ◌∷◌, ◌++◌, drop, codes, nat_eq, nat_lt, nat_le, ◌&&◌, Bool, Option, Some, None, if◌then◌else◌}
 use Rattle.std.specs.List.{starts_with}
 use Rattle.std.specs.Int.{w32, w64, to_le_bytes, from_le_bytes}
 use Rattle.lamport_tag.specs.Limits.{most_clock}

@@ -104,7 +104,7 @@ pub(crate) fn read(alloc: Global, memory: &Memory, addr: u64, len: u64) -> Resul
     let mut bytes = Bytes::new(alloc);
     let mut count = 0;
     while count < len {
-        let Some(part) = memory.part(addr + count, len - count) else {
+        let Some(part) = memory.lent(addr + count, len - count) else {
             unreachable!();
         };
         bytes.push_all(part)?;
@@ -164,7 +164,7 @@ fn stands_at(bytes: &[u8], memory: &Memory, addr: u64) -> bool
 {
     let mut count = 0;
     while count < bytes.len() {
-        let Some(part) = memory.part(addr + count as u64, (bytes.len() - count) as u64) else {
+        let Some(part) = memory.lent(addr + count as u64, (bytes.len() - count) as u64) else {
             unreachable!();
         };
         if &bytes[count..count + part.len()] != part {

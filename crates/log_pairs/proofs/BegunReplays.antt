@@ -6,7 +6,7 @@ use Rattle.call_log.specs.Head.{Head, IsHead}
 use Rattle.call_log.specs.Limits.{most_log}
 use Rattle.call_log.specs.Log.{Unread}
 use Rattle.guest_process.specs.State.{State}
-use Rattle.group_state.specs.Place.{AreParts, group_count}
+use Rattle.group_state.specs.Place.{AreGroupReplays, group_count}
 use Rattle.proc_replay.specs.AtHead.{IsAtHead}
 use Rattle.proc_replay.specs.Replaying.{Replaying}
 use Rattle.log_pairs.specs.declared.pairs.Loaded.{Loaded as LoadedFiles}
@@ -121,7 +121,7 @@ each P (x ∷ xs) all zero d below = all.0
 each P (x ∷ xs) all (suc k) d below = each P xs all.1 k d (omega (arith, below))
 
 pub record MakesGroup (rs : List Replaying) : Type 0 where
-  pub parts : AreParts rs
+  pub replayers : AreGroupReplays rs
   pub heads : All (λ r. IsHead r.head) rs
   pub at_heads : All IsAtHead rs
 
@@ -137,7 +137,7 @@ makes_group xs ls rs all apart begun first =
     let below = all_placed_keeps (λ r. r.head.process < 16) [] rs tt (all_so (λ r. IsHead r.head) (λ r. r.head.process < 16) rs (λ r h. omega (arith, h.few, h.within)) heads) in
     let few : 0 + length sorted ≤ 16 = few_from 0 16 sorted (omega arith) ascends (all_so (λ r. r.head.process < 16) (λ r. 0 ≤ r.head.process) sorted (λ r h. omega arith) below) below in
     record {
-      parts = record {
+      replayers = record {
         few = omega (arith, few);
         fresh = each (λ r. r.state.events ≡ 0) sorted (all_placed_keeps (λ r. r.state.events ≡ 0) [] rs tt fresh);
         one = each (λ r. r.head.count ≡ group_count sorted) sorted (first_counts (group_count rs) sorted (all_placed_keeps (λ r. r.head.count ≡ group_count rs) [] rs tt (counts_of xs rs are apart)));

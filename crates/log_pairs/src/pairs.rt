@@ -4,7 +4,7 @@ ghost use Rattle.std.specs.List.{take_while};
 ghost use Rattle.fri_outside.specs.Outside.{Counts, Folder, WhenTold};
 ghost use Rattle.call_log.specs.Head.{IsHead, head_of};
 ghost use Rattle.proc_replay.specs.AtHead.{IsAtHead};
-ghost use Rattle.group_state.specs.Place.{AreParts};
+ghost use Rattle.group_state.specs.Place.{AreGroupReplays};
 ghost use Rattle.command_run.specs.Call.{CountsFaults, RaisesCount, TellsResult, reads_after, writes_after};
 ghost use Rattle.command_run.specs.Kept.{AreOfFiles};
 ghost use Rattle.log_pairs.specs.Pairs.{Loaded as LoadedOf, NoneOpened, Pair as PairOf, WasOpened, clash_of_logs, has_name, has_process, insert_replay, is_other_group, replay_of_log};
@@ -201,7 +201,7 @@ pub fn begin_all<'m>(
     requires apart { AreOneGroup all.now }
     ensures answer { (pairs : List PairOf) (told : Option Folder) → WereLoaded pairs told all.now → MatchResult result
         (λ replays. WasOpened pairs told replays.items) (NoneOpened pairs told) }
-    ensures parts { IfOk result (λ replays. AreParts replays.items) }
+    ensures replayers { IfOk result (λ replays. AreGroupReplays replays.items) }
     ensures heads { IfOk result (λ replays. All (λ r. IsHead r.head) replays.items) }
     ensures at_heads { IfOk result (λ replays. All IsAtHead replays.items) }
     ensures cause { (old new : Counts) → IfErr result (RaisesCount old new) }

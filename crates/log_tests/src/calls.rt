@@ -72,6 +72,6 @@ fn calls_name_bytes_and_are_answered(rt: HostRuntime) -> Result<(), Fail> {
     assert_eq!(rt; printed.as_slice(), b"print".as_slice());
     // The sender stands over the payload.
     assert!(rt; receive(&mut memory, 2, 0, b"abc", 0x0102_0304)?);
-    assert_eq!(rt; memory.part(0, 6), Some(b"\x04\x03\x02\x01c\0".as_slice()));
+    assert_eq!(rt; memory.lent(0, 6), Some(b"\x04\x03\x02\x01c\0".as_slice()));
     Ok(())
 }

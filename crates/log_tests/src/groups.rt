@@ -1,6 +1,6 @@
 // A group that goes forwards and backwards over the logs of a ring.
 ghost use Rattle.std.specs.Prelude.{List};
-ghost use Rattle.group_state.specs.Place.{AreParts};
+ghost use Rattle.group_state.specs.Place.{AreGroupReplays};
 ghost use Rattle.log_pairs.specs.Pairs.{Loaded as LoadedOf};
 ghost use Rattle.log_pairs.specs.Meanings.{AreLoadedPairs, AreOneGroup};
 
@@ -109,10 +109,10 @@ fn begin<'m>(alloc: Global, all: &'m [Loaded<'_>]) -> Result<Group<'m, 'm>, Fail
     requires loaded { (ls : List LoadedOf) × AreLoadedPairs all.now ls }
     requires apart { AreOneGroup all.now }
 {
-    let Ok(parts) = begin_all(alloc, all) else {
+    let Ok(replayers) = begin_all(alloc, all) else {
         return Err("no replays".into());
     };
-    Ok(Group::begin(alloc, parts)?)
+    Ok(Group::begin(alloc, replayers)?)
 }
 
 // The bytes of all memories.
@@ -194,7 +194,7 @@ fn parts_that_are_asked_for_are_counted(rt: HostRuntime) -> Result<(), Fail> {
     };
     let group = begin(rt.alloc(), &all)?;
     assert!(rt; group.node_count() > 0);
-    assert!(rt; group.part(0, 64, 8).is_some());
+    assert!(rt; group.lent(0, 64, 8).is_some());
     assert_eq!(rt; group.work().loads, 1);
     Ok(())
 }

@@ -90,10 +90,10 @@ fn begin<'m>(alloc: Global, all: &'m [Loaded<'_>]) -> Result<Group<'m, 'm>, Fail
     requires apart { AreOneGroup all.now }
     ensures { IfOk result (λ group. group.at ≡ 0) }
 {
-    let Ok(parts) = begin_all(alloc, all) else {
+    let Ok(replayers) = begin_all(alloc, all) else {
         return Err("no replays".into());
     };
-    Ok(Group::begin(alloc, parts)?)
+    Ok(Group::begin(alloc, replayers)?)
 }
 
 // A group that counts how often a part of a memory is asked of it.
@@ -112,9 +112,9 @@ impl<'g, 'm, 'a> View for Counting<'g, 'm, 'a> {
         self.group.node_count()
     }
 
-    fn part(&self, node: u32, addr: u64, len: u64) -> Option<&[u8]> {
+    fn lent(&self, node: u32, addr: u64, len: u64) -> Option<&[u8]> {
         self.loads.set(self.loads.get().wrapping_add(1));
-        self.group.part(node, addr, len)
+        self.group.lent(node, addr, len)
     }
 
     fn global(&self, node: u32, n: u32) -> Option<i64> {

@@ -38,7 +38,7 @@ impl Beside {
     fn is_same(&self) -> bool {
         let mut addr = 0;
         for page in self.plain.chunks(4096) {
-            if self.memory.part(addr, 4096) != Some(page) {
+            if self.memory.lent(addr, 4096) != Some(page) {
                 return false;
             }
             addr = addr.wrapping_add(4096);

@@ -18,8 +18,8 @@ fn a_memory_is_lent_in_parts(rt: HostRuntime) -> Result<(), Fail> {
     let mut memory = Memory::new(rt.alloc(), 1, 1)?;
     assert!(rt; memory.write(4094, b"debug")?);
     // A part ends with its page of 4,096 bytes.
-    assert_eq!(rt; memory.part(4094, 5), Some(b"de".as_slice()));
-    assert_eq!(rt; memory.part(4096, 3), Some(b"bug".as_slice()));
+    assert_eq!(rt; memory.lent(4094, 5), Some(b"de".as_slice()));
+    assert_eq!(rt; memory.lent(4096, 3), Some(b"bug".as_slice()));
     Ok(())
 }
 

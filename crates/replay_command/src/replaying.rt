@@ -19,21 +19,21 @@ use std::alloc::Global;
 // Writes what each process leaves, in order of the processes' numbers.
 fn write_images<F: Files>(
     alloc: Global,
-    parts: &[Replayer<'_, '_>],
+    replayers: &[Replayer<'_, '_>],
     files: &mut F,
 ) -> Result<(), StopCause>
-    requires heads { All (λ r. IsHead r.head) parts.now }
-    requires fresh { All (λ r. r.state.events ≡ 0) parts.now }
-    ensures made { MakesAllFiles result (images_in parts.now) (F.told files.old) (F.told files.new) }
+    requires heads { All (λ r. IsHead r.head) replayers.now }
+    requires fresh { All (λ r. r.state.events ≡ 0) replayers.now }
+    ensures made { MakesAllFiles result (images_in replayers.now) (F.told files.old) (F.told files.new) }
     ensures counts { CountsFaults (F.counts files.old) (F.counts files.new) result }
     ensures cause { IfErr result (RaisesCount (F.counts files.old) (F.counts files.new)) }
 {
     fri_outside::laws::keeps_files();
-    for part in parts {
-        let image = image_of(alloc, part)?;
+    for replayer in replayers {
+        let image = image_of(alloc, replayer)?;
         write_image(
             alloc,
-            part.head().name,
+            replayer.head().name,
             image.memory.as_slice(),
             image.printed.as_slice(),
             files,
@@ -46,17 +46,17 @@ fn write_images<F: Files>(
 fn write_asked<F: Files>(
     alloc: Global,
     images: bool,
-    parts: &[Replayer<'_, '_>],
+    replayers: &[Replayer<'_, '_>],
     files: &mut F,
 ) -> Result<(), StopCause>
-    requires heads { All (λ r. IsHead r.head) parts.now }
-    requires fresh { All (λ r. r.state.events ≡ 0) parts.now }
-    ensures made { MakesAllFiles result (images_if images parts.now) (F.told files.old) (F.told files.new) }
+    requires heads { All (λ r. IsHead r.head) replayers.now }
+    requires fresh { All (λ r. r.state.events ≡ 0) replayers.now }
+    ensures made { MakesAllFiles result (images_if images replayers.now) (F.told files.old) (F.told files.new) }
     ensures counts { CountsFaults (F.counts files.old) (F.counts files.new) result }
     ensures cause { IfErr result (RaisesCount (F.counts files.old) (F.counts files.new)) }
 {
     if images {
-        write_images(alloc, parts, files)
+        write_images(alloc, replayers, files)
     } else {
         Ok(())
     }
@@ -79,8 +79,8 @@ pub fn replay<F: Files>(
 {
     fri_outside::laws::keeps_files();
     let all = load_all(alloc, pairs, files)?;
-    let parts = begin_all(alloc, &all)?;
-    write_asked(alloc, images, &parts, files)?;
-    let report = report_of(alloc, parts)?;
+    let replayers = begin_all(alloc, &all)?;
+    write_asked(alloc, images, &replayers, files)?;
+    let report = report_of(alloc, replayers)?;
     Ok(print_report(alloc, &report)?)
 }

@@ -16,7 +16,7 @@ use Rattle.proc_replay.specs.Course.{entries_ahead}
 use Rattle.proc_replay.specs.Replaying.{Replaying}
 use Rattle.proc_replay.specs.Sizes.{AcceptedNoLonger}
 use Rattle.group_state.specs.Laws.{Ordered}
-use Rattle.group_state.specs.Place.{PartsFit, events_of_replays}
+use Rattle.group_state.specs.Place.{ReplaysFit, events_of_replays}
 use Rattle.proc_replay.specs.AtHead.{IsAtHead}
 use Rattle.schedule_back.proofs.NodeFronts.{IsFront, front, list_at, take_within}
 
@@ -37,7 +37,7 @@ pub held : ExactLogs → (r : Replaying) → HoldsEntries r.left (entries_of r.l
 held exact r = (exact.all r.left (entries_of r.left) (rest_of_log r.left)).1 (refl, refl)
 
 -- what a node has among all events of the order is what is accepted of its log
-pub all_own : Ordered → (start : List Replaying) → PartsFit start → (p : ℕ) (r : Replaying) → slice_get start p ≡ Some r → of_node p (events_of_replays start) ≡ entries_ahead r
+pub all_own : Ordered → (start : List Replaying) → ReplaysFit start → (p : ℕ) (r : Replaying) → slice_get start p ≡ Some r → of_node p (events_of_replays start) ≡ entries_ahead r
 all_own ordered start fits p r at = (ordered start fits).0.own p ∙ list_at entries_ahead start p r at
 
 -- and among the first of them, these of its entries, which are accepted
@@ -46,7 +46,7 @@ pub record IsPart (r : Replaying) (part : List Entry) : Type 0 where
   pub within : count ≤ accepted r.state (entries_of r.left)
   pub is : part ≡ take count (entries_of r.left)
 
-pub part_of : Ordered → (start : List Replaying) → PartsFit start → (p : ℕ) (r : Replaying) → slice_get start p ≡ Some r → (k : ℕ) → IsPart r (of_node p (take k (events_of_replays start)))
+pub part_of : Ordered → (start : List Replaying) → ReplaysFit start → (p : ℕ) (r : Replaying) → slice_get start p ≡ Some r → (k : ℕ) → IsPart r (of_node p (take k (events_of_replays start)))
 part_of ordered start fits p r at k =
     let f : IsFront (of_node p (take k (events_of_replays start))) (entries_ahead r) = subst (IsFront (of_node p (take k (events_of_replays start)))) (all_own ordered start fits p r at) (front p k (events_of_replays start)) in
     let inner = take_within f.count (accepted r.state (entries_of r.left)) (entries_of r.left) f.within in

@@ -5,7 +5,7 @@ use Rattle.std.specs.List.{AllByRecursion}
 use Rattle.std.proofs.lemmas.List.Elements.{recursion_from_All}
 use Rattle.std.proofs.lemmas.Option.{same_Some}
 use Rattle.proc_replay.specs.Replaying.{Replaying}
-use Rattle.group_state.specs.Place.{AreParts, AscendsByProcess, group_count}
+use Rattle.group_state.specs.Place.{AreGroupReplays, AscendsByProcess, group_count}
 use Rattle.proc_replay.specs.AtHead.{IsAtHead}
 
 abbrev process_of : Replaying → ℕ
@@ -44,10 +44,10 @@ all_below : (n : ℕ) (rs : List Replaying) → AllByRecursion IsAtHead rs → A
 all_below n [] heads counts = tt
 all_below n (r ∷ rs) heads counts = (omega (arith, heads.0.head.within, counts.0), all_below n rs heads.1 counts.1)
 
-pub process_is : (start : List Replaying) → AreParts start → All IsAtHead start → length start ≡ group_count start → (p : ℕ) (r : Replaying) → slice_get start p ≡ Some r → r.head.process ≡ p
-process_is start parts heads whole p r at =
+pub process_is : (start : List Replaying) → AreGroupReplays start → All IsAtHead start → length start ≡ group_count start → (p : ℕ) (r : Replaying) → slice_get start p ≡ Some r → r.head.process ≡ p
+process_is start replayers heads whole p r at =
     let n = group_count start in
-    let below = all_below n start (recursion_from_All IsAtHead start heads) (recursion_from_All (λ (r : Replaying). r.head.count ≡ n) start parts.one) in
+    let below = all_below n start (recursion_from_All IsAtHead start heads) (recursion_from_All (λ (r : Replaying). r.head.count ≡ n) start replayers.one) in
     let count : 0 + length start ≡ n = omega (arith, whole) in
-    let is : r.head.process ≡ 0 + p = numbered 0 n start parts.ascends (from_zero start) below count p r at in
+    let is : r.head.process ≡ 0 + p = numbered 0 n start replayers.ascends (from_zero start) below count p r at in
     omega (arith, is)

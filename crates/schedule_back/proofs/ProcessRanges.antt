@@ -11,7 +11,7 @@ use Rattle.guest_process.specs.OneEvent.{IsKeptByEvents}
 use Rattle.guest_process.specs.State.{State}
 use Rattle.proc_replay.specs.Replaying.{Replaying}
 use Rattle.group_state.specs.Laws.{Stepwise}
-use Rattle.group_state.specs.Place.{AreParts, PartsFit, events_of_replays, states_of_nodes}
+use Rattle.group_state.specs.Place.{AreGroupReplays, ReplaysFit, events_of_replays, states_of_nodes}
 use Rattle.schedule_back.proofs.ListPlaces.{element}
 
 -- ---- the elements after one of them was set
@@ -50,11 +50,11 @@ fit_next before p S S' fits at fits' q T is = by_test (p == q) (sym (get_set bef
   by_test true is = subst StateFits (same_Some S' T is) fits'
   by_test false is = fits q T is
 
-pub all_fit : Stepwise → IsKeptByEvents → (start : List Replaying) → AreParts start → PartsFit start → (k : ℕ) → k ≤ length (events_of_replays start) → AllFit (states_of_nodes start k)
-all_fit stepwise kept start parts fits zero within =
+pub all_fit : Stepwise → IsKeptByEvents → (start : List Replaying) → AreGroupReplays start → ReplaysFit start → (k : ℕ) → k ≤ length (events_of_replays start) → AllFit (states_of_nodes start k)
+all_fit stepwise kept start replayers fits zero within =
     subst AllFit (sym (stepwise.begins start)) (fit_at start (recursion_from_All (λ (r : Replaying). StateFits r.state) start fits))
-all_fit stepwise kept start parts fits (suc k) within =
+all_fit stepwise kept start replayers fits (suc k) within =
     let e = element (events_of_replays start) k (omega (arith, within)) in
-    let s = stepwise.steps start parts fits k e.0 e.1 in
-    let before = all_fit stepwise kept start parts fits k (omega (arith, within)) in
+    let s = stepwise.steps start replayers fits k e.0 e.1 in
+    let before = all_fit stepwise kept start replayers fits k (omega (arith, within)) in
     subst AllFit (sym s.after) (fit_next (states_of_nodes start k) e.0.node s.state (next s.state e.0.entry) before s.stands (kept s.state e.0.entry (before e.0.node s.state s.stands) s.legal))

@@ -78,8 +78,8 @@ module _ (exact : ExactLogs) (ordered : Ordered) (stepwise : Stepwise) (possible
   head_is : (p : ℕ) (r : Replaying) → slice_get start p ≡ Some r → head_of_log (back_group lines start) p ≡ record r.head { version = Two }
   head_is p r at =
       let count : processes_in_group (back_group lines start) ≡ r.head.count =
-      size_is ∙ g.whole ∙ sym (at_place (λ (r : Replaying). r.head.count ≡ group_count start) start (recursion_from_All (λ (r : Replaying). r.head.count ≡ group_count start) start g.parts.one) p r at) in
-      let number : p ≡ r.head.process = sym (process_is start g.parts g.at_heads g.whole p r at) in
+      size_is ∙ g.whole ∙ sym (at_place (λ (r : Replaying). r.head.count ≡ group_count start) start (recursion_from_All (λ (r : Replaying). r.head.count ≡ group_count start) start g.replayers.one) p r at) in
+      let number : p ≡ r.head.process = sym (process_is start g.replayers g.at_heads g.whole p r at) in
       let name = name_at lines start g.names p r at in
       ap (λ n. made n p (slice_index_or (map (λ (line : ProcessLine). line.name) lines) p [])) count
       ∙ ap (λ n. made r.head.count n (slice_index_or (map (λ (line : ProcessLine). line.name) lines) p [])) number
@@ -117,8 +117,8 @@ module _ (exact : ExactLogs) (ordered : Ordered) (stepwise : Stepwise) (possible
   one_more e es k steps left at =
       let here = (next_of (events_of_replays start) k e es left).0 in
       let within : k ≤ length (events_of_replays start) = omega (arith, slice_get_within (events_of_replays start) k e here) in
-      stepped possible start (back_group lines start) k e steps here (stepwise.steps start g.parts g.fits k e here)
-      (all_fit stepwise kept start g.parts g.fits k within) (length_states 0 start (take k (events_of_replays start))) have_room at
+      stepped possible start (back_group lines start) k e steps here (stepwise.steps start g.replayers g.fits k e here)
+      (all_fit stepwise kept start g.replayers g.fits k within) (length_states 0 start (take k (events_of_replays start))) have_room at
 
   ends : (es : List (NodeEvent Entry)) (n k : ℕ) (steps : List RunStep) → drop k (events_of_replays start) ≡ es → IsAt start (back_group lines start) k steps → Ends n k steps es
   ends [] n k steps left at = record { after = steps; comes = refl; at = at_end k steps left at }
@@ -164,9 +164,9 @@ module _ (exact : ExactLogs) (ordered : Ordered) (stepwise : Stepwise) (possible
   ranged bytes = all_by_place (IsRanged (length lines)) (events_of_replays start) one where
     one : (k : ℕ) (e : NodeEvent Entry) → slice_get (events_of_replays start) k ≡ Some e → IsRanged (length lines) e
     one k e at =
-        let s = stepwise.steps start g.parts g.fits k e at in
+        let s = stepwise.steps start g.replayers g.fits k e at in
         let within : k ≤ length (events_of_replays start) = omega (arith, slice_get_within (events_of_replays start) k e at) in
-        let fit = all_fit stepwise kept start g.parts g.fits k within e.node s.state s.stands in
+        let fit = all_fit stepwise kept start g.replayers g.fits k within e.node s.state s.stands in
         let n = numbers s.state e.entry fit s.legal in
         record {
           process = omega (arith, slice_get_within (states_of_nodes start k) e.node s.state s.stands, length_states 0 start (take k (events_of_replays start)), length_lines);
@@ -188,7 +188,7 @@ module _ (exact : ExactLogs) (ordered : Ordered) (stepwise : Stepwise) (possible
   formed text says bytes = record {
     formed = record {
       some = omega (arith, length_lines, g.some);
-      most = omega (arith, length_lines, g.parts.few);
+      most = omega (arith, length_lines, g.replayers.few);
       lines = All-from_recursion IsProcess lines (are_processes lines start g.names heads says.named);
       names = g.apart;
       items = all_in (length lines) (events_of_replays start) (ranged bytes);

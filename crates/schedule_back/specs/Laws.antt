@@ -11,7 +11,7 @@ use Rattle.schedule_text.specs.Limits.{most_schedule}
 use Rattle.schedule_text.specs.Schedule.{IsSchedule}
 use Rattle.schedule_text.specs.Text.{text_of}
 use Rattle.schedule_text.specs.declared.process.ProcessLine.{ProcessLine}
-use Rattle.group_state.specs.Place.{AreParts, PartsFit, events_of_replays, group_count, node_names}
+use Rattle.group_state.specs.Place.{AreGroupReplays, ReplaysFit, events_of_replays, group_count, node_names}
 use Rattle.schedule_back.specs.Back.{back, schedule_of_events}
 use Rattle.schedule_back.specs.Outcome.{text_or_refusal}
 use Rattle.schedule_back.specs.Meanings.{BringBytes}
@@ -20,8 +20,8 @@ use Rattle.schedule_back.specs.Meanings.{BringBytes}
 -- that its log says, which no other has
 pub record IsWholeGroup (lines : List ProcessLine) (start : List Replaying) : Type 0 where
   pub some : 1 ≤ length start
-  pub parts : AreParts start
-  pub fits : PartsFit start
+  pub replayers : AreGroupReplays start
+  pub fits : ReplaysFit start
   pub at_heads : All IsAtHead start
   pub whole : length start ≡ group_count start
   pub names : map (λ line. line.name) lines ≡ node_names start

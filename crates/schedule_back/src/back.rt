@@ -1,6 +1,6 @@
 // The schedule of the logs of a group.
 ghost use Rattle.std.specs.Prelude.{◌≡◌, IfOk, MatchResult, Ok, length};
-ghost use Rattle.group_state.specs.Place.{AreParts, events_of_replays};
+ghost use Rattle.group_state.specs.Place.{AreGroupReplays, events_of_replays};
 ghost use Rattle.schedule_back.specs.Outcome.{first_bad_name, first_not_whole, is_whole, text_or_refusal};
 ghost use Rattle.schedule_back.specs.Meanings.{BringBytes, IsBackError};
 
@@ -53,16 +53,16 @@ fn first_bad_name(lines: &[ProcessLine]) -> Option<usize>
 pub fn schedule_back(
     alloc: Global,
     lines: &[ProcessLine],
-    parts: Vec<Replayer<'_, '_>>,
+    replayers: Vec<Replayer<'_, '_>>,
 ) -> Result<Text, BackError>
-    requires parts { AreParts parts.items }
-    requires lines { length lines.now ≡ length parts.items }
-    ensures answer { MatchResult result (λ text. text_or_refusal lines.now parts.entry.items ≡ Ok text)
-        (IsBackError (text_or_refusal lines.now parts.entry.items)) }
-    ensures bytes { IfOk result (λ _. BringBytes (events_of_replays parts.entry.items)) }
+    requires replayers { AreGroupReplays replayers.items }
+    requires lines { length lines.now ≡ length replayers.items }
+    ensures answer { MatchResult result (λ text. text_or_refusal lines.now replayers.entry.items ≡ Ok text)
+        (IsBackError (text_or_refusal lines.now replayers.entry.items)) }
+    ensures bytes { IfOk result (λ _. BringBytes (events_of_replays replayers.entry.items)) }
 {
     let draft = begin(alloc, lines)?;
-    let group = Group::begin(alloc, parts)?;
+    let group = Group::begin(alloc, replayers)?;
     let (group, draft) = walk(alloc, group, draft)?;
     if let Some(process) = first_not_whole(&group) {
         return Err(BackError::NotWhole(process));

@@ -21,7 +21,7 @@ use Rattle.proc_replay.specs.AtHead.{IsAtHead}
 use Rattle.proc_replay.specs.Replaying.{Replaying}
 use Rattle.schedule_text.specs.Laws.{TextIsRead}
 use Rattle.schedule_text.specs.declared.process.ProcessLine.{ProcessLine}
-use Rattle.group_state.specs.Place.{AreParts, events_of_replays}
+use Rattle.group_state.specs.Place.{AreGroupReplays, events_of_replays}
 use Rattle.schedule_back.specs.Laws.{Converse, RecordsBack as BackRecords, back_group, back_run}
 use Rattle.schedule_back.specs.Outcome.{text_or_refusal}
 use Rattle.schedule_back.specs.Meanings.{BringBytes}
@@ -132,10 +132,10 @@ module _ (exact : ExactLogs) (rewritten_read : RewrittenIsRead) (reads : ReadsMo
       }
 
   -- where the schedule has this text
-  module _ (parts : AreParts (sort_replays [] rs)) (at_heads : All IsAtHead (sort_replays [] rs)) (complete : IsTrue (is_complete (sort_replays [] rs))) (text : List ℕ)
+  module _ (replayers : AreGroupReplays (sort_replays [] rs)) (at_heads : All IsAtHead (sort_replays [] rs)) (complete : IsTrue (is_complete (sort_replays [] rs))) (text : List ℕ)
       (text_is : text_or_refusal (lines_of_replays pairs ls (sort_replays [] rs)) (sort_replays [] rs) ≡ Ok text) (bytes : BringBytes (events_of_replays (sort_replays [] rs))) where
     back_is : BackRecords lines start text
-    back_is = converse lines start text (whole_group exact reads started folder pairs ls start found.apart found.ofs parts at_heads complete) bytes text_is
+    back_is = converse lines start text (whole_group exact reads started folder pairs ls start found.apart found.ofs replayers at_heads complete) bytes text_is
 
     -- each process begins there as it began here
     begin_as : (later : Folder) → AllByRecursion (λ (pair : Pair). get later pair.module_name ≡ get folder pair.module_name) pairs → AllBeginAs later (length lines) 0 lines start

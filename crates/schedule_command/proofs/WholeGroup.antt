@@ -18,7 +18,7 @@ use Rattle.guest_process.specs.Fits.{StateFits}
 use Rattle.guest_process.specs.OneEvent.{IsStarted}
 use Rattle.guest_process.specs.Start.{start}
 use Rattle.proc_replay.specs.Replaying.{Replaying}
-use Rattle.group_state.specs.Place.{AreParts, AscendsByProcess, group_count}
+use Rattle.group_state.specs.Place.{AreGroupReplays, AscendsByProcess, group_count}
 use Rattle.schedule_text.specs.declared.process.ProcessLine.{ProcessLine}
 use Rattle.proc_replay.specs.AtHead.{IsAtHead}
 use Rattle.schedule_back.specs.Laws.{IsWholeGroup}
@@ -149,13 +149,13 @@ lines_apart folder pairs ls apart (r ∷ rs) ofs up =
     (All-from_recursion (Apart (line_of_replay pairs ls r)) (lines_of_replays pairs ls rs) (lines_behind folder pairs ls apart r ofs.0 rs ofs.1 up.0)) (lines_apart folder pairs ls apart rs ofs.1 up.1)
 
 pub whole_group : ExactLogs → ReadsModules → IsStarted → (folder : Folder) (pairs : List Pair) (ls : List Loaded) (start : List Replaying) → AllApart ls
-    → AllByRecursion (HasPair folder pairs ls) start → AreParts start → All IsAtHead start → IsTrue (is_complete start) → IsWholeGroup (lines_of_replays pairs ls start) start
-whole_group exact reads started folder pairs ls start apart ofs parts at_heads complete = record {
+    → AllByRecursion (HasPair folder pairs ls) start → AreGroupReplays start → All IsAtHead start → IsTrue (is_complete start) → IsWholeGroup (lines_of_replays pairs ls start) start
+whole_group exact reads started folder pairs ls start apart ofs replayers at_heads complete = record {
   some = complete_some start complete;
-  parts = parts;
+  replayers = replayers;
   fits = All-from_recursion (λ (r : Replaying). StateFits r.state) start (all_so (HasPair folder pairs ls) (λ r. StateFits r.state) start (fits exact reads started folder pairs ls) ofs);
   at_heads = at_heads;
   whole = complete_count start complete;
   names = names_are pairs ls start;
-  apart = lines_apart folder pairs ls apart start ofs parts.ascends;
+  apart = lines_apart folder pairs ls apart start ofs replayers.ascends;
 }

@@ -3,7 +3,7 @@ ghost use Rattle.std.specs.Prelude.{◌≡◌, [], false, List, length, map, opt
 ghost use Rattle.fri_outside.specs.Outside.{Counts, WhenTold};
 ghost use Rattle.command_run.specs.Call.{CountsFaults, RaisesCount, StopsAsCause, reads_after, writes_after};
 ghost use Rattle.command_run.specs.Run.{PerformedCommand, expectation, file_state};
-ghost use Rattle.group_state.specs.Place.{AreParts, events_of_replays};
+ghost use Rattle.group_state.specs.Place.{AreGroupReplays, events_of_replays};
 ghost use Rattle.log_pairs.specs.Pairs.{Loaded as LoadedOf};
 ghost use Rattle.log_pairs.specs.Meanings.{AreLoadedPairs, pair_of};
 ghost use Rattle.schedule_back.specs.Meanings.{BringBytes};
@@ -25,13 +25,13 @@ fn lines_of<'a>(
     alloc: Global,
     pairs: &[Pair<'a>],
     all: &[Loaded<'a>],
-    parts: &[Replayer<'_, '_>],
+    replayers: &[Replayer<'_, '_>],
 ) -> Result<Vec<ProcessLine>, AllocError>
-    ensures { IfOk result (λ lines. (ls : List LoadedOf) → AreLoadedPairs all.now ls → lines.items ≡ lines_of_replays (map pair_of pairs.now) ls parts.now) }
+    ensures { IfOk result (λ lines. (ls : List LoadedOf) → AreLoadedPairs all.now ls → lines.items ≡ lines_of_replays (map pair_of pairs.now) ls replayers.now) }
 {
     let mut lines = Vec::new(alloc);
-    for part in parts {
-        let head = part.head();
+    for replayer in replayers {
+        let head = replayer.head();
         let file = module_file(pairs, all, head.process);
         let name = Bytes::from_slice(alloc, head.name)?;
         let module = Bytes::from_slice(alloc, file.as_bytes())?;
@@ -41,12 +41,12 @@ fn lines_of<'a>(
 }
 
 // Whether these are the logs of all processes of a group.
-fn is_complete(parts: &[Replayer<'_, '_>]) -> bool
-    ensures { result ≡ is_complete parts.now }
+fn is_complete(replayers: &[Replayer<'_, '_>]) -> bool
+    ensures { result ≡ is_complete replayers.now }
 {
-    match parts {
+    match replayers {
         [] => false,
-        [first, ..] => parts.len() == first.head().count as usize,
+        [first, ..] => replayers.len() == first.head().count as usize,
     }
 }
 
@@ -55,21 +55,21 @@ fn make<'a>(
     alloc: Global,
     pairs: &[Pair<'a>],
     all: &[Loaded<'a>],
-    parts: Vec<Replayer<'_, '_>>,
+    replayers: Vec<Replayer<'_, '_>>,
 ) -> Result<WorkText, StopCause>
     requires loaded { (ls : List LoadedOf) × AreLoadedPairs all.now ls }
-    requires parts { AreParts parts.items }
-    ensures answer { (ls : List LoadedOf) → AreLoadedPairs all.now ls → MatchResult result (IsMade (map pair_of pairs.now) ls parts.entry.items)
-        (StopsAsCause (unless_incomplete (map pair_of pairs.now) ls parts.entry.items)) }
-    ensures bytes { IfOk result (λ _. BringBytes (events_of_replays parts.entry.items)) }
+    requires replayers { AreGroupReplays replayers.items }
+    ensures answer { (ls : List LoadedOf) → AreLoadedPairs all.now ls → MatchResult result (IsMade (map pair_of pairs.now) ls replayers.entry.items)
+        (StopsAsCause (unless_incomplete (map pair_of pairs.now) ls replayers.entry.items)) }
+    ensures bytes { IfOk result (λ _. BringBytes (events_of_replays replayers.entry.items)) }
     ensures cause { (old new : Counts) → IfErr result (RaisesCount old new) }
     ensures still { (n : ℕ) → (reads_after n result ≡ n) × (writes_after n result ≡ n) }
 {
-    if !is_complete(&parts) {
+    if !is_complete(&replayers) {
         return Err(StopCause::refuse(alloc, first_log(pairs), Reason::Incomplete));
     }
-    let lines = lines_of(alloc, pairs, all, &parts)?;
-    match schedule_back(alloc, &lines, parts) {
+    let lines = lines_of(alloc, pairs, all, &replayers)?;
+    match schedule_back(alloc, &lines, replayers) {
         Ok(text) => Ok(WorkText::Done(text)),
         Err(BackError::NotWhole(p)) => {
             let file = log_file(pairs, all, p);
@@ -109,6 +109,6 @@ pub fn schedule<'a, F: Files>(
     guest_process::laws::states_fit();
     schedule_back::laws::records_back();
     let all = load_all(alloc, pairs, files)?;
-    let parts = begin_all(alloc, &all)?;
-    make(alloc, pairs, &all, parts)
+    let replayers = begin_all(alloc, &all)?;
+    make(alloc, pairs, &all, replayers)
 }

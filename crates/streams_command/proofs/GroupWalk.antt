@@ -11,7 +11,7 @@ use Rattle.proc_replay.specs.Replaying.{Replaying}
 use Rattle.group_state.specs.declared.event.GroupEvent.{GroupEvent}
 use Rattle.group_state.specs.Laws.{Ordered, Stepwise}
 use Rattle.group_state.specs.Moves.{GroupMoves, event_of}
-use Rattle.group_state.specs.Place.{AreParts, PartsFit, GroupPlace, events_of_replays, states_of_nodes, states_from}
+use Rattle.group_state.specs.Place.{AreGroupReplays, ReplaysFit, GroupPlace, events_of_replays, states_of_nodes, states_from}
 use Rattle.byte_streams.specs.Laws.{UnsentIsFree}
 use Rattle.byte_streams.specs.Traffic.{SendOrReceive}
 use Rattle.streams_command.specs.declared.telling.Told.{Told}
@@ -60,17 +60,17 @@ pub record IsNext (start : List Replaying) (old new : GroupPlace) (event : Group
   pub odd : t.odd + 1 < 2 ^ 64
   pub foreign : t.foreign + 1 < 2 ^ 64
 
-pub is_next : Ordered → Stepwise → UnsentIsFree → (start : List Replaying) (old new : GroupPlace) (event : GroupEvent) (told : Told) → AreParts start → PartsFit new.start → new.at < 2 ^ 64
+pub is_next : Ordered → Stepwise → UnsentIsFree → (start : List Replaying) (old new : GroupPlace) (event : GroupEvent) (told : Told) → AreGroupReplays start → ReplaysFit new.start → new.at < 2 ^ 64
     → WalkedTo start old told → GroupMoves old new (Some event) → IsNext start old new event told
-is_next ordered stepwise free start old new event told parts fits bound so_far moves =
+is_next ordered stepwise free start old new event told replayers fits bound so_far moves =
     let es = events_of_replays start in
     let e = event_of event in
     let traffic = traffic_of_events start (take old.at es) in
     let at : slice_get es old.at ≡ Some e = ap (λ (s : List Replaying). slice_get (events_of_replays s) old.at) (sym so_far.same) ∙ sym moves.gives in
     let more : new.at ≡ old.at + 1 = ap (λ (p : GroupPlace). p.at) moves.place in
     let same : new.start ≡ start = ap (λ (p : GroupPlace). p.start) moves.place ∙ so_far.same in
-    let first_fits = subst PartsFit same fits in
-    let step = stepwise.steps start parts first_fits old.at e at in
+    let first_fits = subst ReplaysFit same fits in
+    let step = stepwise.steps start replayers first_fits old.at e at in
     let among = slice_get_within (states_of_nodes start old.at) event.node step.state step.stands in
     let within : event.node < length start = omega (arith, among, count_states 0 start (take old.at es)) in
     let some = few start (take old.at es) in
@@ -81,7 +81,7 @@ is_next ordered stepwise free start old new event told parts fits bound so_far m
       same = same;
       within = within;
       unsent = free told.streams traffic (process_at start event.node) event.entry.clock so_far.told.streams
-          (unsent start es old.at e parts.ascends within (ordered start first_fits).0.sorted at);
+          (unsent start es old.at e replayers.ascends within (ordered start first_fits).0.sorted at);
       odd = omega (arith, so_far.told.odd, odd_within traffic, some, front, more, bound);
       foreign = omega (arith, so_far.told.foreign, foreign_within traffic, some, front, more, bound);
     }

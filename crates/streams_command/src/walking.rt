@@ -1,7 +1,7 @@
 // `streams MODULE LOG ..`: what was written to each stream of a group, and read of it.
 ghost use Rattle.std.specs.Prelude.{◌≡◌, [], false, map, option_map, IfOk};
 ghost use Rattle.command_run.specs.Run.{PerformedCommand, expectation, file_state};
-ghost use Rattle.group_state.specs.Place.{AreParts, events_of_replays, group_count};
+ghost use Rattle.group_state.specs.Place.{AreGroupReplays, events_of_replays, group_count};
 ghost use Rattle.log_pairs.specs.Meanings.{pair_of};
 ghost use Rattle.streams_command.specs.inside.Meanings.{IsToldOf};
 ghost use Rattle.streams_command.specs.Streams.{streams_outcome, streams_text, traffic_of_events};
@@ -16,40 +16,40 @@ use log_pairs::{Pair, begin_all, load_all};
 use proc_replay::Replayer;
 use std::alloc::{AllocError, Global};
 
-fn process_of(part: &Replayer<'_, '_>) -> u32
-    ensures { result ≡ part.now.head.process }
+fn process_of(replayer: &Replayer<'_, '_>) -> u32
+    ensures { result ≡ replayer.now.head.process }
 {
-    part.head().process
+    replayer.head().process
 }
 
 // The numbers of the processes of these replays.
-fn processes_of(alloc: Global, parts: &[Replayer<'_, '_>]) -> Result<Vec<u32>, AllocError>
-    ensures { IfOk result (λ processes. processes.items ≡ map (λ r. r.head.process) parts.now) }
+fn processes_of(alloc: Global, replayers: &[Replayer<'_, '_>]) -> Result<Vec<u32>, AllocError>
+    ensures { IfOk result (λ processes. processes.items ≡ map (λ r. r.head.process) replayers.now) }
 {
-    parts.iter().map(process_of).collect(alloc)
+    replayers.iter().map(process_of).collect(alloc)
 }
 
 // The number of processes of the group whose logs these are.
-fn group_count(parts: &[Replayer<'_, '_>]) -> u32
-    ensures { result ≡ group_count parts.now }
+fn group_count(replayers: &[Replayer<'_, '_>]) -> u32
+    ensures { result ≡ group_count replayers.now }
 {
-    match parts {
+    match replayers {
         [] => 0,
-        [part, ..] => part.head().count,
+        [replayer, ..] => replayer.head().count,
     }
 }
 
 // What the events of these logs sent and took, all told in their order.
-fn walk(alloc: Global, parts: Vec<Replayer<'_, '_>>) -> Result<Told, AllocError>
-    requires { AreParts parts.items }
-    ensures { IfOk result (λ told. IsToldOf told (traffic_of_events parts.entry.items (events_of_replays parts.entry.items))) }
+fn walk(alloc: Global, replayers: Vec<Replayer<'_, '_>>) -> Result<Told, AllocError>
+    requires { AreGroupReplays replayers.items }
+    ensures { IfOk result (λ told. IsToldOf told (traffic_of_events replayers.entry.items (events_of_replays replayers.entry.items))) }
 {
     group_state::laws::ordered();
     group_state::laws::stepwise();
     byte_streams::laws::unsent_is_free();
-    let count = group_count(&parts);
-    let processes = processes_of(alloc, &parts)?;
-    let mut here = Group::begin(alloc, parts)?;
+    let count = group_count(&replayers);
+    let processes = processes_of(alloc, &replayers)?;
+    let mut here = Group::begin(alloc, replayers)?;
     let mut told = Told::nothing(alloc);
     'events: loop {
         let (next, event) = here.forward()?;
@@ -64,11 +64,11 @@ fn walk(alloc: Global, parts: Vec<Replayer<'_, '_>>) -> Result<Told, AllocError>
 }
 
 // What is said of the streams of these logs.
-fn text_of(alloc: Global, parts: Vec<Replayer<'_, '_>>) -> Result<Text, AllocError>
-    requires { AreParts parts.items }
-    ensures { IfOk result (λ text. text ≡ streams_text (traffic_of_events parts.entry.items (events_of_replays parts.entry.items))) }
+fn text_of(alloc: Global, replayers: Vec<Replayer<'_, '_>>) -> Result<Text, AllocError>
+    requires { AreGroupReplays replayers.items }
+    ensures { IfOk result (λ text. text ≡ streams_text (traffic_of_events replayers.entry.items (events_of_replays replayers.entry.items))) }
 {
-    let told = walk(alloc, parts)?;
+    let told = walk(alloc, replayers)?;
     print(alloc, &told)
 }
 
@@ -83,7 +83,7 @@ pub fn streams<F: Files>(
     ensures same { F.told files.new ≡ F.told files.old }
 {
     let all = load_all(alloc, pairs, files)?;
-    let parts = begin_all(alloc, &all)?;
-    let text = text_of(alloc, parts)?;
+    let replayers = begin_all(alloc, &all)?;
+    let text = text_of(alloc, replayers)?;
     Ok(WorkText::Done(text))
 }

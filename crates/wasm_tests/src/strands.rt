@@ -73,8 +73,8 @@ fn a_copy_of_a_store_has_a_memory_of_its_own(rt: HostRuntime) -> Result<(), Fail
     let store = Store::start(rt.alloc(), &module)?;
     let mut copy = store.copy()?;
     assert!(rt; copy.memory_mut().write(8, b"LOG")?);
-    assert_eq!(rt; copy.memory().part(8, 3), Some(b"LOG".as_slice()));
-    assert_eq!(rt; store.memory().part(8, 3), Some(b"log".as_slice()));
+    assert_eq!(rt; copy.memory().lent(8, 3), Some(b"LOG".as_slice()));
+    assert_eq!(rt; store.memory().lent(8, 3), Some(b"log".as_slice()));
     Ok(())
 }
 

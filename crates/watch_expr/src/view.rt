@@ -14,7 +14,7 @@ pub trait View {
 
     /// The longest first part of the range that stays in one watch page of 4,096 bytes. `None` comes
     /// exactly where the range does not lie in the node's memory.
-    fn part(&self, node: u32, addr: u64, len: u64) -> Option<&[u8]>
+    fn lent(&self, node: u32, addr: u64, len: u64) -> Option<&[u8]>
         requires { node < length (nodes self.now) }
         ensures { option_map (λ part. part.now) result ≡ part_at (nodes self.now) node addr len };
 

@@ -2,7 +2,7 @@
 use Rattle.std.specs.Prelude.{◌≡◌, ℕ, false, List, [], ◌∷◌, map, take, Some}
 use Rattle.call_log.specs.Log.{Log, entries_of, rewritten_log}
 use Rattle.proc_replay.specs.Replaying.{Replaying}
-use Rattle.group_state.specs.Place.{PartsFit}
+use Rattle.group_state.specs.Place.{ReplaysFit}
 use Rattle.causal_cut.specs.Laws.{IsLeastPast}
 use Rattle.causal_cut.specs.Past.{Lengths, lengths_or_none}
 use Rattle.command_run.specs.Outcome.{CommandWork}
@@ -34,7 +34,7 @@ pub record AreLeastFronts (start : List Replaying) (node event : ℕ) (fronts : 
   pub lengths : Lengths
   pub found : lengths_or_none start node event ≡ Some lengths
   pub least : IsLeastPast start node event lengths.kept
-  pub fits : PartsFit start
+  pub fits : ReplaysFit start
   pub are : fronts ≡ fronts_of (map log_of_replay start) lengths.kept lengths.accepted
 
 -- the text, and the files that are to be made

@@ -10,20 +10,20 @@ use Rattle.group_state.specs.Moves.{event_of, last_event_of}
 use Rattle.group_state.specs.Place.{events_of_replays, node_event_count}
 
 -- each replay from this node on, after as many turns as it has events among these
-abbrev pub parts_from : ℕ → List Replaying → List (NodeEvent Entry) → List Replaying
-parts_from node [] es = []
-parts_from node (r ∷ rs) es = after_turns r (node_event_count node es) ∷ parts_from (suc node) rs es
+abbrev pub replayers_from : ℕ → List Replaying → List (NodeEvent Entry) → List Replaying
+replayers_from node [] es = []
+replayers_from node (r ∷ rs) es = after_turns r (node_event_count node es) ∷ replayers_from (suc node) rs es
 
 -- the memory of each process is one: whole pages, no more than its maximum
 abbrev pub AreSoundMemories : List Replaying → Type 0
-AreSoundMemories parts = All (λ r. IsMemory r.state.store.memory) parts
+AreSoundMemories replayers = All (λ r. IsMemory r.state.store.memory) replayers
 
--- the group of these replays stands so at some position: the parts had the turns of the events before it
+-- the group of these replays stands so at some position: they had the turns of the events before it
 pub record IsStand (start : List Replaying) (stand : Stand) : Type 0 where
-  pub parts : stand.parts.items ≡ parts_from 0 start (take stand.at (events_of_replays start))
+  pub replayers : stand.replayers.items ≡ replayers_from 0 start (take stand.at (events_of_replays start))
   pub within : stand.at ≤ length (events_of_replays start)
   pub last : option_map event_of stand.last ≡ last_event_of (record { start = start; at = stand.at })
-  pub sound : AreSoundMemories stand.parts.items
+  pub sound : AreSoundMemories stand.replayers.items
 
 -- and so it does at each of several
 abbrev pub AreStands : List Replaying → List Stand → Type 0
@@ -31,7 +31,7 @@ AreStands start stands = All (IsStand start) stands
 
 -- both are where the group is
 pub record SameStand (stand copy : Stand) : Type 0 where
-  pub parts : copy.parts.items ≡ stand.parts.items
+  pub replayers : copy.replayers.items ≡ stand.replayers.items
   pub at : copy.at ≡ stand.at
   pub last : copy.last ≡ stand.last
 

@@ -26,11 +26,11 @@ fn piece<V: View>(v: &V, node: u32, addr: u64, count: u64) -> Option<[u8; 8]>
     ensures { option_map (λ bytes. take count bytes) result ≡ bytes_of_node (V.nodes v.now) node addr count }
 {
     let mut bytes = [0; 8];
-    let first = v.part(node, addr, count)?;
+    let first = v.lent(node, addr, count)?;
     put(&mut bytes, 0, first);
     let at = first.len() as u64;
     if at < count {
-        let rest = v.part(node, addr + at, count - at)?;
+        let rest = v.lent(node, addr + at, count - at)?;
         put(&mut bytes, first.len(), rest);
     }
     Some(bytes)

@@ -13,7 +13,7 @@ use Rattle.causal_cut.proofs.cut.least_cut.Goals as goal
 
 pub returns-clause-answer : goal.returns-clause-answer
 returns-clause-answer c =
-    let start = c.args.parts.items in
+    let start = c.args.replayers.items in
     let asks = c.in_ok-walked.walked.asks.items in
     let counts = c.in_ok-walked.walked.counts.items in
     let begun : c.in_ok-group.group.start ≡ start = ap (λ (p : GroupPlace). p.start) c.in_ok-group.ensures in
@@ -31,7 +31,7 @@ returns-clause-answer c =
 
 pub returns-clause-least : goal.returns-clause-least
 returns-clause-least c =
-    let start = c.args.parts.items in
+    let start = c.args.replayers.items in
     let asks = c.in_ok-walked.walked.asks.items in
     let counts = c.in_ok-walked.walked.counts.items in
     let begun : c.in_ok-group.group.start ≡ start = ap (λ (p : GroupPlace). p.start) c.in_ok-group.ensures in

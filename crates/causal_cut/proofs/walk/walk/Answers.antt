@@ -11,25 +11,25 @@ events-init c =
 pub returns-in_default-clause-asks : goal.returns-in_default-clause-asks
 returns-in_default-clause-asks c =
     let moves = subst (λ (e : Option GroupEvent). GroupMoves c.events.here c.in_ok-next.next e) c.in_default.is c.in_ok-next.ensures in
-    (walk_ends c.ordered.ensures.order c.ordered.ensures.sends c.args.group c.position.ensures.parts c.position.ensures.fits c.args.numbers.now c.requires.numbers
+    (walk_ends c.ordered.ensures.order c.ordered.ensures.sends c.args.group c.position.ensures.replayers c.position.ensures.fits c.args.numbers.now c.requires.numbers
     c.events.here c.in_ok-next.next c.events.clocks c.events.asks.items c.events.invariant moves).0
 
 pub returns-in_default-clause-counts : goal.returns-in_default-clause-counts
 returns-in_default-clause-counts c =
     let moves = subst (λ (e : Option GroupEvent). GroupMoves c.events.here c.in_ok-next.next e) c.in_default.is c.in_ok-next.ensures in
     c.in_ok-counts.ensures
-    ∙ (walk_ends c.ordered.ensures.order c.ordered.ensures.sends c.args.group c.position.ensures.parts c.position.ensures.fits c.args.numbers.now c.requires.numbers
+    ∙ (walk_ends c.ordered.ensures.order c.ordered.ensures.sends c.args.group c.position.ensures.replayers c.position.ensures.fits c.args.numbers.now c.requires.numbers
     c.events.here c.in_ok-next.next c.events.clocks c.events.asks.items c.events.invariant moves).1
 
 pub push_ask-requires : goal.push_ask-requires
 push_ask-requires c =
     let moves = subst (λ (e : Option GroupEvent). GroupMoves c.events.here c.in_ok-next.next e) c.in-Some.is c.in_ok-next.ensures in
     record {
-      few = few_nodes c.ordered.ensures.order c.ordered.ensures.sends c.args.group c.position.ensures.parts c.position.ensures.fits c.args.numbers.now c.requires.numbers
+      few = few_nodes c.ordered.ensures.order c.ordered.ensures.sends c.args.group c.position.ensures.replayers c.position.ensures.fits c.args.numbers.now c.requires.numbers
           c.events.here c.in_ok-next.next c.events.clocks c.events.asks.items c.events.invariant;
-      clocks = clocks_ready c.ordered.ensures.order c.ordered.ensures.sends c.args.group c.position.ensures.parts c.position.ensures.fits c.args.numbers.now c.requires.numbers
+      clocks = clocks_ready c.ordered.ensures.order c.ordered.ensures.sends c.args.group c.position.ensures.replayers c.position.ensures.fits c.args.numbers.now c.requires.numbers
           c.events.here c.in_ok-next.next c.events.clocks c.events.asks.items c.events.invariant;
-      node = node_ready c.ordered.ensures.order c.ordered.ensures.sends c.args.group c.position.ensures.parts c.position.ensures.fits c.args.numbers.now c.requires.numbers
+      node = node_ready c.ordered.ensures.order c.ordered.ensures.sends c.args.group c.position.ensures.replayers c.position.ensures.fits c.args.numbers.now c.requires.numbers
           c.events.here c.in_ok-next.next c.events.clocks c.events.asks.items c.events.invariant c.in-Some.event moves;
     }
 
@@ -37,21 +37,21 @@ pub add-requires : goal.add-requires
 add-requires c =
     let moves = subst (λ (e : Option GroupEvent). GroupMoves c.events.here c.in_ok-next.next e) c.in-Some.is c.in_ok-next.ensures in
     let node : c.in-Some.event.node < length c.args.numbers.now =
-    node_ready c.ordered.ensures.order c.ordered.ensures.sends c.args.group c.position.ensures.parts c.position.ensures.fits c.args.numbers.now c.requires.numbers
+    node_ready c.ordered.ensures.order c.ordered.ensures.sends c.args.group c.position.ensures.replayers c.position.ensures.fits c.args.numbers.now c.requires.numbers
     c.events.here c.in_ok-next.next c.events.clocks c.events.asks.items c.events.invariant c.in-Some.event moves in
-    let clocks = clocks_ready c.ordered.ensures.order c.ordered.ensures.sends c.args.group c.position.ensures.parts c.position.ensures.fits c.args.numbers.now c.requires.numbers
+    let clocks = clocks_ready c.ordered.ensures.order c.ordered.ensures.sends c.args.group c.position.ensures.replayers c.position.ensures.fits c.args.numbers.now c.requires.numbers
     c.events.here c.in_ok-next.next c.events.clocks c.events.asks.items c.events.invariant in
     omega (arith, node, clocks.count)
 
 pub events-preserved : goal.events-preserved
 events-preserved c =
     let moves = subst (λ (e : Option GroupEvent). GroupMoves c.events.here c.in_ok-next.next e) c.in-Some.is c.in_ok-next.ensures in
-    (walk_more c.ordered.ensures.order c.ordered.ensures.sends c.args.group c.position.ensures.parts c.position.ensures.fits c.args.numbers.now c.requires.numbers
+    (walk_more c.ordered.ensures.order c.ordered.ensures.sends c.args.group c.position.ensures.replayers c.position.ensures.fits c.args.numbers.now c.requires.numbers
     c.events.here c.in_ok-next.next c.events.clocks c.events.asks.items c.events.invariant c.in-Some.event c.add.new.self c.push_ask.new.asks.items moves c.in_ok-add.ensures c.in_ok-push_ask.ensures).0
 
 pub events-smaller : goal.events-smaller
 events-smaller c =
     let moves = subst (λ (e : Option GroupEvent). GroupMoves c.events.here c.in_ok-next.next e) c.in-Some.is c.in_ok-next.ensures in
-    let more = walk_more c.ordered.ensures.order c.ordered.ensures.sends c.args.group c.position.ensures.parts c.position.ensures.fits c.args.numbers.now c.requires.numbers
+    let more = walk_more c.ordered.ensures.order c.ordered.ensures.sends c.args.group c.position.ensures.replayers c.position.ensures.fits c.args.numbers.now c.requires.numbers
     c.events.here c.in_ok-next.next c.events.clocks c.events.asks.items c.events.invariant c.in-Some.event c.add.new.self c.push_ask.new.asks.items moves c.in_ok-add.ensures c.in_ok-push_ask.ensures in
     omega (arith, more.1, more.2)

@@ -17,33 +17,33 @@ returns-in_err-all-clause-makes g c =
     let stops = opening_stops c.args.process c.args.event pairs told c.in_err-all.field-0.0 c.in_err-all.ensures.answer in
     rw (p.1, p.2) (refused_makes (cut_outcome c.args.process c.args.event pairs) told (g.F.Files.told c.load_all.new.files) c.in_err-all.field-0.0 stops c.load_all.ensures.same)
 
-pub returns-in_err-parts-clause-tells : goal.returns-in_err-parts-clause-tells
-returns-in_err-parts-clause-tells g c =
-    let p = err_from_is_err_and c.from_residual-in_err-parts.result c.from_residual-in_err-parts.ensures.1 in
+pub returns-in_err-replayers-clause-tells : goal.returns-in_err-replayers-clause-tells
+returns-in_err-replayers-clause-tells g c =
+    let p = err_from_is_err_and c.from_residual-in_err-replayers.result c.from_residual-in_err-replayers.ensures.1 in
     let pairs = map pair_of c.args.pairs.now in
     let told = g.F.Files.told c.args.files.now in
-    let stops = opening_stops c.args.process c.args.event pairs told c.in_err-parts.field-0.0
-    (c.in_err-parts.ensures.answer pairs told (subst (WereLoaded pairs told) (sym c.deref.ensures.value) c.in_ok-all.ensures.answer)) in
-    rw (p.1, p.2) (refused_tells (cut_outcome c.args.process c.args.event pairs) told c.in_err-parts.field-0.0 stops)
+    let stops = opening_stops c.args.process c.args.event pairs told c.in_err-replayers.field-0.0
+    (c.in_err-replayers.ensures.answer pairs told (subst (WereLoaded pairs told) (sym c.deref.ensures.value) c.in_ok-all.ensures.answer)) in
+    rw (p.1, p.2) (refused_tells (cut_outcome c.args.process c.args.event pairs) told c.in_err-replayers.field-0.0 stops)
 
-pub returns-in_err-parts-clause-makes : goal.returns-in_err-parts-clause-makes
-returns-in_err-parts-clause-makes g c =
-    let p = err_from_is_err_and c.from_residual-in_err-parts.result c.from_residual-in_err-parts.ensures.1 in
+pub returns-in_err-replayers-clause-makes : goal.returns-in_err-replayers-clause-makes
+returns-in_err-replayers-clause-makes g c =
+    let p = err_from_is_err_and c.from_residual-in_err-replayers.result c.from_residual-in_err-replayers.ensures.1 in
     let pairs = map pair_of c.args.pairs.now in
     let told = g.F.Files.told c.args.files.now in
-    let stops = opening_stops c.args.process c.args.event pairs told c.in_err-parts.field-0.0
-    (c.in_err-parts.ensures.answer pairs told (subst (WereLoaded pairs told) (sym c.deref.ensures.value) c.in_ok-all.ensures.answer)) in
-    rw (p.1, p.2) (refused_makes (cut_outcome c.args.process c.args.event pairs) told (g.F.Files.told c.load_all.new.files) c.in_err-parts.field-0.0 stops c.load_all.ensures.same)
+    let stops = opening_stops c.args.process c.args.event pairs told c.in_err-replayers.field-0.0
+    (c.in_err-replayers.ensures.answer pairs told (subst (WereLoaded pairs told) (sym c.deref.ensures.value) c.in_ok-all.ensures.answer)) in
+    rw (p.1, p.2) (refused_makes (cut_outcome c.args.process c.args.event pairs) told (g.F.Files.told c.load_all.new.files) c.in_err-replayers.field-0.0 stops c.load_all.ensures.same)
 
-pub returns-in_err-parts-clause-counts : goal.returns-in_err-parts-clause-counts
-returns-in_err-parts-clause-counts g c =
-    let p = err_from_is_err_and c.from_residual-in_err-parts.result c.from_residual-in_err-parts.ensures.1 in
-    rw (p.1, p.2) (counts_still _ _ _ (Err c.in_err-parts.field-0.0) c.in_err-parts.ensures.still c.in_ok-all.ensures.counts)
+pub returns-in_err-replayers-clause-counts : goal.returns-in_err-replayers-clause-counts
+returns-in_err-replayers-clause-counts g c =
+    let p = err_from_is_err_and c.from_residual-in_err-replayers.result c.from_residual-in_err-replayers.ensures.1 in
+    rw (p.1, p.2) (counts_still _ _ _ (Err c.in_err-replayers.field-0.0) c.in_err-replayers.ensures.still c.in_ok-all.ensures.counts)
 
-pub returns-in_err-parts-clause-cause : goal.returns-in_err-parts-clause-cause
-returns-in_err-parts-clause-cause g c =
-    let p = err_from_is_err_and c.from_residual-in_err-parts.result c.from_residual-in_err-parts.ensures.1 in
-    rw (p.1, p.2) (c.in_err-parts.ensures.cause (g.F.Files.counts c.args.files.now) (g.F.Files.counts c.load_all.new.files))
+pub returns-in_err-replayers-clause-cause : goal.returns-in_err-replayers-clause-cause
+returns-in_err-replayers-clause-cause g c =
+    let p = err_from_is_err_and c.from_residual-in_err-replayers.result c.from_residual-in_err-replayers.ensures.1 in
+    rw (p.1, p.2) (c.in_err-replayers.ensures.cause (g.F.Files.counts c.args.files.now) (g.F.Files.counts c.load_all.new.files))
 
 pub returns-in_err-past-clause-tells : goal.returns-in_err-past-clause-tells
 returns-in_err-past-clause-tells g c =
@@ -51,8 +51,8 @@ returns-in_err-past-clause-tells g c =
     let pairs = map pair_of c.args.pairs.now in
     let told = g.F.Files.told c.args.files.now in
     let loaded = subst (WereLoaded pairs told) (sym c.deref-2.ensures.value) c.in_ok-all.ensures.answer in
-    let begun = c.in_ok-parts.ensures.answer pairs told (subst (WereLoaded pairs told) (sym c.deref.ensures.value) c.in_ok-all.ensures.answer) in
-    let stops = found_past c.args.process c.args.event pairs told c.deref-2.result.now c.in_ok-parts.parts.items (Err c.in_err-past.field-0.0) loaded begun c.in_err-past.ensures.answer in
+    let begun = c.in_ok-replayers.ensures.answer pairs told (subst (WereLoaded pairs told) (sym c.deref.ensures.value) c.in_ok-all.ensures.answer) in
+    let stops = found_past c.args.process c.args.event pairs told c.deref-2.result.now c.in_ok-replayers.replayers.items (Err c.in_err-past.field-0.0) loaded begun c.in_err-past.ensures.answer in
     rw (p.1, p.2) (refused_tells (cut_outcome c.args.process c.args.event pairs) told c.in_err-past.field-0.0 stops)
 
 pub returns-in_err-past-clause-makes : goal.returns-in_err-past-clause-makes
@@ -61,8 +61,8 @@ returns-in_err-past-clause-makes g c =
     let pairs = map pair_of c.args.pairs.now in
     let told = g.F.Files.told c.args.files.now in
     let loaded = subst (WereLoaded pairs told) (sym c.deref-2.ensures.value) c.in_ok-all.ensures.answer in
-    let begun = c.in_ok-parts.ensures.answer pairs told (subst (WereLoaded pairs told) (sym c.deref.ensures.value) c.in_ok-all.ensures.answer) in
-    let stops = found_past c.args.process c.args.event pairs told c.deref-2.result.now c.in_ok-parts.parts.items (Err c.in_err-past.field-0.0) loaded begun c.in_err-past.ensures.answer in
+    let begun = c.in_ok-replayers.ensures.answer pairs told (subst (WereLoaded pairs told) (sym c.deref.ensures.value) c.in_ok-all.ensures.answer) in
+    let stops = found_past c.args.process c.args.event pairs told c.deref-2.result.now c.in_ok-replayers.replayers.items (Err c.in_err-past.field-0.0) loaded begun c.in_err-past.ensures.answer in
     rw (p.1, p.2) (refused_makes (cut_outcome c.args.process c.args.event pairs) told (g.F.Files.told c.load_all.new.files) c.in_err-past.field-0.0 stops c.load_all.ensures.same)
 
 pub returns-in_err-past-clause-counts : goal.returns-in_err-past-clause-counts
@@ -81,8 +81,8 @@ returns-in_err-write_cuts-clause-makes g c =
     let pairs = map pair_of c.args.pairs.now in
     let told = g.F.Files.told c.args.files.now in
     let loaded = subst (WereLoaded pairs told) (sym c.deref-2.ensures.value) c.in_ok-all.ensures.answer in
-    let begun = c.in_ok-parts.ensures.answer pairs told (subst (WereLoaded pairs told) (sym c.deref.ensures.value) c.in_ok-all.ensures.answer) in
-    let works = found_past c.args.process c.args.event pairs told c.deref-2.result.now c.in_ok-parts.parts.items (Ok c.in_ok-past.past) loaded begun c.in_ok-past.ensures.answer in
+    let begun = c.in_ok-replayers.ensures.answer pairs told (subst (WereLoaded pairs told) (sym c.deref.ensures.value) c.in_ok-all.ensures.answer) in
+    let works = found_past c.args.process c.args.event pairs told c.deref-2.result.now c.in_ok-replayers.replayers.items (Ok c.in_ok-past.past) loaded begun c.in_ok-past.ensures.answer in
     let e = c.in_err-write_cuts.field-0.0 in
     rw (p.1, p.2)
     (work_makes c.args.process c.args.event pairs told c.in_ok-past.past works (g.F.Files.told c.write_cuts.new.files) (Err e)
@@ -93,8 +93,8 @@ returns-clause-tells g c =
     let pairs = map pair_of c.args.pairs.now in
     let told = g.F.Files.told c.args.files.now in
     let loaded = subst (WereLoaded pairs told) (sym c.deref-2.ensures.value) c.in_ok-all.ensures.answer in
-    let begun = c.in_ok-parts.ensures.answer pairs told (subst (WereLoaded pairs told) (sym c.deref.ensures.value) c.in_ok-all.ensures.answer) in
-    let works = found_past c.args.process c.args.event pairs told c.deref-2.result.now c.in_ok-parts.parts.items (Ok c.in_ok-past.past) loaded begun c.in_ok-past.ensures.answer in
+    let begun = c.in_ok-replayers.ensures.answer pairs told (subst (WereLoaded pairs told) (sym c.deref.ensures.value) c.in_ok-all.ensures.answer) in
+    let works = found_past c.args.process c.args.event pairs told c.deref-2.result.now c.in_ok-replayers.replayers.items (Ok c.in_ok-past.past) loaded begun c.in_ok-past.ensures.answer in
     work_tells c.args.process c.args.event pairs told c.in_ok-past.past works
 
 pub returns-clause-makes : goal.returns-clause-makes
@@ -102,8 +102,8 @@ returns-clause-makes g c =
     let pairs = map pair_of c.args.pairs.now in
     let told = g.F.Files.told c.args.files.now in
     let loaded = subst (WereLoaded pairs told) (sym c.deref-2.ensures.value) c.in_ok-all.ensures.answer in
-    let begun = c.in_ok-parts.ensures.answer pairs told (subst (WereLoaded pairs told) (sym c.deref.ensures.value) c.in_ok-all.ensures.answer) in
-    let works = found_past c.args.process c.args.event pairs told c.deref-2.result.now c.in_ok-parts.parts.items (Ok c.in_ok-past.past) loaded begun c.in_ok-past.ensures.answer in
+    let begun = c.in_ok-replayers.ensures.answer pairs told (subst (WereLoaded pairs told) (sym c.deref.ensures.value) c.in_ok-all.ensures.answer) in
+    let works = found_past c.args.process c.args.event pairs told c.deref-2.result.now c.in_ok-replayers.replayers.items (Ok c.in_ok-past.past) loaded begun c.in_ok-past.ensures.answer in
     work_makes c.args.process c.args.event pairs told c.in_ok-past.past works (g.F.Files.told c.write_cuts.new.files) (Ok (answered.Done c.in_ok-past.past.text))
     (files_made (Ok tt) c.deref-3.result.now c.in_ok-past.past.fronts.items (g.F.Files.told c.load_all.new.files) told (g.F.Files.told c.write_cuts.new.files) c.deref-3.ensures.value c.load_all.ensures.same c.in_ok-write_cuts.ensures.made)
 
@@ -112,6 +112,6 @@ returns-clause-least g c =
     let pairs = map pair_of c.args.pairs.now in
     let told = g.F.Files.told c.args.files.now in
     let loaded = subst (WereLoaded pairs told) (sym c.deref-2.ensures.value) c.in_ok-all.ensures.answer in
-    let begun = c.in_ok-parts.ensures.answer pairs told (subst (WereLoaded pairs told) (sym c.deref.ensures.value) c.in_ok-all.ensures.answer) in
-    let works = found_past c.args.process c.args.event pairs told c.deref-2.result.now c.in_ok-parts.parts.items (Ok c.in_ok-past.past) loaded begun c.in_ok-past.ensures.answer in
-    work_cuts c.args.process c.args.event pairs told c.in_ok-past.past works c.in_ok-parts.parts.items begun c.in_ok-past.ensures.least
+    let begun = c.in_ok-replayers.ensures.answer pairs told (subst (WereLoaded pairs told) (sym c.deref.ensures.value) c.in_ok-all.ensures.answer) in
+    let works = found_past c.args.process c.args.event pairs told c.deref-2.result.now c.in_ok-replayers.replayers.items (Ok c.in_ok-past.past) loaded begun c.in_ok-past.ensures.answer in
+    work_cuts c.args.process c.args.event pairs told c.in_ok-past.past works c.in_ok-replayers.replayers.items begun c.in_ok-past.ensures.least

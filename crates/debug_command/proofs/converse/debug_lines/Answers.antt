@@ -7,36 +7,36 @@ use Rattle.debug_command.proofs.converse.debug_lines.Goals as goal
 pub returns-in-Ok : goal.returns-in-Ok
 returns-in-Ok g c =
     let terminal = terminal_at g.T.Sink.hearing g.T.Sink.taken g.T.Sink.faults in
-    conversed_done c.args.parts.items (terminal c.args.io.now) (terminal c.run_session.new.io) c.in-Ok.ensures.said c.in-Ok.ensures.reads c.in-Ok.ensures.counted
+    conversed_done c.args.replayers.items (terminal c.args.io.now) (terminal c.run_session.new.io) c.in-Ok.ensures.said c.in-Ok.ensures.reads c.in-Ok.ensures.counted
 
 pub returns-in-Err-Done : goal.returns-in-Err-Done
 returns-in-Err-Done g c =
     let terminal = terminal_at g.T.Sink.hearing g.T.Sink.taken g.T.Sink.faults in
     let e = rw c.in-Err-Done.field-0-is at c.in-Err-Done.ensures in
-    conversed_done c.args.parts.items (terminal c.args.io.now) (terminal c.run_session.new.io) e.said e.reads e.counted
+    conversed_done c.args.replayers.items (terminal c.args.io.now) (terminal c.run_session.new.io) e.said e.reads e.counted
 
 pub returns-in-Err-TooLarge : goal.returns-in-Err-TooLarge
 returns-in-Err-TooLarge g c =
     let terminal = terminal_at g.T.Sink.hearing g.T.Sink.taken g.T.Sink.faults in
     let e = rw c.in-Err-TooLarge.field-0-is at c.in-Err-TooLarge.ensures in
     let s = c.say_refused.ensures in
-    conversed_large c.args.parts.items (terminal c.args.io.now) (terminal c.say_refused.new.out) (terminal c.run_session.new.io) c.say_refused.result e.said s.heard e.reads s.status s.text s.read_fault
+    conversed_large c.args.replayers.items (terminal c.args.io.now) (terminal c.say_refused.new.out) (terminal c.run_session.new.io) c.say_refused.result e.said s.heard e.reads s.status s.text s.read_fault
     (s.counted ∙ ap (λ n. failed_says_after n c.say_refused.result) e.counted)
 
 pub returns-in-Err-ReadFault : goal.returns-in-Err-ReadFault
 returns-in-Err-ReadFault g c =
     let terminal = terminal_at g.T.Sink.hearing g.T.Sink.taken g.T.Sink.faults in
     let e = rw c.in-Err-ReadFault.field-0-is at c.in-Err-ReadFault.ensures in
-    conversed_read c.args.parts.items (terminal c.args.io.now) (terminal c.run_session.new.io) e.said e.reads e.counted
+    conversed_read c.args.replayers.items (terminal c.args.io.now) (terminal c.run_session.new.io) e.said e.reads e.counted
 
 pub returns-in-Err-WriteFault : goal.returns-in-Err-WriteFault
 returns-in-Err-WriteFault g c =
     let terminal = terminal_at g.T.Sink.hearing g.T.Sink.taken g.T.Sink.faults in
     let e = rw c.in-Err-WriteFault.field-0-is at c.in-Err-WriteFault.ensures in
-    conversed_write c.args.parts.items (terminal c.args.io.now) (terminal c.run_session.new.io) e.said e.reads e.counted
+    conversed_write c.args.replayers.items (terminal c.args.io.now) (terminal c.run_session.new.io) e.said e.reads e.counted
 
 pub returns : goal.returns
 returns g c =
     let terminal = terminal_at g.T.Sink.hearing g.T.Sink.taken g.T.Sink.faults in
     let e = rw c.in-Err-NoMemory.field-0-is at c.in-Err-NoMemory.ensures in
-    conversed_memory c.args.parts.items (terminal c.args.io.now) (terminal c.run_session.new.io) e.said e.reads e.counted
+    conversed_memory c.args.replayers.items (terminal c.args.io.now) (terminal c.run_session.new.io) e.said e.reads e.counted

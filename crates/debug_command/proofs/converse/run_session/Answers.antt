@@ -10,16 +10,16 @@ pub returns-in_err-talk-clause-said : goal.returns-in_err-talk-clause-said
 returns-in_err-talk-clause-said g c =
     let p = err_from_is_err_and c.from_residual.result c.from_residual.ensures.1 in
     let terminal = terminal_at g.T.Sink.hearing g.T.Sink.taken g.T.Sink.faults in
-    rw (p.1, p.2) (held_unopened c.args.parts.items (terminal c.args.io.now) (terminal c.begin.new.out) c.in_err-talk.field-0.0 c.begin.ensures.heard c.in_err-talk.ensures.said)
+    rw (p.1, p.2) (held_unopened c.args.replayers.items (terminal c.args.io.now) (terminal c.begin.new.out) c.in_err-talk.field-0.0 c.begin.ensures.heard c.in_err-talk.ensures.said)
 
 pub returns-in_err-talk-clause-reads : goal.returns-in_err-talk-clause-reads
 returns-in_err-talk-clause-reads g c =
     let why = c.in_err-talk.field-0.0 in
     let p = err_from_is_err_and c.from_residual.result c.from_residual.ensures.1 in
     rw (p.1, p.2) (ap (λ (h : Hearing). h.faults) c.begin.ensures.heard
-    ∙ sym (none_counted ℕ (g.T.Sink.hearing c.args.io.now).faults why (λ is. opens_read c.args.parts.items (g.T.Sink.taken c.args.io.now) (g.T.Sink.taken c.begin.new.out) why c.in_err-talk.ensures.said is)))
+    ∙ sym (none_counted ℕ (g.T.Sink.hearing c.args.io.now).faults why (λ is. opens_read c.args.replayers.items (g.T.Sink.taken c.args.io.now) (g.T.Sink.taken c.begin.new.out) why c.in_err-talk.ensures.said is)))
 
 pub returns-clause-said : goal.returns-clause-said
 returns-clause-said g c =
     let terminal = terminal_at g.T.Sink.hearing g.T.Sink.taken g.T.Sink.faults in
-    held c.args.parts.items (terminal c.args.io.now) (terminal c.begin.new.out) (terminal c.read_lines.new.io) (session_talk_of c.in_ok-talk.talk) (why_session_ended c.read_lines.result) c.begin.ensures.heard c.in_ok-talk.ensures.said c.read_lines.ensures.said
+    held c.args.replayers.items (terminal c.args.io.now) (terminal c.begin.new.out) (terminal c.read_lines.new.io) (session_talk_of c.in_ok-talk.talk) (why_session_ended c.read_lines.result) c.begin.ensures.heard c.in_ok-talk.ensures.said c.read_lines.ensures.said

@@ -19,7 +19,7 @@ pub returns-in-Ok-begin_all : goal.returns-in-Ok-begin_all
 returns-in-Ok-begin_all g c =
     let pairs = map pair_of c.args.pairs.now in
     let told = g.F.Files.told c.args.files.now in
-    run_conversed pairs c.in-Ok-begin_all.parts.items c.debug_lines.result _ _
+    run_conversed pairs c.in-Ok-begin_all.replayers.items c.debug_lines.result _ _
     (c.in-Ok-begin_all.ensures.answer pairs told (subst (λ (all : List Loaded). WereLoaded pairs told all) (sym c.deref.ensures.value) c.in-Ok.ensures.answer))
     c.debug_lines.ensures c.load_all.ensures.same (counts_none _ _ _ c.in-Ok.ensures.counts)
 

@@ -4,8 +4,8 @@ use Rattle.drill_command.specs.inside.Results.{HoldLogs}
 use Rattle.drill_command.proofs.LogReplays.{parts_are, replays_are}
 use Rattle.drill_command.proofs.replays.begin_all.Goals as goal
 
-pub returns-clause-parts : goal.returns-clause-parts
-returns-clause-parts c =
+pub returns-clause-replayers : goal.returns-clause-replayers
+returns-clause-replayers c =
     let r0 = c.in_ok-n0.ensures in
     let r1 = c.in_ok-n1.ensures in
     let r2 = c.in_ok-n2.ensures in

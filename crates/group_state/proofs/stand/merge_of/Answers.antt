@@ -7,18 +7,18 @@ use Rattle.group_state.proofs.stand.merge_of.Goals as goal
 pub loop-node-preserved : goal.loop-node-preserved
 loop-node-preserved c =
     let i = c.loop-node.invariant in
-    let parts = c.args.parts.now in
+    let replayers = c.args.replayers.now in
     let node = c.loop-node.node in
-    let within : node < length parts = omega arith in
+    let within : node < length replayers = omega arith in
     record {
       size = omega (arith, i.size, ap length c.set_head.ensures, length-set c.loop-node.merge node c.head_of.result);
-      heads = headed parts node c.index-parts-node.result c.loop-node.merge c.set_head.new.self c.head_of.result within i.size c.index-parts-node.is c.head_of.ensures c.set_head.ensures i.heads;
+      heads = headed replayers node c.index-replayers-node.result c.loop-node.merge c.set_head.new.self c.head_of.result within i.size c.index-replayers-node.is c.head_of.ensures c.set_head.ensures i.heads;
     }
 
 pub returns : goal.returns
 returns c =
     let i = c.loop-node.invariant in
-    let parts = c.args.parts.now in
+    let replayers = c.args.replayers.now in
     let node = c.loop-node.node in
-    let done : length parts ≤ node = c.loop-node-test.false in
-    sym (take_all node c.loop-node.merge (omega (arith, i.size, done))) ∙ i.heads ∙ ap (map head_of_replay) (take_all node parts done)
+    let done : length replayers ≤ node = c.loop-node-test.false in
+    sym (take_all node c.loop-node.merge (omega (arith, i.size, done))) ∙ i.heads ∙ ap (map head_of_replay) (take_all node replayers done)

@@ -47,11 +47,11 @@ returns-clause-answer c pairs told loaded =
     let b = all_begun all (drop i all) c.loop-loaded.sorted.items c.loop-loaded.invariant (drop_all i all c.loop-loaded-test.false) ls are in
     (b.begun, (b.comes, b.placed)))
 
-pub returns-clause-parts : goal.returns-clause-parts
-returns-clause-parts c =
+pub returns-clause-replayers : goal.returns-clause-replayers
+returns-clause-replayers c =
     let all = c.args.all.now in
     let i = c.loop-loaded.loaded-index in
-    (group_begun all (drop i all) c.loop-loaded.sorted.items c.loop-loaded.invariant (drop_all i all c.loop-loaded-test.false) c.requires.loaded c.requires.apart).parts
+    (group_begun all (drop i all) c.loop-loaded.sorted.items c.loop-loaded.invariant (drop_all i all c.loop-loaded-test.false) c.requires.loaded c.requires.apart).replayers
 
 pub returns-clause-heads : goal.returns-clause-heads
 returns-clause-heads c =

@@ -21,59 +21,59 @@ returns-in_err-all-clause-makes g c =
     rw (p.1, p.2)
     (refused_makes (replay_outcome c.args.images (map pair_of c.args.pairs.now)) (g.F.Files.told c.args.files.now) (g.F.Files.told c.load_all.new.files) c.in_err-all.field-0.0 (opening_stops c.args.images (map pair_of c.args.pairs.now) (g.F.Files.told c.args.files.now) c.in_err-all.field-0.0 c.in_err-all.ensures.answer) c.load_all.ensures.same)
 
-pub returns-in_err-parts-clause-tells : goal.returns-in_err-parts-clause-tells
-returns-in_err-parts-clause-tells g c =
-    let p = err_from_is_err_and c.from_residual-in_err-parts.result c.from_residual-in_err-parts.ensures.1 in
-    rw (p.1, p.2) (refused_tells (replay_outcome c.args.images (map pair_of c.args.pairs.now)) (g.F.Files.told c.args.files.now) c.in_err-parts.field-0.0 (opening_stops c.args.images (map pair_of c.args.pairs.now) (g.F.Files.told c.args.files.now) c.in_err-parts.field-0.0 (c.in_err-parts.ensures.answer (map pair_of c.args.pairs.now) (g.F.Files.told c.args.files.now) (subst (λ (all : List Loaded). WereLoaded (map pair_of c.args.pairs.now) (g.F.Files.told c.args.files.now) all) (sym c.deref.ensures.value) c.in_ok-all.ensures.answer))))
+pub returns-in_err-replayers-clause-tells : goal.returns-in_err-replayers-clause-tells
+returns-in_err-replayers-clause-tells g c =
+    let p = err_from_is_err_and c.from_residual-in_err-replayers.result c.from_residual-in_err-replayers.ensures.1 in
+    rw (p.1, p.2) (refused_tells (replay_outcome c.args.images (map pair_of c.args.pairs.now)) (g.F.Files.told c.args.files.now) c.in_err-replayers.field-0.0 (opening_stops c.args.images (map pair_of c.args.pairs.now) (g.F.Files.told c.args.files.now) c.in_err-replayers.field-0.0 (c.in_err-replayers.ensures.answer (map pair_of c.args.pairs.now) (g.F.Files.told c.args.files.now) (subst (λ (all : List Loaded). WereLoaded (map pair_of c.args.pairs.now) (g.F.Files.told c.args.files.now) all) (sym c.deref.ensures.value) c.in_ok-all.ensures.answer))))
 
-pub returns-in_err-parts-clause-makes : goal.returns-in_err-parts-clause-makes
-returns-in_err-parts-clause-makes g c =
-    let p = err_from_is_err_and c.from_residual-in_err-parts.result c.from_residual-in_err-parts.ensures.1 in
+pub returns-in_err-replayers-clause-makes : goal.returns-in_err-replayers-clause-makes
+returns-in_err-replayers-clause-makes g c =
+    let p = err_from_is_err_and c.from_residual-in_err-replayers.result c.from_residual-in_err-replayers.ensures.1 in
     rw (p.1, p.2)
-    (refused_makes (replay_outcome c.args.images (map pair_of c.args.pairs.now)) (g.F.Files.told c.args.files.now) (g.F.Files.told c.load_all.new.files) c.in_err-parts.field-0.0 (opening_stops c.args.images (map pair_of c.args.pairs.now) (g.F.Files.told c.args.files.now) c.in_err-parts.field-0.0 (c.in_err-parts.ensures.answer (map pair_of c.args.pairs.now) (g.F.Files.told c.args.files.now) (subst (λ (all : List Loaded). WereLoaded (map pair_of c.args.pairs.now) (g.F.Files.told c.args.files.now) all) (sym c.deref.ensures.value) c.in_ok-all.ensures.answer))) c.load_all.ensures.same)
+    (refused_makes (replay_outcome c.args.images (map pair_of c.args.pairs.now)) (g.F.Files.told c.args.files.now) (g.F.Files.told c.load_all.new.files) c.in_err-replayers.field-0.0 (opening_stops c.args.images (map pair_of c.args.pairs.now) (g.F.Files.told c.args.files.now) c.in_err-replayers.field-0.0 (c.in_err-replayers.ensures.answer (map pair_of c.args.pairs.now) (g.F.Files.told c.args.files.now) (subst (λ (all : List Loaded). WereLoaded (map pair_of c.args.pairs.now) (g.F.Files.told c.args.files.now) all) (sym c.deref.ensures.value) c.in_ok-all.ensures.answer))) c.load_all.ensures.same)
 
-pub returns-in_err-parts-clause-cause : goal.returns-in_err-parts-clause-cause
-returns-in_err-parts-clause-cause g c =
-    let p = err_from_is_err_and c.from_residual-in_err-parts.result c.from_residual-in_err-parts.ensures.1 in
-    rw (p.1, p.2) (c.in_err-parts.ensures.cause (g.F.Files.counts c.args.files.now) (g.F.Files.counts c.load_all.new.files))
+pub returns-in_err-replayers-clause-cause : goal.returns-in_err-replayers-clause-cause
+returns-in_err-replayers-clause-cause g c =
+    let p = err_from_is_err_and c.from_residual-in_err-replayers.result c.from_residual-in_err-replayers.ensures.1 in
+    rw (p.1, p.2) (c.in_err-replayers.ensures.cause (g.F.Files.counts c.args.files.now) (g.F.Files.counts c.load_all.new.files))
 
-pub returns-in_err-parts-clause-counts : goal.returns-in_err-parts-clause-counts
-returns-in_err-parts-clause-counts g c =
-    let p = err_from_is_err_and c.from_residual-in_err-parts.result c.from_residual-in_err-parts.ensures.1 in
-    rw (p.1, p.2) (counts_still _ _ _ (Err c.in_err-parts.field-0.0) c.in_err-parts.ensures.still c.in_ok-all.ensures.counts)
+pub returns-in_err-replayers-clause-counts : goal.returns-in_err-replayers-clause-counts
+returns-in_err-replayers-clause-counts g c =
+    let p = err_from_is_err_and c.from_residual-in_err-replayers.result c.from_residual-in_err-replayers.ensures.1 in
+    rw (p.1, p.2) (counts_still _ _ _ (Err c.in_err-replayers.field-0.0) c.in_err-replayers.ensures.still c.in_ok-all.ensures.counts)
 
 pub returns-in_err-write_asked-clause-makes : goal.returns-in_err-write_asked-clause-makes
 returns-in_err-write_asked-clause-makes g c =
     let p = err_from_is_err_and c.from_residual-in_err-write_asked.result c.from_residual-in_err-write_asked.ensures.1 in
     rw (p.1, p.2)
-    (replay_makes c.args.images (map pair_of c.args.pairs.now) (g.F.Files.told c.args.files.now) (g.F.Files.told c.write_asked.new.files) c.in_ok-parts.parts.items (Err c.in_err-write_asked.field-0.0)
-    (c.in_ok-parts.ensures.answer (map pair_of c.args.pairs.now) (g.F.Files.told c.args.files.now) (subst (λ (all : List Loaded). WereLoaded (map pair_of c.args.pairs.now) (g.F.Files.told c.args.files.now) all) (sym c.deref.ensures.value) c.in_ok-all.ensures.answer))
+    (replay_makes c.args.images (map pair_of c.args.pairs.now) (g.F.Files.told c.args.files.now) (g.F.Files.told c.write_asked.new.files) c.in_ok-replayers.replayers.items (Err c.in_err-write_asked.field-0.0)
+    (c.in_ok-replayers.ensures.answer (map pair_of c.args.pairs.now) (g.F.Files.told c.args.files.now) (subst (λ (all : List Loaded). WereLoaded (map pair_of c.args.pairs.now) (g.F.Files.told c.args.files.now) all) (sym c.deref.ensures.value) c.in_ok-all.ensures.answer))
     (some_files_made c.in_err-write_asked.field-0.0 _ _ _ (images_begun c.args.images _ _ _ _ _ c.in_err-write_asked.field-0.0 c.deref-2.ensures.value c.load_all.ensures.same c.in_err-write_asked.ensures.made)))
 
 pub returns-in_err-report-clause-makes : goal.returns-in_err-report-clause-makes
 returns-in_err-report-clause-makes g c =
     let p = err_from_is_err_and c.from_residual-in_err-report.result c.from_residual-in_err-report.ensures.1 in
     rw (p.1, p.2)
-    (replay_makes c.args.images (map pair_of c.args.pairs.now) (g.F.Files.told c.args.files.now) (g.F.Files.told c.write_asked.new.files) c.in_ok-parts.parts.items (Err refusal.NoMemory)
-    (c.in_ok-parts.ensures.answer (map pair_of c.args.pairs.now) (g.F.Files.told c.args.files.now) (subst (λ (all : List Loaded). WereLoaded (map pair_of c.args.pairs.now) (g.F.Files.told c.args.files.now) all) (sym c.deref.ensures.value) c.in_ok-all.ensures.answer))
+    (replay_makes c.args.images (map pair_of c.args.pairs.now) (g.F.Files.told c.args.files.now) (g.F.Files.told c.write_asked.new.files) c.in_ok-replayers.replayers.items (Err refusal.NoMemory)
+    (c.in_ok-replayers.ensures.answer (map pair_of c.args.pairs.now) (g.F.Files.told c.args.files.now) (subst (λ (all : List Loaded). WereLoaded (map pair_of c.args.pairs.now) (g.F.Files.told c.args.files.now) all) (sym c.deref.ensures.value) c.in_ok-all.ensures.answer))
     (all_files_made c.keeps_files.ensures _ _ _ (images_made c.args.images _ _ _ _ _ c.deref-2.ensures.value c.load_all.ensures.same c.in_ok-write_asked.ensures.made)))
 
 pub returns-in_err-print_report-clause-makes : goal.returns-in_err-print_report-clause-makes
 returns-in_err-print_report-clause-makes g c =
     let p = err_from_is_err_and c.from_residual-in_err-print_report.result c.from_residual-in_err-print_report.ensures.1 in
     rw (p.1, p.2)
-    (replay_makes c.args.images (map pair_of c.args.pairs.now) (g.F.Files.told c.args.files.now) (g.F.Files.told c.write_asked.new.files) c.in_ok-parts.parts.items (Err refusal.NoMemory)
-    (c.in_ok-parts.ensures.answer (map pair_of c.args.pairs.now) (g.F.Files.told c.args.files.now) (subst (λ (all : List Loaded). WereLoaded (map pair_of c.args.pairs.now) (g.F.Files.told c.args.files.now) all) (sym c.deref.ensures.value) c.in_ok-all.ensures.answer))
+    (replay_makes c.args.images (map pair_of c.args.pairs.now) (g.F.Files.told c.args.files.now) (g.F.Files.told c.write_asked.new.files) c.in_ok-replayers.replayers.items (Err refusal.NoMemory)
+    (c.in_ok-replayers.ensures.answer (map pair_of c.args.pairs.now) (g.F.Files.told c.args.files.now) (subst (λ (all : List Loaded). WereLoaded (map pair_of c.args.pairs.now) (g.F.Files.told c.args.files.now) all) (sym c.deref.ensures.value) c.in_ok-all.ensures.answer))
     (all_files_made c.keeps_files.ensures _ _ _ (images_made c.args.images _ _ _ _ _ c.deref-2.ensures.value c.load_all.ensures.same c.in_ok-write_asked.ensures.made)))
 
 pub returns-clause-tells : goal.returns-clause-tells
 returns-clause-tells g c =
-    report_tells c.args.images (map pair_of c.args.pairs.now) (g.F.Files.told c.args.files.now) c.in_ok-parts.parts.items c.in_ok-report.report c.in_ok-print_report.field-0
-    (c.in_ok-parts.ensures.answer (map pair_of c.args.pairs.now) (g.F.Files.told c.args.files.now) (subst (λ (all : List Loaded). WereLoaded (map pair_of c.args.pairs.now) (g.F.Files.told c.args.files.now) all) (sym c.deref.ensures.value) c.in_ok-all.ensures.answer))
+    report_tells c.args.images (map pair_of c.args.pairs.now) (g.F.Files.told c.args.files.now) c.in_ok-replayers.replayers.items c.in_ok-report.report c.in_ok-print_report.field-0
+    (c.in_ok-replayers.ensures.answer (map pair_of c.args.pairs.now) (g.F.Files.told c.args.files.now) (subst (λ (all : List Loaded). WereLoaded (map pair_of c.args.pairs.now) (g.F.Files.told c.args.files.now) all) (sym c.deref.ensures.value) c.in_ok-all.ensures.answer))
     c.in_ok-report.ensures c.in_ok-print_report.ensures
 
 pub returns-clause-makes : goal.returns-clause-makes
 returns-clause-makes g c =
-    replay_makes c.args.images (map pair_of c.args.pairs.now) (g.F.Files.told c.args.files.now) (g.F.Files.told c.write_asked.new.files) c.in_ok-parts.parts.items (Ok c.in_ok-print_report.field-0)
-    (c.in_ok-parts.ensures.answer (map pair_of c.args.pairs.now) (g.F.Files.told c.args.files.now) (subst (λ (all : List Loaded). WereLoaded (map pair_of c.args.pairs.now) (g.F.Files.told c.args.files.now) all) (sym c.deref.ensures.value) c.in_ok-all.ensures.answer))
+    replay_makes c.args.images (map pair_of c.args.pairs.now) (g.F.Files.told c.args.files.now) (g.F.Files.told c.write_asked.new.files) c.in_ok-replayers.replayers.items (Ok c.in_ok-print_report.field-0)
+    (c.in_ok-replayers.ensures.answer (map pair_of c.args.pairs.now) (g.F.Files.told c.args.files.now) (subst (λ (all : List Loaded). WereLoaded (map pair_of c.args.pairs.now) (g.F.Files.told c.args.files.now) all) (sym c.deref.ensures.value) c.in_ok-all.ensures.answer))
     (images_made c.args.images _ _ _ _ _ c.deref-2.ensures.value c.load_all.ensures.same c.in_ok-write_asked.ensures.made)

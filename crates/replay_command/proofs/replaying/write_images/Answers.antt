@@ -8,32 +8,32 @@ use Rattle.replay_command.proofs.replaying.write_images.Goals as goal
 
 pub image_of-requires : goal.image_of-requires
 image_of-requires g c =
-    let within : c.loop-part.part-index < length c.args.parts.now = omega arith in
-    node_fresh c.args.parts.now c.loop-part.part-index c.part-item.result c.requires.fresh within c.part-item.is
+    let within : c.loop-replayer.replayer-index < length c.args.replayers.now = omega arith in
+    node_fresh c.args.replayers.now c.loop-replayer.replayer-index c.replayer-item.result c.requires.fresh within c.replayer-item.is
 
 pub returns-in_err-image-clause-made : goal.returns-in_err-image-clause-made
 returns-in_err-image-clause-made g c =
     let p = err_from_is_err_and c.from_residual.result c.from_residual.ensures.1 in
-    rw (p.1, p.2) (first_made c.keeps_files.ensures c.args.parts.now c.loop-part.part-index _ _ c.loop-part.invariant.0)
+    rw (p.1, p.2) (first_made c.keeps_files.ensures c.args.replayers.now c.loop-replayer.replayer-index _ _ c.loop-replayer.invariant.0)
 
 pub write_image-requires : goal.write_image-requires
 write_image-requires g c =
-    let within : c.loop-part.part-index < length c.args.parts.now = omega arith in
-    node_named c.args.parts.now c.loop-part.part-index c.part-item.result (head_of c.head.result) c.requires.heads within c.part-item.is c.head.ensures
+    let within : c.loop-replayer.replayer-index < length c.args.replayers.now = omega arith in
+    node_named c.args.replayers.now c.loop-replayer.replayer-index c.replayer-item.result (head_of c.head.result) c.requires.heads within c.replayer-item.is c.head.ensures
 
 pub returns-in_err-write_image-clause-made : goal.returns-in_err-write_image-clause-made
 returns-in_err-write_image-clause-made g c =
     let p = err_from_is_err_and c.from_residual-in_err-write_image.result c.from_residual-in_err-write_image.ensures.1 in
-    let within : c.loop-part.part-index < length c.args.parts.now = omega arith in
-    let own = own_files c.args.parts.now c.loop-part.part-index c.part-item.result (head_of c.head.result) c.as_slice.result.now c.as_slice-in-loop-part.result.now c.in_ok-image.image within c.part-item.is c.head.ensures c.in_ok-image.ensures c.as_slice.ensures c.as_slice-in-loop-part.ensures in
+    let within : c.loop-replayer.replayer-index < length c.args.replayers.now = omega arith in
+    let own = own_files c.args.replayers.now c.loop-replayer.replayer-index c.replayer-item.result (head_of c.head.result) c.as_slice.result.now c.as_slice-in-loop-replayer.result.now c.in_ok-image.image within c.replayer-item.is c.head.ensures c.in_ok-image.ensures c.as_slice.ensures c.as_slice-in-loop-replayer.ensures in
     rw (p.1, p.2)
     (failed_makes c.in_err-write_image.field-0.0 _ _ _
-    (part_made c.keeps_files.ensures c.args.parts.now c.loop-part.part-index _ _ _ _ own c.loop-part.invariant.0 c.in_err-write_image.ensures.err))
+    (part_made c.keeps_files.ensures c.args.replayers.now c.loop-replayer.replayer-index _ _ _ _ own c.loop-replayer.invariant.0 c.in_err-write_image.ensures.err))
 
-pub loop-part-preserved : goal.loop-part-preserved
-loop-part-preserved g c =
-    let within : c.loop-part.part-index < length c.args.parts.now = omega arith in
-    let own = own_files c.args.parts.now c.loop-part.part-index c.part-item.result (head_of c.head.result) c.as_slice.result.now c.as_slice-in-loop-part.result.now c.in_ok-image.image within c.part-item.is c.head.ensures c.in_ok-image.ensures c.as_slice.ensures c.as_slice-in-loop-part.ensures in (
-      one_made c.args.parts.now c.loop-part.part-index _ _ _ _ own c.loop-part.invariant.0 c.in_ok-write_image.ensures.ok,
-      counts_same _ _ _ _ c.loop-part.invariant.1 c.in_ok-write_image.ensures.counted,
+pub loop-replayer-preserved : goal.loop-replayer-preserved
+loop-replayer-preserved g c =
+    let within : c.loop-replayer.replayer-index < length c.args.replayers.now = omega arith in
+    let own = own_files c.args.replayers.now c.loop-replayer.replayer-index c.replayer-item.result (head_of c.head.result) c.as_slice.result.now c.as_slice-in-loop-replayer.result.now c.in_ok-image.image within c.replayer-item.is c.head.ensures c.in_ok-image.ensures c.as_slice.ensures c.as_slice-in-loop-replayer.ensures in (
+      one_made c.args.replayers.now c.loop-replayer.replayer-index _ _ _ _ own c.loop-replayer.invariant.0 c.in_ok-write_image.ensures.ok,
+      counts_same _ _ _ _ c.loop-replayer.invariant.1 c.in_ok-write_image.ensures.counted,
     )

@@ -12,7 +12,7 @@ use Rattle.schedule_back.proofs.back.schedule_back.Goals as goal
 pub returns-clause-answer : goal.returns-clause-answer
 returns-clause-answer c =
     let lines = c.args.lines.now in
-    let start = c.args.parts.items in
+    let start = c.args.replayers.items in
     let begun : c.in_ok-group.group.start ≡ start = ap (λ (p : GroupPlace). p.start) c.in_ok-group.ensures in
     let walked : c.in_ok-group-2.group.start ≡ start = c.in_ok-group-2.ensures.start ∙ begun in
     let whole : first_not_whole start ≡ None = ap first_not_whole (sym walked) ∙ sym c.first_not_whole.ensures ∙ c.in_default.is in

@@ -17,17 +17,17 @@ returns-in_err-all-clause-performed g c =
     (stopped pairs told (g.F.Files.told c.load_all.new.files) (g.F.Files.counts c.args.files.now) (g.F.Files.counts c.load_all.new.files) c.in_err-all.field-0.0
     (stops_too pairs told c.in_err-all.field-0.0 c.in_err-all.ensures.answer) c.load_all.ensures.same (counts_of_part _ _ c.in_err-all.field-0.0 c.in_err-all.ensures.counts) c.in_err-all.ensures.cause)
 
-pub returns-in_err-parts-clause-performed : goal.returns-in_err-parts-clause-performed
-returns-in_err-parts-clause-performed g c =
-    let p = err_from_is_err_and c.from_residual-in_err-parts.result c.from_residual-in_err-parts.ensures.1 in
+pub returns-in_err-replayers-clause-performed : goal.returns-in_err-replayers-clause-performed
+returns-in_err-replayers-clause-performed g c =
+    let p = err_from_is_err_and c.from_residual-in_err-replayers.result c.from_residual-in_err-replayers.ensures.1 in
     let pairs = map pair_of c.args.pairs.now in
     let told = g.F.Files.told c.args.files.now in
     let loaded = subst (λ (all : List Loaded). WereLoaded pairs told all) (sym c.deref.ensures.value) c.in_ok-all.ensures.answer in
     rw (p.1, p.2)
-    (stopped pairs told (g.F.Files.told c.load_all.new.files) (g.F.Files.counts c.args.files.now) (g.F.Files.counts c.load_all.new.files) c.in_err-parts.field-0.0
-    (stops_too pairs told c.in_err-parts.field-0.0 (c.in_err-parts.ensures.answer pairs told loaded)) c.load_all.ensures.same
-    (counts_still _ _ _ (Err c.in_err-parts.field-0.0) c.in_err-parts.ensures.still c.in_ok-all.ensures.counts)
-    (c.in_err-parts.ensures.cause (g.F.Files.counts c.args.files.now) (g.F.Files.counts c.load_all.new.files)))
+    (stopped pairs told (g.F.Files.told c.load_all.new.files) (g.F.Files.counts c.args.files.now) (g.F.Files.counts c.load_all.new.files) c.in_err-replayers.field-0.0
+    (stops_too pairs told c.in_err-replayers.field-0.0 (c.in_err-replayers.ensures.answer pairs told loaded)) c.load_all.ensures.same
+    (counts_still _ _ _ (Err c.in_err-replayers.field-0.0) c.in_err-replayers.ensures.still c.in_ok-all.ensures.counts)
+    (c.in_err-replayers.ensures.cause (g.F.Files.counts c.args.files.now) (g.F.Files.counts c.load_all.new.files)))
 
 pub returns-in_err-text-clause-performed : goal.returns-in_err-text-clause-performed
 returns-in_err-text-clause-performed g c =
@@ -41,5 +41,5 @@ returns-clause-performed g c =
     let pairs = map pair_of c.args.pairs.now in
     let told = g.F.Files.told c.args.files.now in
     let loaded = subst (λ (all : List Loaded). WereLoaded pairs told all) (sym c.deref.ensures.value) c.in_ok-all.ensures.answer in
-    finished pairs told (g.F.Files.told c.load_all.new.files) (g.F.Files.counts c.args.files.now) (g.F.Files.counts c.load_all.new.files) c.in_ok-parts.parts.items c.in_ok-text.text
-    (c.in_ok-parts.ensures.answer pairs told loaded) c.in_ok-text.ensures c.load_all.ensures.same (counts_still _ _ _ (Ok (answered.Done c.in_ok-text.text)) (λ n. (refl, refl)) c.in_ok-all.ensures.counts)
+    finished pairs told (g.F.Files.told c.load_all.new.files) (g.F.Files.counts c.args.files.now) (g.F.Files.counts c.load_all.new.files) c.in_ok-replayers.replayers.items c.in_ok-text.text
+    (c.in_ok-replayers.ensures.answer pairs told loaded) c.in_ok-text.ensures c.load_all.ensures.same (counts_still _ _ _ (Ok (answered.Done c.in_ok-text.text)) (λ n. (refl, refl)) c.in_ok-all.ensures.counts)

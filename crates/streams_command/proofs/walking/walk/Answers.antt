@@ -13,11 +13,11 @@ use Rattle.streams_command.proofs.walking.walk.Goals as goal
 pub returns-in_default : goal.returns-in_default
 returns-in_default c =
     let moves = subst (λ (e : Option GroupEvent). GroupMoves c.events.here c.in_ok-next.next e) c.in_default.is c.in_ok-next.ensures in
-    all_walked c.args.parts.items c.events.here c.in_ok-next.next c.events.told c.events.invariant moves
+    all_walked c.args.replayers.items c.events.here c.in_ok-next.next c.events.told c.events.invariant moves
 
 pub index-requires : goal.index-requires
 index-requires c =
-    let start = c.args.parts.items in
+    let start = c.args.replayers.items in
     let event = c.in-Some.event in
     let moves = subst (λ (e : Option GroupEvent). GroupMoves c.events.here c.in_ok-next.next e) c.in-Some.is c.in_ok-next.ensures in
     let next = is_next c.ordered.ensures.order c.stepwise.ensures c.unsent_is_free.ensures start c.events.here c.in_ok-next.next event c.events.told c.requires c.position.ensures.fits
@@ -27,7 +27,7 @@ index-requires c =
 
 pub tell-requires-clause-new : goal.tell-requires-clause-new
 tell-requires-clause-new c =
-    let start = c.args.parts.items in
+    let start = c.args.replayers.items in
     let event = c.in-Some.event in
     let moves = subst (λ (e : Option GroupEvent). GroupMoves c.events.here c.in_ok-next.next e) c.in-Some.is c.in_ok-next.ensures in
     let next = is_next c.ordered.ensures.order c.stepwise.ensures c.unsent_is_free.ensures start c.events.here c.in_ok-next.next event c.events.told c.requires c.position.ensures.fits
@@ -37,7 +37,7 @@ tell-requires-clause-new c =
 
 pub tell-requires-clause-odd : goal.tell-requires-clause-odd
 tell-requires-clause-odd c =
-    let start = c.args.parts.items in
+    let start = c.args.replayers.items in
     let event = c.in-Some.event in
     let moves = subst (λ (e : Option GroupEvent). GroupMoves c.events.here c.in_ok-next.next e) c.in-Some.is c.in_ok-next.ensures in
     let next = is_next c.ordered.ensures.order c.stepwise.ensures c.unsent_is_free.ensures start c.events.here c.in_ok-next.next event c.events.told c.requires c.position.ensures.fits
@@ -46,7 +46,7 @@ tell-requires-clause-odd c =
 
 pub tell-requires-clause-foreign : goal.tell-requires-clause-foreign
 tell-requires-clause-foreign c =
-    let start = c.args.parts.items in
+    let start = c.args.replayers.items in
     let event = c.in-Some.event in
     let moves = subst (λ (e : Option GroupEvent). GroupMoves c.events.here c.in_ok-next.next e) c.in-Some.is c.in_ok-next.ensures in
     let next = is_next c.ordered.ensures.order c.stepwise.ensures c.unsent_is_free.ensures start c.events.here c.in_ok-next.next event c.events.told c.requires c.position.ensures.fits
@@ -55,7 +55,7 @@ tell-requires-clause-foreign c =
 
 pub events-preserved : goal.events-preserved
 events-preserved c =
-    let start = c.args.parts.items in
+    let start = c.args.replayers.items in
     let event = c.in-Some.event in
     let moves = subst (λ (e : Option GroupEvent). GroupMoves c.events.here c.in_ok-next.next e) c.in-Some.is c.in_ok-next.ensures in
     let next = is_next c.ordered.ensures.order c.stepwise.ensures c.unsent_is_free.ensures start c.events.here c.in_ok-next.next event c.events.told c.requires c.position.ensures.fits

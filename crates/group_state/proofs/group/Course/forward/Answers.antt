@@ -4,7 +4,7 @@ use Rattle.guest_memory.specs.Memory.{IsMemory}
 use Rattle.guest_process.specs.State.{State}
 use Rattle.group_state.specs.Place.{events_of_replays}
 use Rattle.group_state.specs.inside.Turns.{head_of_replay}
-use Rattle.group_state.proofs.GroupCopies.{length_parts}
+use Rattle.group_state.proofs.GroupCopies.{length_replayers}
 use Rattle.group_state.proofs.AheadInOrder.{ends}
 use Rattle.group_state.proofs.GroupSteps.{forwarded, given, is_event, stands_on}
 use Rattle.group_state.proofs.NodeMoves.{length_motions, moved_on}
@@ -20,16 +20,16 @@ returns-in_default-clause-moves c =
     let i = c.requires in
     record {
       gives = sym (ends c.merges.ensures c.rises.ensures c.states_fit.ensures.ranges c.replays.ensures.turn g.start.items i.fits g.here.at
-          (subst AreNoHeads (i.heads ∙ ap (map head_of_replay) i.here.parts) c.in_default.ensures.next));
+          (subst AreNoHeads (i.heads ∙ ap (map head_of_replay) i.here.replayers) c.in_default.ensures.next));
       place = refl;
     }
 
-pub index-part-requires : goal.index-part-requires
-index-part-requires c =
+pub index-replayer-requires : goal.index-replayer-requires
+index-replayer-requires c =
     let g = c.args.self.now in
     let i = c.requires in
     let f = forwarded c.merges.ensures c.rises.ensures c.states_fit.ensures.ranges c.replays.ensures.turn g.start.items _ _ _ g.here.at _ _
-    i.fits i.here.parts i.heads c.in-Some.ensures.next c.in_ok-turn.ensures in
+    i.fits i.here.replayers i.heads c.in-Some.ensures.next c.in_ok-turn.ensures in
     omega (arith, f.fits)
 
 pub unreachable-requires : goal.unreachable-requires
@@ -37,7 +37,7 @@ unreachable-requires c =
     let g = c.args.self.now in
     let i = c.requires in
     let f = forwarded c.merges.ensures c.rises.ensures c.states_fit.ensures.ranges c.replays.ensures.turn g.start.items _ _ _ g.here.at _ _
-    i.fits i.here.parts i.heads c.in-Some.ensures.next c.in_ok-turn.ensures in
+    i.fits i.here.replayers i.heads c.in-Some.ensures.next c.in_ok-turn.ensures in
     is_event c.in_ok-turn.turn f.entry f.told c.in_default-turn.not-Event
 
 pub overflow_add-self : goal.overflow_add-self
@@ -45,7 +45,7 @@ overflow_add-self c =
     let g = c.args.self.now in
     let i = c.requires in
     let f = forwarded c.merges.ensures c.rises.ensures c.states_fit.ensures.ranges c.replays.ensures.turn g.start.items _ _ _ g.here.at _ _
-    i.fits i.here.parts i.heads c.in-Some.ensures.next c.in_ok-turn.ensures in
+    i.fits i.here.replayers i.heads c.in-Some.ensures.next c.in_ok-turn.ensures in
     omega (arith, f.within, i.few)
 
 pub add-requires : goal.add-requires
@@ -53,12 +53,12 @@ add-requires c =
     let g = c.args.self.now in
     let i = c.requires in
     let f = forwarded c.merges.ensures c.rises.ensures c.states_fit.ensures.ranges c.replays.ensures.turn g.start.items _ _ _ g.here.at _ _
-    i.fits i.here.parts i.heads c.in-Some.ensures.next c.in_ok-turn.ensures in
+    i.fits i.here.replayers i.heads c.in-Some.ensures.next c.in_ok-turn.ensures in
     omega (
       arith,
       f.fits,
       ap length f.stand,
-      length_parts 0 g.start.items (take (g.here.at + 1) (events_of_replays g.start.items)),
+      length_replayers 0 g.start.items (take (g.here.at + 1) (events_of_replays g.start.items)),
       ap length i.moved.lists,
       length_motions 0 g.start.items (take g.motions.reached (events_of_replays g.start.items)),
     )
@@ -68,16 +68,16 @@ returns-clause-sound c =
     let g = c.args.self.now in
     let i = c.requires in
     let f = forwarded c.merges.ensures c.rises.ensures c.states_fit.ensures.ranges c.replays.ensures.turn g.start.items _ _ _ g.here.at _ _
-    i.fits i.here.parts i.heads c.in-Some.ensures.next c.in_ok-turn.ensures in
-    let sound = f.sound i.here.sound c.index-part.result.now c.index-part.ensures (subst IsMemory (c.memory.ensures ∙ ap (λ (S : State). S.store.memory) c.process.ensures) c.size.ensures.sound) in
+    i.fits i.here.replayers i.heads c.in-Some.ensures.next c.in_ok-turn.ensures in
+    let sound = f.sound i.here.sound c.index-replayer.result.now c.index-replayer.ensures (subst IsMemory (c.memory.ensures ∙ ap (λ (S : State). S.store.memory) c.process.ensures) c.size.ensures.sound) in
     let moved = moved_on g.start.items g.motions c.add.new.self g.here.at (node_event c.in-Some.node f.entry) i.moved i.been f.next f.within
-    (omega (arith, f.fits, ap length f.stand, length_parts 0 g.start.items (take (g.here.at + 1) (events_of_replays g.start.items)))) c.in_ok-add.ensures in
+    (omega (arith, f.fits, ap length f.stand, length_replayers 0 g.start.items (take (g.here.at + 1) (events_of_replays g.start.items)))) c.in_ok-add.ensures in
     record {
-      parts = i.parts;
+      replayers = i.replayers;
       fits = i.fits;
       few = i.few;
       here = stands_on _ _ _ _ _ _ _ _ _ f c.in-Event.is refl refl refl sound;
-      heads = c.set_head.ensures ∙ ap (λ h. slice_set g.merge c.in-Some.node h) c.head_of-head.ensures ∙ f.merged c.index-part.result.now c.index-part.ensures;
+      heads = c.set_head.ensures ∙ ap (λ h. slice_set g.merge c.in-Some.node h) c.head_of-head.ensures ∙ f.merged c.index-replayer.result.now c.index-replayer.ensures;
       moved = moved.are;
       been = moved.been;
       kept = c.keep.ensures g.start.items i.kept (stands_on _ _ _ _ _ _ _ _ _ f c.in-Event.is refl refl refl sound);
@@ -88,5 +88,5 @@ returns-clause-moves c =
     let g = c.args.self.now in
     let i = c.requires in
     let f = forwarded c.merges.ensures c.rises.ensures c.states_fit.ensures.ranges c.replays.ensures.turn g.start.items _ _ _ g.here.at _ _
-    i.fits i.here.parts i.heads c.in-Some.ensures.next c.in_ok-turn.ensures in
+    i.fits i.here.replayers i.heads c.in-Some.ensures.next c.in_ok-turn.ensures in
     (record { gives = given _ _ _ _ _ _ _ c.in-Event.entry f c.in-Event.is; place = refl })

@@ -9,5 +9,5 @@ returns c =
     let i = c.requires in
     (λ S l here own is.
     c.position.ensures ∙ ap (position_of g.motions c.args.node) is
-    ∙ position_told c.stepwise.ensures.steps c.rises.ensures c.states_fit.ensures.ranges c.unmarked_stays.ensures g.start.items i.parts i.fits
+    ∙ position_told c.stepwise.ensures.steps c.rises.ensures c.states_fit.ensures.ranges c.unmarked_stays.ensures g.start.items i.replayers i.fits
     g.here.at c.args.node g.motions S l i.moved i.been here own)

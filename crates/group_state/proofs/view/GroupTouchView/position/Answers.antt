@@ -7,8 +7,8 @@ pub returns-clause-tells : goal.returns-clause-tells
 returns-clause-tells c =
     let g = c.self.inside.course.value in
     let i = c.self.invariant in
-    let states = ap (map (λ r. r.state)) i.here.parts
-    ∙ states_at c.merges.ensures c.rises.ensures c.states_fit.ensures.ranges c.replays.ensures.turn g.start.items i.fits g.here.at c.replays.ensures.course i.parts.fresh in
+    let states = ap (map (λ r. r.state)) i.here.replayers
+    ∙ states_at c.merges.ensures c.rises.ensures c.states_fit.ensures.ranges c.replays.ensures.turn g.start.items i.fits g.here.at c.replays.ensures.course i.replayers.fresh in
     rw (← c.self.view_is)
-    (tells c.stepwise.ensures.steps c.rises.ensures c.states_fit.ensures.ranges c.unmarked_stays.ensures g.start.items i.parts i.fits g.here.at i.here.within
-    (sound_at g.start.items g.here.parts.items g.here.at i.here.sound states))
+    (tells c.stepwise.ensures.steps c.rises.ensures c.states_fit.ensures.ranges c.unmarked_stays.ensures g.start.items i.replayers i.fits g.here.at i.here.within
+    (sound_at g.start.items g.here.replayers.items g.here.at i.here.sound states))

@@ -18,45 +18,45 @@ use std::alloc::AllocError;
 
 /// Replays a log from here to its end, and counts the datagrams of its events.
 pub(crate) fn tally_events<'m, 'a>(
-    part: Replayer<'m, 'a>,
+    replayer: Replayer<'m, 'a>,
     tally: &mut Tally,
 ) -> Result<Replayer<'m, 'a>, AllocError>
-    requires new { AreNewEvents tally.old (accepted_in part) }
-    requires room { HasTallyRoomFor tally.old (accepted_in part) }
-    ensures tally { OnOk result (tally.new ≡ with_all_accepted tally.old (accepted_in part.entry)) }
-    ensures ends { IfOk result (EndsAtReplay part.entry) }
+    requires new { AreNewEvents tally.old (accepted_in replayer) }
+    requires room { HasTallyRoomFor tally.old (accepted_in replayer) }
+    ensures tally { OnOk result (tally.new ≡ with_all_accepted tally.old (accepted_in replayer.entry)) }
+    ensures ends { IfOk result (EndsAtReplay replayer.entry) }
 {
     proc_replay::laws::replays();
-    let process = part.head().process;
-    let mut part = part;
+    let process = replayer.head().process;
+    let mut replayer = replayer;
     'turns: loop {
-        let (next, turn) = part.next_event()?;
-        part = next;
+        let (next, turn) = replayer.next_event()?;
+        replayer = next;
         match turn {
             Turn::Event(entry) => tally.add(process, &entry)?,
-            Turn::LogEnd => return Ok(part),
-            Turn::Diverged(..) => return Ok(part),
+            Turn::LogEnd => return Ok(replayer),
+            Turn::Diverged(..) => return Ok(replayer),
         }
     }
 }
 
 /// Replays a log from here to its end, and appends what its events print.
 pub(crate) fn print_events<'m, 'a>(
-    part: Replayer<'m, 'a>,
+    replayer: Replayer<'m, 'a>,
     out: &mut Bytes,
 ) -> Result<Replayer<'m, 'a>, AllocError>
-    ensures out { OnOk result (out.new ≡ out.old ++ prints (entries_ahead part.entry)) }
-    ensures ends { IfOk result (EndsAtReplay part.entry) }
+    ensures out { OnOk result (out.new ≡ out.old ++ prints (entries_ahead replayer.entry)) }
+    ensures ends { IfOk result (EndsAtReplay replayer.entry) }
 {
     proc_replay::laws::replays();
-    let mut part = part;
+    let mut replayer = replayer;
     'turns: loop {
-        let (next, turn) = part.next_event()?;
-        part = next;
+        let (next, turn) = replayer.next_event()?;
+        replayer = next;
         match turn {
             Turn::Event(entry) => out.push_all(printed(&entry))?,
-            Turn::LogEnd => return Ok(part),
-            Turn::Diverged(..) => return Ok(part),
+            Turn::LogEnd => return Ok(replayer),
+            Turn::Diverged(..) => return Ok(replayer),
         }
     }
 }
@@ -71,13 +71,13 @@ fn left_over(rest: &[u8]) -> Verdict
 }
 
 /// The verdict on a log at whose end a replay is.
-pub(crate) fn verdict(part: &Replayer<'_, '_>) -> Verdict
-    requires { (v : VerdictOf) × TellsVerdict (turn part.now) part.now.left.bytes v }
-    ensures { (v : VerdictOf) → TellsVerdict (turn part.now) part.now.left.bytes v → result ≡ v }
+pub(crate) fn verdict(replayer: &Replayer<'_, '_>) -> Verdict
+    requires { (v : VerdictOf) × TellsVerdict (turn replayer.now) replayer.now.left.bytes v }
+    ensures { (v : VerdictOf) → TellsVerdict (turn replayer.now) replayer.now.left.bytes v → result ≡ v }
 {
-    match part.peek() {
+    match replayer.peek() {
         Turn::Event(_) => unreachable!(),
-        Turn::LogEnd => left_over(part.log().unread()),
+        Turn::LogEnd => left_over(replayer.log().unread()),
         Turn::Diverged(at, why) => Verdict::Diverged(at, why),
     }
 }
