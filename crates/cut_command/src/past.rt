@@ -32,7 +32,9 @@ pub(crate) struct Past<'m> {
 fn node_of(replayers: &[Replayer<'_, '_>], process: u32) -> Option<usize>
     ensures { result ≡ node_of_process process replayers.now }
 {
-    replayers.iter().position(|replayer| replayer.head().process == process)
+    replayers
+        .iter()
+        .position(|replayer| replayer.head().process == process)
 }
 
 // How much of these logs the event of this number of a node needs.

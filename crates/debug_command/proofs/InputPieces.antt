@@ -20,7 +20,7 @@ use Rattle.debug_command.specs.inside.Conversing.{TerminalState}
 use Rattle.debug_command.specs.Debug.{early_lines, is_large_input, session_outcome, whole_lines}
 use Rattle.debug_command.specs.Limits.{most_input}
 use Rattle.command_run.specs.Outcome.{outcome_text}
-use Rattle.debug_command.specs.inside.Talk.{SessionBreaks, CameInTurn, SessionConcludes, SessionGoesOn, NotesPiece, PrintsPart, SaidOfInput, SaysSome, SessionHolds, SessionStands, SpokeLines, SessionStops, StopsAtPiece, SessionStopsIn, SessionTalk, exchange_of, ended_by}
+use Rattle.debug_command.specs.inside.Reader.{SessionBreaks, CameInTurn, SessionConcludes, SessionGoesOn, NotesPiece, PrintsPart, SaidOfInput, SaysSome, SessionHolds, SessionStands, SpokeLines, SessionStops, StopsAtPiece, SessionStopsIn, SessionReader, exchange_of, ended_by}
 use Rattle.debug_command.proofs.WholeLines.{few_lines-open, lines_of-open, session_more}
 use Rattle.debug_command.proofs.PrintedSoFar.{append_twice, fits_short, overruns_more, part_more, quits_more, take_front}
 
@@ -33,20 +33,20 @@ stops_more start printed now taken more cause.ReadFault s = absurd s
 stops_more start printed now taken more cause.WriteFault s = part_more start printed now taken more s
 stops_more start printed now taken more cause.NoMemory s = part_more start printed now taken more s
 
-pub goes_on_none : (now : Option (List ℕ)) (talk : SessionTalk) → SessionGoesOn [] now now talk talk
+pub goes_on_none : (now : Option (List ℕ)) (reader : SessionReader) → SessionGoesOn [] now now reader reader
 unfolding SessionGoesOn
-goes_on_none now talk = λ start printed taken s. subst (SessionStands start printed now talk) (sym (append-nil taken)) s
+goes_on_none now reader = λ start printed taken s. subst (SessionStands start printed now reader) (sym (append-nil taken)) s
 
-pub goes_on_more : (a b : List ℕ) (before mid now : Option (List ℕ)) (talk here next : SessionTalk)
-    → SessionGoesOn a before mid talk here → SessionGoesOn b mid now here next → SessionGoesOn (a ++ b) before now talk next
+pub goes_on_more : (a b : List ℕ) (before mid now : Option (List ℕ)) (reader here next : SessionReader)
+    → SessionGoesOn a before mid reader here → SessionGoesOn b mid now here next → SessionGoesOn (a ++ b) before now reader next
 unfolding SessionGoesOn
-goes_on_more a b before mid now talk here next first second = λ start printed taken s.
+goes_on_more a b before mid now reader here next first second = λ start printed taken s.
     subst (SessionStands start printed now next) (append_assoc taken a b) (second start printed (taken ++ a) (first start printed taken s))
 
-pub stops_later : (a b more : List ℕ) (before mid now : Option (List ℕ)) (talk here : SessionTalk) (why : Ended)
-    → SessionGoesOn a before mid talk here → SessionStopsIn b mid now here why → SessionStopsIn ((a ++ b) ++ more) before now talk why
+pub stops_later : (a b more : List ℕ) (before mid now : Option (List ℕ)) (reader here : SessionReader) (why : Ended)
+    → SessionGoesOn a before mid reader here → SessionStopsIn b mid now here why → SessionStopsIn ((a ++ b) ++ more) before now reader why
 unfolding SessionGoesOn SessionStopsIn
-stops_later a b more before mid now talk here why first second = (
+stops_later a b more before mid now reader here why first second = (
   second.0,
   λ start printed taken s.
       let there = second.1 start printed (taken ++ a) (first start printed taken s) in
@@ -91,7 +91,7 @@ given_more (a ∷ later) asking = ap (λ (l : List ℕ). a.given ++ l) (given_mo
 pub turns_none : (start : List Replaying) (printed : Option (List ℕ)) (asked : Option (List Asking)) → WhenTold asked (λ earlier. CameInTurn start printed [] earlier asked)
 turns_none start printed asked = λ earlier told. record { askings = []; noted = told ∙ ap Some (sym (append-nil earlier)); in_turn = tt; given = refl }
 
-module _ (start : List Replaying) (printed before : Option (List ℕ)) (talk : SessionTalk) (taken piece : List ℕ) (stands : SessionStands start printed before talk taken) (short : length piece ≤ 4096) where
+module _ (start : List Replaying) (printed before : Option (List ℕ)) (reader : SessionReader) (taken piece : List ℕ) (stands : SessionStands start printed before reader taken) (short : length piece ≤ 4096) where
   turn_noted : (earlier : List Asking) (asked asked_after : Option (List Asking)) → CameInTurn start printed taken earlier asked → asked_after ≡ with_asking before piece asked → CameInTurn start printed (taken ++ piece) earlier asked_after
   turn_noted earlier asked asked_after came noted =
       let asking : Asking = record { said = before; given = piece } in
@@ -157,36 +157,36 @@ holds_broken start earlier old mid new size why read on short within b turns =
 
 -- ---- a session at the end of its input
 
-module _ (start : List Replaying) (printed mid now : Option (List ℕ)) (talk : SessionTalk) (taken : List ℕ) (s : SessionStands start printed mid talk taken) where
+module _ (start : List Replaying) (printed mid now : Option (List ℕ)) (reader : SessionReader) (taken : List ℕ) (s : SessionStands start printed mid reader taken) where
   within : length taken ≤ most_input
   within = omega (arith, s.count_is, s.within)
 
   fits : is_large_input start taken ≡ false
   fits = fits_short most_input start taken within
 
-  lines : lines_of taken ≡ whole_lines taken ++ take 1 (lines_of talk.begun)
-  lines = lines_of-open taken talk.begun s.whole ∙ ap (λ (l : List (List ℕ)). whole_lines taken ++ l) (sym (few_lines-open talk.begun s.open_line))
+  lines : lines_of taken ≡ whole_lines taken ++ take 1 (lines_of reader.begun)
+  lines = lines_of-open taken reader.begun s.whole ∙ ap (λ (l : List (List ℕ)). whole_lines taken ++ l) (sym (few_lines-open reader.begun s.open_line))
 
-  text_is : session_text start (lines_of taken) ≡ session_text start (whole_lines taken) ++ answers_of_lines talk.state (take 1 (lines_of talk.begun))
-  text_is = ap (session_text start) lines ∙ session_more start (whole_lines taken) (take 1 (lines_of talk.begun)) s.goes_on
-      ∙ ap (λ (p : SessionState). session_text start (whole_lines taken) ++ answers_of_lines p (take 1 (lines_of talk.begun))) (sym s.state_is)
+  text_is : session_text start (lines_of taken) ≡ session_text start (whole_lines taken) ++ answers_of_lines reader.state (take 1 (lines_of reader.begun))
+  text_is = ap (session_text start) lines ∙ session_more start (whole_lines taken) (take 1 (lines_of reader.begun)) s.goes_on
+      ∙ ap (λ (p : SessionState). session_text start (whole_lines taken) ++ answers_of_lines p (take 1 (lines_of reader.begun))) (sym s.state_is)
 
   whole_is : outcome_text (session_outcome start taken) ≡ session_text start (lines_of taken)
   whole_is = rw fits refl
 
-  concludes : (input : List ℕ) → input ≡ taken → now ≡ append_known mid (answers_of_lines talk.state (take 1 (lines_of talk.begun))) → SessionConcludes start printed now taken input
+  concludes : (input : List ℕ) → input ≡ taken → now ≡ append_known mid (answers_of_lines reader.state (take 1 (lines_of reader.begun))) → SessionConcludes start printed now taken input
   concludes input e said = record {
     fits = ap (is_large_input start) e ∙ fits;
-    text = said ∙ ap (λ (k : Option (List ℕ)). append_known k (answers_of_lines talk.state (take 1 (lines_of talk.begun)))) s.text
-        ∙ append_twice printed (session_text start (whole_lines taken)) (answers_of_lines talk.state (take 1 (lines_of talk.begun)))
+    text = said ∙ ap (λ (k : Option (List ℕ)). append_known k (answers_of_lines reader.state (take 1 (lines_of reader.begun)))) s.text
+        ∙ append_twice printed (session_text start (whole_lines taken)) (answers_of_lines reader.state (take 1 (lines_of reader.begun)))
         ∙ ap (append_known printed) (sym text_is) ∙ ap (λ (l : List ℕ). append_known printed (session_text start (lines_of l))) (sym e);
     at_end = inl e;
   }
 
-  some : (input : List ℕ) → input ≡ taken → PrintsPart talk.state (take 1 (lines_of talk.begun)) mid now → SaysSome start printed now input
+  some : (input : List ℕ) → input ≡ taken → PrintsPart reader.state (take 1 (lines_of reader.begun)) mid now → SaysSome start printed now input
   some input e p =
       let said = session_text start (whole_lines taken) in
-      let told = answers_of_lines talk.state (take 1 (lines_of talk.begun)) in (
+      let told = answers_of_lines reader.state (take 1 (lines_of reader.begun)) in (
         length said + p.0,
         p.1 ∙ ap (λ (k : Option (List ℕ)). append_known k (take p.0 told)) s.text
             ∙ append_twice printed said (take p.0 told)
@@ -194,17 +194,17 @@ module _ (start : List Replaying) (printed mid now : Option (List ℕ)) (talk : 
             ∙ ap (λ (l : List ℕ). append_known printed (take (length said + p.0) (outcome_text (session_outcome start l)))) (sym e),
       )
 
-  said_all : (input : List ℕ) → input ≡ taken → (printed_all : now ≡ append_known mid (answers_of_lines talk.state (take 1 (lines_of talk.begun)))) → SaidOfInput start (printed, now) taken input cause.Done
+  said_all : (input : List ℕ) → input ≡ taken → (printed_all : now ≡ append_known mid (answers_of_lines reader.state (take 1 (lines_of reader.begun)))) → SaidOfInput start (printed, now) taken input cause.Done
   said_all input e spoke = concludes input e spoke
 
-  said_error : (input : List ℕ) (why : Ended) → input ≡ taken → SpokeLines talk.state (take 1 (lines_of talk.begun)) mid now (Err why) → SaidOfInput start (printed, now) taken input why
+  said_error : (input : List ℕ) (why : Ended) → input ≡ taken → SpokeLines reader.state (take 1 (lines_of reader.begun)) mid now (Err why) → SaidOfInput start (printed, now) taken input why
   said_error input cause.Done e spoke = concludes input e spoke.0
   said_error input cause.TooLarge e spoke = absurd spoke
   said_error input cause.ReadFault e spoke = absurd spoke
   said_error input cause.WriteFault e spoke = some input e spoke
   said_error input cause.NoMemory e spoke = some input e spoke
 
-  never_large : (why : Ended) → SpokeLines talk.state (take 1 (lines_of talk.begun)) mid now (Err why) → why ≡ cause.TooLarge → ⊥
+  never_large : (why : Ended) → SpokeLines reader.state (take 1 (lines_of reader.begun)) mid now (Err why) → why ≡ cause.TooLarge → ⊥
   never_large cause.Done spoke is = absurd cc
   never_large cause.TooLarge spoke is = spoke
   never_large cause.ReadFault spoke is = spoke
@@ -215,7 +215,7 @@ module _ (start : List Replaying) (printed mid now : Option (List ℕ)) (talk : 
     asks : AsksAtTerminal start taken
     asks = record { earlier = taken; piece = []; parts = sym (append-nil taken); short = omega arith; within = omega (arith, within); goes_on = s.goes_on }
 
-    pub holds_all : now ≡ append_known mid (answers_of_lines talk.state (take 1 (lines_of talk.begun))) → SessionHolds start (record { hearing = old; taken = printed; faults = faults }) (record { hearing = new; taken = now; faults = faults_after }) cause.Done
+    pub holds_all : now ≡ append_known mid (answers_of_lines reader.state (take 1 (lines_of reader.begun))) → SessionHolds start (record { hearing = old; taken = printed; faults = faults }) (record { hearing = new; taken = now; faults = faults_after }) cause.Done
     holds_all spoke = record {
       taken = taken;
       asks = asks;
@@ -225,7 +225,7 @@ module _ (start : List Replaying) (printed mid now : Option (List ℕ)) (talk : 
       large = λ is. absurd cc;
     }
 
-    pub holds_error : (why : Ended) → SpokeLines talk.state (take 1 (lines_of talk.begun)) mid now (Err why) → SessionHolds start (record { hearing = old; taken = printed; faults = faults }) (record { hearing = new; taken = now; faults = faults_after }) why
+    pub holds_error : (why : Ended) → SpokeLines reader.state (take 1 (lines_of reader.begun)) mid now (Err why) → SessionHolds start (record { hearing = old; taken = printed; faults = faults }) (record { hearing = new; taken = now; faults = faults_after }) why
     holds_error why spoke = record {
       taken = taken;
       asks = asks;

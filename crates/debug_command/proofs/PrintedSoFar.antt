@@ -14,7 +14,7 @@ use Rattle.command_run.specs.declared.refusal.Reason.TheVariants as reason
 use Rattle.debug_command.specs.Debug.{early_lines, input_name, is_large_input, session_outcome, spoken_session, whole_lines, whole_part}
 use Rattle.debug_command.specs.Limits.{most_input}
 use Rattle.command_run.specs.Outcome.{CommandOutcome, Refuses, outcome_text, refused_line}
-use Rattle.debug_command.specs.inside.Talk.{PrintsPart, InputOverruns, SessionQuits, SaysPart, SessionStands, SessionTalk, state_after_lines}
+use Rattle.debug_command.specs.inside.Reader.{PrintsPart, InputOverruns, SessionQuits, SaysPart, SessionStands, SessionReader, state_after_lines}
 use Rattle.debug_command.proofs.WholeLines.{Fronts, FrontsText, after-append, ends-append, has_feed-append, ends_fronts, few_lines-ended, lines_front, session_ended, session_front, session_more, whole_lines-ended, whole_lines-same, whole_lines_front, whole_part-append_none, whole_part-ended}
 
 -- ---- what a sink took
@@ -118,23 +118,23 @@ overruns_more start printed now got more o = record {
 -- ---- a byte is taken
 
 -- one more byte of the line that has begun
-abbrev pub with_byte : SessionTalk → ℕ → SessionTalk
-with_byte talk b = record { state = talk.state; begun = talk.begun ++ b ∷ []; count = talk.count + 1 }
+abbrev pub with_byte : SessionReader → ℕ → SessionReader
+with_byte reader b = record { state = reader.state; begun = reader.begun ++ b ∷ []; count = reader.count + 1 }
 
 -- the byte that ends it, and its answer
-abbrev pub at_line_end : SessionTalk → SessionState → SessionTalk
-at_line_end talk next = record { state = next; begun = []; count = talk.count + 1 }
+abbrev pub at_line_end : SessionReader → SessionState → SessionReader
+at_line_end reader next = record { state = next; begun = []; count = reader.count + 1 }
 
-module _ (start : List Replaying) (printed now : Option (List ℕ)) (talk : SessionTalk) (taken : List ℕ) (s : SessionStands start printed now talk taken) (b : ℕ) where
+module _ (start : List Replaying) (printed now : Option (List ℕ)) (reader : SessionReader) (taken : List ℕ) (s : SessionStands start printed now reader taken) (b : ℕ) where
   -- a byte that ends no line
-  pub stands_other : is_line_feed b ≡ false → talk.count < most_input → SessionStands start printed now (with_byte talk b) (taken ++ b ∷ [])
+  pub stands_other : is_line_feed b ≡ false → reader.count < most_input → SessionStands start printed now (with_byte reader b) (taken ++ b ∷ [])
   stands_other other room =
       let none : list_any is_line_feed (b ∷ []) ≡ false = rw other refl in
       let part = whole_part-append_none taken (b ∷ []) none in
       let lines = whole_lines-same taken (b ∷ []) none in
       record {
-        whole = ap (λ (l : List ℕ). l ++ b ∷ []) s.whole ∙ append_assoc (whole_part taken) talk.begun (b ∷ []) ∙ ap (λ (l : List ℕ). l ++ (talk.begun ++ b ∷ [])) (sym part);
-        open_line = has_feed-append talk.begun (b ∷ []) ∙ (rw (s.open_line, other) refl);
+        whole = ap (λ (l : List ℕ). l ++ b ∷ []) s.whole ∙ append_assoc (whole_part taken) reader.begun (b ∷ []) ∙ ap (λ (l : List ℕ). l ++ (reader.begun ++ b ∷ [])) (sym part);
+        open_line = has_feed-append reader.begun (b ∷ []) ∙ (rw (s.open_line, other) refl);
         state_is = s.state_is ∙ ap (state_after_lines (opening_session start)) (sym lines);
         goes_on = ap (ends_session (opening_session start)) lines ∙ s.goes_on;
         text = s.text ∙ ap (λ (l : List (List ℕ)). append_known printed (session_text start l)) (sym lines);
@@ -143,39 +143,39 @@ module _ (start : List Replaying) (printed now : Option (List ℕ)) (talk : Sess
       }
 
   -- the line that a line feed ends
-  module _ (new : Option (List ℕ)) (feed : is_line_feed b ≡ true) (room : talk.count < most_input) where
-    lines : whole_lines (taken ++ b ∷ []) ≡ whole_lines taken ++ take 1 (lines_of (talk.begun ++ b ∷ []))
-    lines = whole_lines-ended taken talk.begun b s.whole feed ∙ ap (λ (l : List (List ℕ)). whole_lines taken ++ l) (sym (few_lines-ended talk.begun b s.open_line feed))
+  module _ (new : Option (List ℕ)) (feed : is_line_feed b ≡ true) (room : reader.count < most_input) where
+    lines : whole_lines (taken ++ b ∷ []) ≡ whole_lines taken ++ take 1 (lines_of (reader.begun ++ b ∷ []))
+    lines = whole_lines-ended taken reader.begun b s.whole feed ∙ ap (λ (l : List (List ℕ)). whole_lines taken ++ l) (sym (few_lines-ended reader.begun b s.open_line feed))
 
     fits : length (taken ++ b ∷ []) ≤ most_input
     fits = rw length-append (omega (arith, room, s.count_is))
 
-    ends_is : ends_session (opening_session start) (whole_lines (taken ++ b ∷ [])) ≡ ends_session talk.state (take 1 (lines_of (talk.begun ++ b ∷ [])))
-    ends_is = ap (ends_session (opening_session start)) lines ∙ ends-append (opening_session start) (whole_lines taken) (take 1 (lines_of (talk.begun ++ b ∷ []))) s.goes_on
-        ∙ ap (λ (p : SessionState). ends_session p (take 1 (lines_of (talk.begun ++ b ∷ [])))) (sym s.state_is)
+    ends_is : ends_session (opening_session start) (whole_lines (taken ++ b ∷ [])) ≡ ends_session reader.state (take 1 (lines_of (reader.begun ++ b ∷ [])))
+    ends_is = ap (ends_session (opening_session start)) lines ∙ ends-append (opening_session start) (whole_lines taken) (take 1 (lines_of (reader.begun ++ b ∷ []))) s.goes_on
+        ∙ ap (λ (p : SessionState). ends_session p (take 1 (lines_of (reader.begun ++ b ∷ [])))) (sym s.state_is)
 
-    text_is : session_text start (whole_lines (taken ++ b ∷ [])) ≡ session_text start (whole_lines taken) ++ answers_of_lines talk.state (take 1 (lines_of (talk.begun ++ b ∷ [])))
-    text_is = ap (session_text start) lines ∙ session_more start (whole_lines taken) (take 1 (lines_of (talk.begun ++ b ∷ []))) s.goes_on
-        ∙ ap (λ (p : SessionState). session_text start (whole_lines taken) ++ answers_of_lines p (take 1 (lines_of (talk.begun ++ b ∷ [])))) (sym s.state_is)
+    text_is : session_text start (whole_lines (taken ++ b ∷ [])) ≡ session_text start (whole_lines taken) ++ answers_of_lines reader.state (take 1 (lines_of (reader.begun ++ b ∷ [])))
+    text_is = ap (session_text start) lines ∙ session_more start (whole_lines taken) (take 1 (lines_of (reader.begun ++ b ∷ []))) s.goes_on
+        ∙ ap (λ (p : SessionState). session_text start (whole_lines taken) ++ answers_of_lines p (take 1 (lines_of (reader.begun ++ b ∷ [])))) (sym s.state_is)
 
-    printed_is : new ≡ append_known now (answers_of_lines talk.state (take 1 (lines_of (talk.begun ++ b ∷ [])))) → new ≡ append_known printed (session_text start (whole_lines (taken ++ b ∷ [])))
-    printed_is e = e ∙ ap (λ (k : Option (List ℕ)). append_known k (answers_of_lines talk.state (take 1 (lines_of (talk.begun ++ b ∷ []))))) s.text
-        ∙ append_twice printed (session_text start (whole_lines taken)) (answers_of_lines talk.state (take 1 (lines_of (talk.begun ++ b ∷ []))))
+    printed_is : new ≡ append_known now (answers_of_lines reader.state (take 1 (lines_of (reader.begun ++ b ∷ [])))) → new ≡ append_known printed (session_text start (whole_lines (taken ++ b ∷ [])))
+    printed_is e = e ∙ ap (λ (k : Option (List ℕ)). append_known k (answers_of_lines reader.state (take 1 (lines_of (reader.begun ++ b ∷ []))))) s.text
+        ∙ append_twice printed (session_text start (whole_lines taken)) (answers_of_lines reader.state (take 1 (lines_of (reader.begun ++ b ∷ []))))
         ∙ ap (append_known printed) (sym text_is)
 
-    pub stands_ended : (next : SessionState) → new ≡ append_known now (answers_of_lines talk.state (take 1 (lines_of (talk.begun ++ b ∷ [])))) → ends_session talk.state (take 1 (lines_of (talk.begun ++ b ∷ []))) ≡ false → next ≡ state_after_lines talk.state (take 1 (lines_of (talk.begun ++ b ∷ []))) → SessionStands start printed new (at_line_end talk next) (taken ++ b ∷ [])
+    pub stands_ended : (next : SessionState) → new ≡ append_known now (answers_of_lines reader.state (take 1 (lines_of (reader.begun ++ b ∷ [])))) → ends_session reader.state (take 1 (lines_of (reader.begun ++ b ∷ []))) ≡ false → next ≡ state_after_lines reader.state (take 1 (lines_of (reader.begun ++ b ∷ []))) → SessionStands start printed new (at_line_end reader next) (taken ++ b ∷ [])
     stands_ended next e on there = record {
       whole = sym (append-nil _ ∙ whole_part-ended taken b feed);
       open_line = refl;
-      state_is = there ∙ ap (λ (p : SessionState). state_after_lines p (take 1 (lines_of (talk.begun ++ b ∷ [])))) s.state_is
-          ∙ sym (after-append (opening_session start) (whole_lines taken) (take 1 (lines_of (talk.begun ++ b ∷ [])))) ∙ ap (state_after_lines (opening_session start)) (sym lines);
+      state_is = there ∙ ap (λ (p : SessionState). state_after_lines p (take 1 (lines_of (reader.begun ++ b ∷ [])))) s.state_is
+          ∙ sym (after-append (opening_session start) (whole_lines taken) (take 1 (lines_of (reader.begun ++ b ∷ [])))) ∙ ap (state_after_lines (opening_session start)) (sym lines);
       goes_on = ends_is ∙ on;
       text = printed_is e;
       count_is = rw length-append (ap (λ (n : ℕ). n + 1) s.count_is);
       within = omega (arith, room);
     }
 
-    pub quits_ended : new ≡ append_known now (answers_of_lines talk.state (take 1 (lines_of (talk.begun ++ b ∷ [])))) → ends_session talk.state (take 1 (lines_of (talk.begun ++ b ∷ []))) ≡ true → SessionQuits start printed new (taken ++ b ∷ [])
+    pub quits_ended : new ≡ append_known now (answers_of_lines reader.state (take 1 (lines_of (reader.begun ++ b ∷ [])))) → ends_session reader.state (take 1 (lines_of (reader.begun ++ b ∷ []))) ≡ true → SessionQuits start printed new (taken ++ b ∷ [])
     quits_ended e ended =
         let over = ends_is ∙ ended in
         record {
@@ -184,10 +184,10 @@ module _ (start : List Replaying) (printed now : Option (List ℕ)) (talk : Sess
           text = λ rest. printed_is e ∙ ap (append_known printed) (sym (session_ended start (whole_lines (taken ++ b ∷ [])) (lines_of ((taken ++ b ∷ []) ++ rest)) (lines_front (taken ++ b ∷ []) rest) over));
         }
 
-    pub part_ended : PrintsPart talk.state (take 1 (lines_of (talk.begun ++ b ∷ []))) now new → SaysPart start printed new (taken ++ b ∷ [])
+    pub part_ended : PrintsPart reader.state (take 1 (lines_of (reader.begun ++ b ∷ []))) now new → SaysPart start printed new (taken ++ b ∷ [])
     part_ended p =
         let said = session_text start (whole_lines taken) in
-        let told = answers_of_lines talk.state (take 1 (lines_of (talk.begun ++ b ∷ []))) in
+        let told = answers_of_lines reader.state (take 1 (lines_of (reader.begun ++ b ∷ []))) in
         part_of start printed new (taken ++ b ∷ []) (length said + p.0) fits
         (p.1 ∙ ap (λ (k : Option (List ℕ)). append_known k (take p.0 told)) s.text
         ∙ append_twice printed said (take p.0 told)
@@ -198,7 +198,7 @@ module _ (start : List Replaying) (printed now : Option (List ℕ)) (talk : Sess
   part_kept = part_more start printed now taken (b ∷ []) (part_of start printed now taken (length (session_text start (whole_lines taken))) (omega (arith, s.count_is, s.within))
       (s.text ∙ ap (append_known printed) (sym (take-length (session_text start (whole_lines taken))))))
 
-  pub overruns : most_input ≤ talk.count → InputOverruns start printed now (taken ++ b ∷ [])
+  pub overruns : most_input ≤ reader.count → InputOverruns start printed now (taken ++ b ∷ [])
   overruns full =
       let at : length taken ≡ most_input = omega (arith, s.count_is, s.within) in
       record {

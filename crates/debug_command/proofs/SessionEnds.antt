@@ -16,7 +16,7 @@ use Rattle.debug_command.specs.inside.Conversing.{ConversesInSession, NeverOfASe
 use Rattle.debug_command.specs.Conversation.{TakesOfInput, TakesTurns}
 use Rattle.debug_command.specs.Debug.{input_name, session_outcome, whole_lines}
 use Rattle.command_run.specs.Outcome.{outcome_text, refused_line}
-use Rattle.debug_command.specs.inside.Talk.{HeldSession, SessionHolds}
+use Rattle.debug_command.specs.inside.Reader.{HeldSession, SessionHolds}
 use Rattle.command_run.specs.OutcomeLaws.{prints_all}
 use Rattle.debug_command.proofs.PrintedSoFar.{append_twice, part_of}
 

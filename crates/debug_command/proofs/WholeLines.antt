@@ -10,7 +10,7 @@ use Rattle.friday_shell.specs.Answer.{answer}
 use Rattle.friday_shell.specs.Points.{SessionState}
 use Rattle.friday_shell.specs.Session.{answers_of_lines, ends_session, opening_session, session_text}
 use Rattle.debug_command.specs.Debug.{whole_lines, whole_part}
-use Rattle.debug_command.specs.inside.Talk.{state_after_lines}
+use Rattle.debug_command.specs.inside.Reader.{state_after_lines}
 
 -- ---- the bytes up to the last line feed
 

@@ -15,7 +15,7 @@ use Rattle.debug_command.specs.declared.converse.Ended.TheVariants as cause
 use Rattle.debug_command.specs.Conversation.{TakesOfInput}
 use Rattle.debug_command.specs.inside.Conversing.{TerminalState}
 use Rattle.debug_command.specs.Limits.{most_input}
-use Rattle.debug_command.specs.inside.Talk.{SessionBreaksFrom, CameInTurn, InputExchange, FailsAtOpening, SessionGoesOn, HeardPiece, HearsPiece, SessionHearsFrom, HeldSession, SessionHoldsFrom, SessionOpens, SessionOpensPart, InputReadsOn, SaysPart, SessionHolds, SessionStands, SpokeLines, StopsAtPiece, SessionStopsIn, SessionTalk, ended_by, exchange_of, listened_after}
+use Rattle.debug_command.specs.inside.Reader.{SessionBreaksFrom, CameInTurn, InputExchange, FailsAtOpening, SessionGoesOn, HeardPiece, HearsPiece, SessionHearsFrom, HeldSession, SessionHoldsFrom, SessionOpens, SessionOpensPart, InputReadsOn, SaysPart, SessionHolds, SessionStands, SpokeLines, StopsAtPiece, SessionStopsIn, SessionReader, ended_by, exchange_of, listened_after}
 use Rattle.debug_command.proofs.InputPieces.{holds_all, holds_broken, holds_error, stops_at, taken_more, taken_none, turns_none, turns_noted, turns_piece}
 use Rattle.debug_command.proofs.PrintedSoFar.{append_none, part_of}
 
@@ -25,26 +25,26 @@ pub err_read : {T : Type 0} (why : Ended) → ◌≡◌ {A = Result T Ended} (Er
 err_read why is = cc
 
 -- a piece that was read and taken
-pub hears : (exchange : InputExchange) (talk : SessionTalk) (heard : HeardPiece) (piece : List ℕ)
+pub hears : (exchange : InputExchange) (reader : SessionReader) (heard : HeardPiece) (piece : List ℕ)
     → length piece ≤ exchange.room → WhenTold exchange.old.hearing.left (λ input. TakesOfInput input exchange.new.hearing.left piece)
-    → exchange.new.hearing.asked ≡ with_asking exchange.old.taken piece exchange.old.hearing.asked → SessionGoesOn piece exchange.old.taken exchange.new.taken talk heard.talk
-    → (heard.more ≡ false → (piece ≡ []) × WhenTold exchange.old.hearing.left (λ input. input ≡ [])) → SessionHearsFrom exchange talk heard
+    → exchange.new.hearing.asked ≡ with_asking exchange.old.taken piece exchange.old.hearing.asked → SessionGoesOn piece exchange.old.taken exchange.new.taken reader heard.reader
+    → (heard.more ≡ false → (piece ≡ []) × WhenTold exchange.old.hearing.left (λ input. input ≡ [])) → SessionHearsFrom exchange reader heard
 unfolding SessionGoesOn SessionHearsFrom
-hears exchange talk heard piece short read noted goes last = λ start printed taken s.
+hears exchange reader heard piece short read noted goes last = λ start printed taken s.
     record { piece = piece; short = short; stands = goes start printed taken s; read = read; noted = noted; at_end = last }
 
 -- a session that stopped in the piece
-pub breaks_in : (exchange : InputExchange) (talk : SessionTalk) (piece : List ℕ) (why : Ended)
+pub breaks_in : (exchange : InputExchange) (reader : SessionReader) (piece : List ℕ) (why : Ended)
     → length piece ≤ exchange.room → WhenTold exchange.old.hearing.left (λ input. TakesOfInput input exchange.new.hearing.left piece)
-    → exchange.new.hearing.asked ≡ with_asking exchange.old.taken piece exchange.old.hearing.asked → SessionStopsIn piece exchange.old.taken exchange.new.taken talk why
-    → SessionBreaksFrom exchange talk why
+    → exchange.new.hearing.asked ≡ with_asking exchange.old.taken piece exchange.old.hearing.asked → SessionStopsIn piece exchange.old.taken exchange.new.taken reader why
+    → SessionBreaksFrom exchange reader why
 unfolding SessionStopsIn SessionBreaksFrom
-breaks_in exchange talk piece why short read noted stops = λ start printed taken s.
+breaks_in exchange reader piece why short read noted stops = λ start printed taken s.
     record { piece = piece; short = short; read = read; noted = inl noted; stops = stops_at start printed exchange.new.taken (taken ++ piece) why (stops.1 start printed taken s) }
 
-pub stops_read : (before now : Option (List ℕ)) (talk : SessionTalk) (piece : List ℕ) (why : Ended) → SessionStopsIn piece before now talk why → why ≡ cause.ReadFault → ⊥
+pub stops_read : (before now : Option (List ℕ)) (reader : SessionReader) (piece : List ℕ) (why : Ended) → SessionStopsIn piece before now reader why → why ≡ cause.ReadFault → ⊥
 unfolding SessionStopsIn
-stops_read before now talk piece why stops is = subst InputReadsOn is stops.0
+stops_read before now reader piece why stops is = subst InputReadsOn is stops.0
 
 -- another end than by a failed read counts none
 pub none_counted : (T : Type 0) (count : ℕ) (why : Ended) → (why ≡ cause.ReadFault → ⊥) → listened_after {T = T} count (Err why) ≡ count
@@ -62,10 +62,10 @@ spoke_read state lines old new cause.WriteFault spoke is = absurd cc
 spoke_read state lines old new cause.NoMemory spoke is = absurd cc
 
 -- a read that failed
-pub breaks_read : (exchange : InputExchange) (talk : SessionTalk) → exchange.new.hearing.left ≡ exchange.old.hearing.left → exchange.new.hearing.asked ≡ exchange.old.hearing.asked
-    → exchange.new.taken ≡ exchange.old.taken → SessionBreaksFrom exchange talk cause.ReadFault
+pub breaks_read : (exchange : InputExchange) (reader : SessionReader) → exchange.new.hearing.left ≡ exchange.old.hearing.left → exchange.new.hearing.asked ≡ exchange.old.hearing.asked
+    → exchange.new.taken ≡ exchange.old.taken → SessionBreaksFrom exchange reader cause.ReadFault
 unfolding SessionBreaksFrom
-breaks_read exchange talk same unasked silent = λ start printed taken s.
+breaks_read exchange reader same unasked silent = λ start printed taken s.
     record {
       piece = [];
       short = omega arith;
@@ -78,24 +78,24 @@ breaks_read exchange talk same unasked silent = λ start printed taken s.
 -- ---- piece after piece
 
 -- a session took these bytes, and is after them
-pub record Listens (start : List Replaying) (printed : Option (List ℕ)) (old here : TerminalState) (talk : SessionTalk) : Type 0 where
+pub record Listens (start : List Replaying) (printed : Option (List ℕ)) (old here : TerminalState) (reader : SessionReader) : Type 0 where
   pub taken : List ℕ
-  pub stands : SessionStands start printed here.taken talk taken
+  pub stands : SessionStands start printed here.taken reader taken
   pub read : WhenTold old.hearing.left (λ input. TakesOfInput input here.hearing.left taken)
   pub turns : WhenTold old.hearing.asked (λ earlier. CameInTurn start printed taken earlier here.hearing.asked)
 
-unfoldable pub ListensFrom : TerminalState → TerminalState → SessionTalk → SessionTalk → Type 0
-ListensFrom old here talk next =
-    (start : List Replaying) (printed : Option (List ℕ)) → SessionStands start printed old.taken talk [] → Listens start printed old here next
+unfoldable pub ListensFrom : TerminalState → TerminalState → SessionReader → SessionReader → Type 0
+ListensFrom old here reader next =
+    (start : List Replaying) (printed : Option (List ℕ)) → SessionStands start printed old.taken reader [] → Listens start printed old here next
 
-pub listens_none : (old : TerminalState) (talk : SessionTalk) → ListensFrom old old talk talk
+pub listens_none : (old : TerminalState) (reader : SessionReader) → ListensFrom old old reader reader
 unfolding ListensFrom
-listens_none old talk = λ start printed s. record { taken = []; stands = s; read = taken_none old.hearing.left; turns = turns_none start printed old.hearing.asked }
+listens_none old reader = λ start printed s. record { taken = []; stands = s; read = taken_none old.hearing.left; turns = turns_none start printed old.hearing.asked }
 
-module _ (old here : TerminalState) (talk next : SessionTalk) (so_far : ListensFrom old here talk next) where
+module _ (old here : TerminalState) (reader next : SessionReader) (so_far : ListensFrom old here reader next) where
   -- what a piece adds
   adds : (start : List Replaying) (printed : Option (List ℕ)) (new : TerminalState) (heard : HeardPiece) (size : ℕ) → size ≤ 4096
-      → (t : Listens start printed old here next) → HearsPiece start printed t.taken (exchange_of size here new) heard → Listens start printed old new heard.talk
+      → (t : Listens start printed old here next) → HearsPiece start printed t.taken (exchange_of size here new) heard → Listens start printed old new heard.reader
   adds start printed new heard size small t h =
       let short : length h.piece ≤ size = h.short in
       record {
@@ -105,14 +105,14 @@ module _ (old here : TerminalState) (talk next : SessionTalk) (so_far : ListensF
         turns = turns_noted start printed here.taken next t.taken h.piece t.stands (omega (arith, small, short)) old.hearing.asked here.hearing.asked new.hearing.asked t.turns h.noted;
       }
 
-  pub listens_more : (new : TerminalState) (heard : HeardPiece) (size : ℕ) → size ≤ 4096 → SessionHearsFrom (exchange_of size here new) next heard → ListensFrom old new talk heard.talk
+  pub listens_more : (new : TerminalState) (heard : HeardPiece) (size : ℕ) → size ≤ 4096 → SessionHearsFrom (exchange_of size here new) next heard → ListensFrom old new reader heard.reader
   unfolding ListensFrom SessionHearsFrom
   listens_more new heard size small hears = λ start printed s.
       let t = so_far start printed s in
       adds start printed new heard size small t (hears start printed t.taken t.stands)
 
   pub listens_broken : (new : TerminalState) (size : ℕ) (why : Ended) → size ≤ 4096 → next.count + size ≤ most_input + 1
-      → SessionBreaksFrom (exchange_of size here new) next why → SessionHoldsFrom old new talk why
+      → SessionBreaksFrom (exchange_of size here new) next why → SessionHoldsFrom old new reader why
   unfolding ListensFrom SessionBreaksFrom SessionHoldsFrom
   listens_broken new size why small room broke = λ start printed s.
       let t = so_far start printed s in
@@ -129,23 +129,23 @@ module _ (old here : TerminalState) (talk next : SessionTalk) (so_far : ListensF
         let f = read input told in
         f.whole ∙ ap (λ (l : List ℕ). taken ++ l) (last.1 f.rest f.left ∙ sym last.0)
 
-    pub listens_all : (state : SessionState) → end.hearing ≡ new.hearing → SpokeLines heard.talk.state (take 1 (lines_of heard.talk.begun)) new.taken end.taken (Ok state) → SessionHoldsFrom old end talk cause.Done
+    pub listens_all : (state : SessionState) → end.hearing ≡ new.hearing → SpokeLines heard.reader.state (take 1 (lines_of heard.reader.begun)) new.taken end.taken (Ok state) → SessionHoldsFrom old end reader cause.Done
     unfolding ListensFrom SessionHearsFrom SessionHoldsFrom adds
     listens_all state same spoke = λ start printed s.
         let t = so_far start printed s in
         let h = hears start printed t.taken t.stands in
         let all = adds start printed new heard size small t h in
         subst (λ (n : Hearing). SessionHolds start (record old { taken = printed }) (record end { hearing = n }) cause.Done) (sym same)
-        (holds_all start printed new.taken end.taken heard.talk (t.taken ++ h.piece) h.stands old.hearing new.hearing old.faults end.faults all.read (last_told t.taken h.piece t.read (h.at_end none)) all.turns spoke.0)
+        (holds_all start printed new.taken end.taken heard.reader (t.taken ++ h.piece) h.stands old.hearing new.hearing old.faults end.faults all.read (last_told t.taken h.piece t.read (h.at_end none)) all.turns spoke.0)
 
-    pub listens_error : (why : Ended) → end.hearing ≡ new.hearing → SpokeLines heard.talk.state (take 1 (lines_of heard.talk.begun)) new.taken end.taken (Err why) → SessionHoldsFrom old end talk why
+    pub listens_error : (why : Ended) → end.hearing ≡ new.hearing → SpokeLines heard.reader.state (take 1 (lines_of heard.reader.begun)) new.taken end.taken (Err why) → SessionHoldsFrom old end reader why
     unfolding ListensFrom SessionHearsFrom SessionHoldsFrom adds
     listens_error why same spoke = λ start printed s.
         let t = so_far start printed s in
         let h = hears start printed t.taken t.stands in
         let all = adds start printed new heard size small t h in
         subst (λ (n : Hearing). SessionHolds start (record old { taken = printed }) (record end { hearing = n }) why) (sym same)
-        (holds_error start printed new.taken end.taken heard.talk (t.taken ++ h.piece) h.stands old.hearing new.hearing old.faults end.faults all.read (last_told t.taken h.piece t.read (h.at_end none)) all.turns why spoke)
+        (holds_error start printed new.taken end.taken heard.reader (t.taken ++ h.piece) h.stands old.hearing new.hearing old.faults end.faults all.read (last_told t.taken h.piece t.read (h.at_end none)) all.turns why spoke)
 
 -- ---- the opening
 
@@ -179,10 +179,10 @@ opens_read start printed now why part is = subst FailsAtOpening is part.1
 
 -- ---- the whole session
 
-pub held : (start : List Replaying) (old here new : TerminalState) (talk : SessionTalk) (why : Ended)
-    → here.hearing ≡ old.hearing → SessionOpens start old.taken here.taken talk → SessionHoldsFrom here new talk why → HeldSession start old new why
+pub held : (start : List Replaying) (old here new : TerminalState) (reader : SessionReader) (why : Ended)
+    → here.hearing ≡ old.hearing → SessionOpens start old.taken here.taken reader → SessionHoldsFrom here new reader why → HeldSession start old new why
 unfolding SessionOpens SessionHoldsFrom HeldSession
-held start old here new talk why same opened holds =
+held start old here new reader why same opened holds =
     let h = subst (λ (o : Hearing). SessionHolds start (record { hearing = o; taken = old.taken; faults = here.faults }) new why) same (holds start old.taken opened) in
     record { taken = h.taken; asks = h.asks; read = h.read; turns = h.turns; said = h.said; large = h.large }
 

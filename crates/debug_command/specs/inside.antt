@@ -1,3 +1,3 @@
 -- What no public contract cites.
 pub mod Conversing
-pub mod Talk
+pub mod Reader

@@ -4,7 +4,7 @@ ghost use Rattle.fri_text.specs.Line.{lines_of};
 ghost use Rattle.group_state.specs.Place.{AreGroupReplays};
 ghost use Rattle.debug_command.specs.declared.converse.Ended.TheVariants as cause;
 ghost use Rattle.debug_command.specs.inside.Conversing.{ConversesInSession, terminal_at};
-ghost use Rattle.debug_command.specs.inside.Talk.{SessionBreaksFrom, SessionGoesOn, SessionHearsFrom, HeldSession, SessionHoldsFrom, SessionOpens, SessionOpensPart, SpokeLines, SessionStopsIn, ended_by, exchange_of, heard_of, listened_after, failed_says_of_session, session_talk_of, why_session_ended};
+ghost use Rattle.debug_command.specs.inside.Reader.{SessionBreaksFrom, SessionGoesOn, SessionHearsFrom, HeldSession, SessionHoldsFrom, SessionOpens, SessionOpensPart, SpokeLines, SessionStopsIn, ended_by, exchange_of, heard_of, listened_after, failed_says_of_session, session_reader_of, why_session_ended};
 
 use command_run::{Reason, Status, say_refused};
 use fri_bytes::Cursor;
@@ -84,9 +84,9 @@ fn begin<'m, 'a, K: Sink>(
 ) -> Result<LineReader<'m, 'a>, Ended>
     requires { AreGroupReplays replayers.items }
     ensures said { MatchResult result
-        (λ talk. SessionOpens replayers.entry.items (K.taken out.old) (K.taken out.new) (session_talk_of talk))
+        (λ reader. SessionOpens replayers.entry.items (K.taken out.old) (K.taken out.new) (session_reader_of reader))
         (SessionOpensPart replayers.entry.items (K.taken out.old) (K.taken out.new)) }
-    ensures count { IfOk result (λ talk. talk.count ≡ 0) }
+    ensures count { IfOk result (λ reader. reader.count ≡ 0) }
     ensures counted { K.faults out.new ≡ failed_says_of_session (K.faults out.old) result }
     ensures heard { K.hearing out.new ≡ K.hearing out.old }
 {
@@ -126,15 +126,15 @@ fn answer<'m, 'a, K: Sink, L: Ledger>(
 // Takes a byte, and answers the line that it ends.
 fn take_byte<'m, 'a, K: Sink, L: Ledger>(
     alloc: Global,
-    talk: LineReader<'m, 'a>,
+    reader: LineReader<'m, 'a>,
     b: u8,
     out: &mut K,
     steps: &mut Steps<L>,
 ) -> Result<LineReader<'m, 'a>, Ended>
     ensures said { MatchResult result
-        (λ next. SessionGoesOn (b ∷ []) (K.taken out.old) (K.taken out.new) (session_talk_of talk.entry) (session_talk_of next))
-        (SessionStopsIn (b ∷ []) (K.taken out.old) (K.taken out.new) (session_talk_of talk.entry)) }
-    ensures count { IfOk result (λ new. new.count ≡ talk.entry.count + 1) }
+        (λ next. SessionGoesOn (b ∷ []) (K.taken out.old) (K.taken out.new) (session_reader_of reader.entry) (session_reader_of next))
+        (SessionStopsIn (b ∷ []) (K.taken out.old) (K.taken out.new) (session_reader_of reader.entry)) }
+    ensures count { IfOk result (λ new. new.count ≡ reader.entry.count + 1) }
     ensures within { IfOk result (λ new. new.count ≤ MOST_INPUT) }
     ensures counted { K.faults out.new ≡ failed_says_of_session (K.faults out.old) result }
     ensures heard { K.hearing out.new ≡ K.hearing out.old }
@@ -143,7 +143,7 @@ fn take_byte<'m, 'a, K: Sink, L: Ledger>(
         session,
         mut begun,
         count,
-    } = talk;
+    } = reader;
     if count >= MOST_INPUT {
         return Err(Ended::TooLarge);
     }
@@ -167,74 +167,74 @@ fn take_byte<'m, 'a, K: Sink, L: Ledger>(
 // Takes the bytes of a piece.
 fn take_piece<'m, 'a, K: Sink, L: Ledger>(
     alloc: Global,
-    talk: LineReader<'m, 'a>,
+    reader: LineReader<'m, 'a>,
     piece: &[u8],
     out: &mut K,
     steps: &mut Steps<L>,
 ) -> Result<LineReader<'m, 'a>, Ended>
-    requires { talk.count ≤ MOST_INPUT }
+    requires { reader.count ≤ MOST_INPUT }
     ensures said { MatchResult result
-        (λ next. SessionGoesOn piece.now (K.taken out.old) (K.taken out.new) (session_talk_of talk.entry) (session_talk_of next))
-        (SessionStopsIn piece.now (K.taken out.old) (K.taken out.new) (session_talk_of talk.entry)) }
-    ensures count { IfOk result (λ new. new.count ≡ talk.entry.count + length piece.now) }
+        (λ next. SessionGoesOn piece.now (K.taken out.old) (K.taken out.new) (session_reader_of reader.entry) (session_reader_of next))
+        (SessionStopsIn piece.now (K.taken out.old) (K.taken out.new) (session_reader_of reader.entry)) }
+    ensures count { IfOk result (λ new. new.count ≡ reader.entry.count + length piece.now) }
     ensures within { IfOk result (λ new. new.count ≤ MOST_INPUT) }
     ensures counted { K.faults out.new ≡ failed_says_of_session (K.faults out.old) result }
     ensures heard { K.hearing out.new ≡ K.hearing out.old }
 {
-    let mut talk = talk;
+    let mut reader = reader;
     for b in piece {
-        talk = take_byte(alloc, talk, *b, out, steps)?;
+        reader = take_byte(alloc, reader, *b, out, steps)?;
     }
-    Ok(talk)
+    Ok(reader)
 }
 
 // Reads a piece of the input and takes it. False comes at the end of the input, where there is none.
 fn read_piece<'m, 'a, T: Terminal, L: Ledger>(
     alloc: Global,
-    talk: LineReader<'m, 'a>,
+    reader: LineReader<'m, 'a>,
     piece: &mut [u8],
     io: &mut T,
     steps: &mut Steps<L>,
 ) -> Result<(LineReader<'m, 'a>, bool), Ended>
-    requires within { talk.count ≤ MOST_INPUT }
+    requires within { reader.count ≤ MOST_INPUT }
     requires room { 0 < length piece.old }
     ensures said { let terminal = terminal_at T.hearing T.taken T.faults in
         let exchange = exchange_of (length piece.old) (terminal io.old) (terminal io.new) in MatchResult result
-        (λ heard. SessionHearsFrom exchange (session_talk_of talk.entry) (heard_of heard))
-        (SessionBreaksFrom exchange (session_talk_of talk.entry)) }
-    ensures count { IfOk result (λ heard. IsTrue heard.1 → talk.entry.count < heard.0.count) }
+        (λ heard. SessionHearsFrom exchange (session_reader_of reader.entry) (heard_of heard))
+        (SessionBreaksFrom exchange (session_reader_of reader.entry)) }
+    ensures count { IfOk result (λ heard. IsTrue heard.1 → reader.entry.count < heard.0.count) }
     ensures within { IfOk result (λ heard. heard.0.count ≤ MOST_INPUT) }
     ensures reads { (T.hearing io.new).faults ≡ listened_after (T.hearing io.old).faults result }
     ensures counted { T.faults io.new ≡ failed_says_of_session (T.faults io.old) result }
 {
     let count = io.read(piece)?;
-    let talk = take_piece(alloc, talk, &piece[..count], io, steps)?;
-    Ok((talk, count > 0))
+    let reader = take_piece(alloc, reader, &piece[..count], io, steps)?;
+    Ok((reader, count > 0))
 }
 
 // Answers what is typed, up to the end of the input or of the session.
 fn read_lines<T: Terminal, L: Ledger>(
     alloc: Global,
-    talk: LineReader<'_, '_>,
+    reader: LineReader<'_, '_>,
     io: &mut T,
     steps: &mut Steps<L>,
 ) -> Result<(), Ended>
-    requires { talk.count ≡ 0 }
+    requires { reader.count ≡ 0 }
     ensures said { let terminal = terminal_at T.hearing T.taken T.faults in
-        SessionHoldsFrom (terminal io.old) (terminal io.new) (session_talk_of talk.entry) (why_session_ended result) }
+        SessionHoldsFrom (terminal io.old) (terminal io.new) (session_reader_of reader.entry) (why_session_ended result) }
     ensures reads { (T.hearing io.new).faults ≡ listened_after (T.hearing io.old).faults result }
     ensures counted { T.faults io.new ≡ failed_says_of_session (T.faults io.old) result }
 {
-    let mut talk = talk;
+    let mut reader = reader;
     let mut piece = [0; INPUT_PIECE];
     'hearing: loop {
-        let room = INPUT_PIECE.min(MOST_INPUT + 1 - talk.count);
-        let (next, more) = read_piece(alloc, talk, &mut piece[..room], io, steps)?;
+        let room = INPUT_PIECE.min(MOST_INPUT + 1 - reader.count);
+        let (next, more) = read_piece(alloc, reader, &mut piece[..room], io, steps)?;
         if !more {
             answer(alloc, next.session, next.begun.as_slice(), io, steps)?;
             return Ok(());
         }
-        talk = next;
+        reader = next;
     }
 }
 
@@ -250,8 +250,8 @@ fn run_session<T: Terminal, L: Ledger>(
     ensures reads { (T.hearing io.new).faults ≡ listened_after (T.hearing io.old).faults result }
     ensures counted { T.faults io.new ≡ failed_says_of_session (T.faults io.old) result }
 {
-    let talk = begin(alloc, replayers, io)?;
-    read_lines(alloc, talk, io, steps)
+    let reader = begin(alloc, replayers, io)?;
+    read_lines(alloc, reader, io, steps)
 }
 
 /// Answers each whole line of the input before it asks for more, and ends after a line that ends the session, or

@@ -124,7 +124,10 @@ impl<'m, 'a> Model for Group<'m, 'a> {
 impl<'m, 'a> Group<'m, 'a> {
     /// The replays of a group's logs, at position 0: in order of their processes' numbers, each before its
     /// first event.
-    pub fn begin(alloc: Global, replayers: Vec<Replayer<'m, 'a>>) -> Result<Group<'m, 'a>, AllocError>
+    pub fn begin(
+        alloc: Global,
+        replayers: Vec<Replayer<'m, 'a>>,
+    ) -> Result<Group<'m, 'a>, AllocError>
         requires { AreGroupReplays replayers.items }
         ensures { IfOk result (λ group. group ≡ record { start = replayers.entry.items; at = 0 }) }
     {

@@ -8,11 +8,11 @@ pub mod Kinds
 pub mod Legal
 pub mod Live
 pub mod Marks
+pub mod Meanings
 pub mod Next
 pub mod Numbers
 pub mod OneEvent
 pub mod Replay
-pub mod Meanings
 pub mod Sound
 pub mod Start
 pub mod State

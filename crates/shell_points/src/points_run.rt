@@ -39,7 +39,7 @@ pub(crate) fn run_points_here(
     requires before { MatchOption before (NoneFires group.now (map {A = Held} seen points.now))
         (λ before. before.items ≡ readings_before group.now (map {A = Held} seen points.now)) }
     requires now { IsWatching group.now.start group.now.at (map {A = Held} seen points.now) now.now }
-    ensures { IfOk result (λ turn. run_so_far turn ≡ treat_points group.now.start group.now.at (quiet_program variables) (map {A = Held} seen points.now)) }
+    ensures { IfOk result (λ run. run_so_far run ≡ treat_points group.now.start group.now.at (quiet_program variables) (map {A = Held} seen points.now)) }
 {
     match before {
         Some(before) => treat_points(alloc, points, &before, &now.values, group, variables),
@@ -66,17 +66,17 @@ fn treat_points(
     requires moved { 0 < group.now.at }
     requires before { before.now ≡ readings_before group.now (map {A = Held} seen points.now) }
     requires now { now.now ≡ point_readings group.now.start group.now.at (map {A = Held} seen points.now) }
-    ensures { IfOk result (λ turn. run_so_far turn ≡ treat_points group.now.start group.now.at (quiet_program variables) (map {A = Held} seen points.now)) }
+    ensures { IfOk result (λ run. run_so_far run ≡ treat_points group.now.start group.now.at (quiet_program variables) (map {A = Held} seen points.now)) }
 {
-    let mut turn = PointsRun {
+    let mut run = PointsRun {
         variables,
         text: Text::new(alloc),
         stops: false,
     };
     for (n, point) in points.iter().enumerate() {
-        treat_point(alloc, point, before[n], now[n], group, &mut turn)?;
+        treat_point(alloc, point, before[n], now[n], group, &mut run)?;
     }
-    Ok(turn)
+    Ok(run)
 }
 
 // What a point does where the group is, if it fires there.
@@ -86,21 +86,21 @@ fn treat_point(
     before: Option<i64>,
     now: Option<i64>,
     group: &Group<'_, '_>,
-    turn: &mut PointsRun,
+    run: &mut PointsRun,
 ) -> Result<(), AllocError>
-    ensures { OnOk result (run_so_far turn.new ≡ treat_by before now (last_event_of group.now) (nodes_at group.now) (run_so_far turn.old) (seen point.now)) }
+    ensures { OnOk result (run_so_far run.new ≡ treat_by before now (last_event_of group.now) (nodes_at group.now) (run_so_far run.old) (seen point.now)) }
 {
     if !fires(&point.trigger, before, now, group) {
         return Ok(());
     }
     match &point.program {
         Some(program) => {
-            let stops = run_program(alloc, program, group, &mut turn.variables, &mut turn.text)?;
-            turn.stops = turn.stops || stops;
+            let stops = run_program(alloc, program, group, &mut run.variables, &mut run.text)?;
+            run.stops = run.stops || stops;
         }
         None => {
-            push_line(&mut turn.text, point, before, now)?;
-            turn.stops = true;
+            push_line(&mut run.text, point, before, now)?;
+            run.stops = true;
         }
     }
     Ok(())

@@ -60,19 +60,19 @@ pub(crate) fn walk<'m, 'a, L: Ledger>(
             return arrive(group, variables, text, "end\n");
         }
         let (now, before) = watching.after_event(alloc, points, &group, steps)?;
-        let turn = run_points_here(alloc, points, before, &now, &group, variables)?;
-        text.push_bytes(turn.text.bytes())?;
-        if turn.stops {
-            return arrive(group, turn.variables, text, "");
+        let run = run_points_here(alloc, points, before, &now, &group, variables)?;
+        text.push_bytes(run.text.bytes())?;
+        if run.stops {
+            return arrive(group, run.variables, text, "");
         }
-        said += lines_in(&turn.text);
+        said += lines_in(&run.text);
         if said >= MOST_LINES {
-            return arrive(group, turn.variables, text, "paused\n");
+            return arrive(group, run.variables, text, "paused\n");
         }
         watching = now;
         walked = WalkEnd {
             group,
-            variables: turn.variables,
+            variables: run.variables,
             text,
         };
     }

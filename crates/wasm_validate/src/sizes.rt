@@ -1,13 +1,14 @@
 // Modules over the limits of size.
 ghost use Rattle.std.specs.Prelude.{◌≡◌, ◌+◌, ℕ, length, map, nat_lt, sum};
 ghost use Rattle.std.specs.List.{list_any};
+ghost use Rattle.wasm_types.specs.Limits.{most_locals};
 ghost use Rattle.wasm_types.specs.Modules.{func, module_of};
 ghost use Rattle.wasm_types.specs.Valid.{is_over_limit, local_count};
 
 use wasm_types::{Func, Limits, Module, ValType, type_at};
 
-// A memory's pages, a table's elements, and a function's parameters and locals, all at most.
-const MOST_PAGES: u32 = 256;
+// A memory's first pages, a table's elements, and a function's parameters and locals, all at most.
+const MOST_FIRST_PAGES: u32 = 256;
 
 const MOST_ELEMENTS: u32 = 65_536;
 
@@ -18,7 +19,7 @@ const MOST_LOCALS: u32 = 4_096;
 pub(crate) fn is_over_limit(module: &Module) -> bool
     ensures { result ≡ is_over_limit (module_of «module».now) }
 {
-    if has_min_over(&module.mems, MOST_PAGES) {
+    if has_min_over(&module.mems, MOST_FIRST_PAGES) {
         return true;
     }
     if has_min_over(&module.tables, MOST_ELEMENTS) {
@@ -35,7 +36,7 @@ fn has_min_over(all: &[Limits], bound: u32) -> bool
 
 fn has_large_func(module: &Module) -> bool
     ensures { result
-        ≡ list_any (λ f. nat_lt 4096 (local_count (module_of «module».now) (func f)))
+        ≡ list_any (λ f. nat_lt most_locals (local_count (module_of «module».now) (func f)))
         «module».now.funcs.items }
 {
     module
@@ -45,7 +46,7 @@ fn has_large_func(module: &Module) -> bool
 }
 
 fn is_large(module: &Module, function: &Func) -> bool
-    ensures { result ≡ nat_lt 4096 (local_count (module_of «module».now) (func function.now)) }
+    ensures { result ≡ nat_lt most_locals (local_count (module_of «module».now) (func function.now)) }
 {
     let params = match type_at(module, function.type_index) {
         Some(found) => found.params.len(),

@@ -5,14 +5,14 @@ use Rattle.fri_text.specs.Line.{lines_of}
 use Rattle.fri_outside.specs.Terminal.{Hearing}
 use Rattle.debug_command.specs.inside.Conversing.{terminal_at}
 use Rattle.debug_command.specs.Limits.{most_input}
-use Rattle.debug_command.specs.inside.Talk.{SpokeLines, heard_of, listened_after, failed_says_of_session, session_talk_of}
+use Rattle.debug_command.specs.inside.Reader.{SpokeLines, heard_of, listened_after, failed_says_of_session, session_reader_of}
 use Rattle.debug_command.proofs.WholeSessions.{listens_all, listens_broken, listens_error, listens_more, listens_none, none_counted, spoke_read}
 use Rattle.debug_command.proofs.converse.read_lines.Goals as goal
 
 pub hearing-init : goal.hearing-init
 hearing-init g c = record {
   within = omega (arith, c.requires);
-  stands = listens_none (terminal_at g.T.Sink.hearing g.T.Sink.taken g.T.Sink.faults c.args.io.now) (session_talk_of c.args.talk);
+  stands = listens_none (terminal_at g.T.Sink.hearing g.T.Sink.taken g.T.Sink.faults c.args.io.now) (session_reader_of c.args.reader);
   counted = refl;
   reads = refl;
 }
@@ -24,8 +24,8 @@ returns-in_err-next-clause-said g c =
     let room = c.min-room.result in
     let size = length (take room c.hearing.piece) in
     let short : size ≤ 4096 = omega (arith, length-take room c.hearing.piece, c.min-room.ensures) in
-    let within : c.hearing.talk.count + size ≤ most_input + 1 = omega (arith, length-take room c.hearing.piece, c.min-room.ensures, c.hearing.invariant.within) in
-    rw (p.1, p.2) (listens_broken (terminal c.args.io.now) (terminal c.hearing.io) (session_talk_of c.args.talk) (session_talk_of c.hearing.talk) c.hearing.invariant.stands (terminal c.read_piece.new.io) size c.in_err-next.field-0.0 short within c.in_err-next.ensures.said)
+    let within : c.hearing.reader.count + size ≤ most_input + 1 = omega (arith, length-take room c.hearing.piece, c.min-room.ensures, c.hearing.invariant.within) in
+    rw (p.1, p.2) (listens_broken (terminal c.args.io.now) (terminal c.hearing.io) (session_reader_of c.args.reader) (session_reader_of c.hearing.reader) c.hearing.invariant.stands (terminal c.read_piece.new.io) size c.in_err-next.field-0.0 short within c.in_err-next.ensures.said)
 
 pub returns-in_err-next-clause-reads : goal.returns-in_err-next-clause-reads
 returns-in_err-next-clause-reads g c =
@@ -47,7 +47,7 @@ returns-in_err-answer-clause-said g c =
     let new = g.T.Sink.taken c.answer.new.out in
     let size = length (take c.min-room.result c.hearing.piece) in
     let short : size ≤ 4096 = omega (arith, length-take c.min-room.result c.hearing.piece, c.min-room.ensures) in
-    rw (p.1, p.2) (listens_error (terminal c.args.io.now) (terminal c.hearing.io) (session_talk_of c.args.talk) (session_talk_of c.hearing.talk) c.hearing.invariant.stands
+    rw (p.1, p.2) (listens_error (terminal c.args.io.now) (terminal c.hearing.io) (session_reader_of c.args.reader) (session_reader_of c.hearing.reader) c.hearing.invariant.stands
     (terminal c.read_piece.new.io) (heard_of (next, c.in_ok-next.more)) size short c.if-not-more.true c.in_ok-next.ensures.said (terminal c.answer.new.out) why c.answer.ensures.heard
     (subst (λ (l : List ℕ). SpokeLines next.session (take 1 (lines_of l)) old new (Err why)) c.as_slice.ensures.value c.in_err-answer.ensures.said))
 
@@ -71,7 +71,7 @@ returns-then-not-more-clause-said g c =
     let new = g.T.Sink.taken c.answer.new.out in
     let size = length (take c.min-room.result c.hearing.piece) in
     let short : size ≤ 4096 = omega (arith, length-take c.min-room.result c.hearing.piece, c.min-room.ensures) in
-    listens_all (terminal c.args.io.now) (terminal c.hearing.io) (session_talk_of c.args.talk) (session_talk_of c.hearing.talk) c.hearing.invariant.stands
+    listens_all (terminal c.args.io.now) (terminal c.hearing.io) (session_reader_of c.args.reader) (session_reader_of c.hearing.reader) c.hearing.invariant.stands
     (terminal c.read_piece.new.io) (heard_of (next, c.in_ok-next.more)) size short c.if-not-more.true c.in_ok-next.ensures.said (terminal c.answer.new.out) c.in_ok-answer.field-0 c.answer.ensures.heard
     (subst (λ (l : List ℕ). SpokeLines next.session (take 1 (lines_of l)) old new (Ok c.in_ok-answer.field-0)) c.as_slice.ensures.value c.in_ok-answer.ensures.said)
 
@@ -89,7 +89,7 @@ hearing-preserved g c =
     let short : size ≤ 4096 = omega (arith, length-take c.min-room.result c.hearing.piece, c.min-room.ensures) in
     record {
       within = c.in_ok-next.ensures.within;
-      stands = listens_more (terminal c.args.io.now) (terminal c.hearing.io) (session_talk_of c.args.talk) (session_talk_of c.hearing.talk) c.hearing.invariant.stands
+      stands = listens_more (terminal c.args.io.now) (terminal c.hearing.io) (session_reader_of c.args.reader) (session_reader_of c.hearing.reader) c.hearing.invariant.stands
           (terminal c.read_piece.new.io) (heard_of (next, c.in_ok-next.more)) size short c.in_ok-next.ensures.said;
       counted = c.in_ok-next.ensures.counted ∙ c.hearing.invariant.counted;
       reads = c.in_ok-next.ensures.reads ∙ c.hearing.invariant.reads;

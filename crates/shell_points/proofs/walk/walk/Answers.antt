@@ -81,8 +81,8 @@ returns-then-is_none-clause-ticks g c =
     (λ done same. i.ticks ∙ ap (λ (p : GroupPlace). c.args.steps.now + watch_ticks first.start (watched_expressions ps) first.at (p.at - first.at)) (sym (same ∙ stay.0)))
     c.arrive.ensures.group
 
-pub returns-then-turn-clause-ticks : goal.returns-then-turn-clause-ticks
-returns-then-turn-clause-ticks g c =
+pub returns-then-run-clause-ticks : goal.returns-then-run-clause-ticks
+returns-then-run-clause-ticks g c =
     let i = c.positions.invariant in
     let first = c.args.group in
     let old = c.positions.walked.group in
@@ -93,9 +93,9 @@ returns-then-turn-clause-ticks g c =
     let here : new ≡ place_at first.start (suc old.at) = went.0 ∙ ap (λ (s : List Replaying). place_at s (suc old.at)) i.start in
     let is : c.after_event.new.steps ≡ c.args.steps.now + watch_ticks first.start (watched_expressions ps) first.at (new.at - first.at) =
     ticked first.start (watched_expressions ps) first.at old.at new c.args.steps.now c.positions.steps c.after_event.new.steps i.after here i.ticks c.in_ok-now.ensures.ticks in
-    one_of c.arrive-then-turn.result (λ done. done.group ≡ new) (λ done. c.after_event.new.steps ≡ c.args.steps.now + watch_ticks first.start (watched_expressions ps) first.at (done.group.at - first.at))
+    one_of c.arrive-then-run.result (λ done. done.group ≡ new) (λ done. c.after_event.new.steps ≡ c.args.steps.now + watch_ticks first.start (watched_expressions ps) first.at (done.group.at - first.at))
     (λ done same. is ∙ ap (λ (p : GroupPlace). c.args.steps.now + watch_ticks first.start (watched_expressions ps) first.at (p.at - first.at)) (sym same))
-    c.arrive-then-turn.ensures.group
+    c.arrive-then-run.ensures.group
 
 pub returns-then-said-ge-MOST_LINES-clause-ticks : goal.returns-then-said-ge-MOST_LINES-clause-ticks
 returns-then-said-ge-MOST_LINES-clause-ticks g c =
@@ -135,31 +135,31 @@ returns-then-is_none-clause-walks g c =
     (λ done same kept says. arrives first ps c.args.variables variables old.at (text ++ codes "end\n") is new done here same kept says)
     c.arrive.ensures.group c.arrive.ensures.variables c.arrive.ensures.text
 
-pub returns-then-turn-clause-walks : goal.returns-then-turn-clause-walks
-returns-then-turn-clause-walks g c =
+pub returns-then-run-clause-walks : goal.returns-then-run-clause-walks
+returns-then-run-clause-walks g c =
     let i = c.positions.invariant in
     let first = c.args.group in
     let old = c.positions.walked.group in
     let new = c.in_ok-group.group in
-    let turn = c.in_ok-turn.turn in
+    let run = c.in_ok-run.run in
     let text = c.positions.walked.text in
     let ps = map {A = Held} point c.args.points.now in
     let some : is_some c.in_ok-group.event ≡ true = c.is_none.ensures ∙ ap not c.if-is_none.false in
     let went = moves_on old new c.in_ok-group.event some c.in_ok-group.ensures in
     let here : new ≡ place_at first.start (suc old.at) = went.0 ∙ ap (λ (s : List Replaying). place_at s (suc old.at)) i.start in
     let before : old.at < length (events_of_replays first.start) = omega (arith, went.1, ap (λ (s : List Replaying). length (events_of_replays s)) i.start) in
-    let did : treat_points first.start (suc old.at) (quiet_program c.positions.walked.variables) ps ≡ run_so_far turn =
-    sym (c.in_ok-turn.ensures ∙ ap (λ (p : GroupPlace). treat_points p.start p.at (quiet_program c.positions.walked.variables) ps) here) in
+    let did : treat_points first.start (suc old.at) (quiet_program c.positions.walked.variables) ps ≡ run_so_far run =
+    sym (c.in_ok-run.ensures ∙ ap (λ (p : GroupPlace). treat_points p.start p.at (quiet_program c.positions.walked.variables) ps) here) in
     let rest = walk_over first.start ps (suc old.at) (length (events_of_replays first.start) - suc old.at) in
-    let is : walk_from first ps c.args.variables ≡ walk_ended (suc old.at) turn.variables (text ++ turn.text) =
+    let is : walk_from first ps c.args.variables ≡ walk_ended (suc old.at) run.variables (text ++ run.text) =
     sym i.ahead ∙ step first.start ps old.at (length (events_of_replays first.start)) c.positions.walked.variables text before ∙ ap (walk_on rest (suc old.at) text) did
-    ∙ stops_here rest (suc old.at) text (run_so_far turn) c.if-turn.true in
-    let said : c.push_bytes.new.self ≡ text ++ turn.text = c.in_ok-push_bytes.ensures.ok ∙ ap (λ (b : List ℕ). text ++ b) c.bytes.ensures in
-    all_three c.arrive-then-turn.result (λ done. done.group ≡ new) (λ done. done.variables ≡ turn.variables) (λ done. done.text ≡ (c.push_bytes.new.self ++ []) ++ position_line new)
+    ∙ stops_here rest (suc old.at) text (run_so_far run) c.if-run.true in
+    let said : c.push_bytes.new.self ≡ text ++ run.text = c.in_ok-push_bytes.ensures.ok ∙ ap (λ (b : List ℕ). text ++ b) c.bytes.ensures in
+    all_three c.arrive-then-run.result (λ done. done.group ≡ new) (λ done. done.variables ≡ run.variables) (λ done. done.text ≡ (c.push_bytes.new.self ++ []) ++ position_line new)
     (λ done. PointsWalk first ps c.args.variables done)
-    (λ done same kept says. arrives first ps c.args.variables turn.variables (suc old.at) (text ++ turn.text) is new done here same kept
+    (λ done same kept says. arrives first ps c.args.variables run.variables (suc old.at) (text ++ run.text) is new done here same kept
     (says ∙ ap (λ (t : List ℕ). t ++ position_line new) (append-nil c.push_bytes.new.self ∙ said)))
-    c.arrive-then-turn.ensures.group c.arrive-then-turn.ensures.variables c.arrive-then-turn.ensures.text
+    c.arrive-then-run.ensures.group c.arrive-then-run.ensures.variables c.arrive-then-run.ensures.text
 
 pub returns-then-said-ge-MOST_LINES-clause-walks : goal.returns-then-said-ge-MOST_LINES-clause-walks
 returns-then-said-ge-MOST_LINES-clause-walks g c =
@@ -167,25 +167,25 @@ returns-then-said-ge-MOST_LINES-clause-walks g c =
     let first = c.args.group in
     let old = c.positions.walked.group in
     let new = c.in_ok-group.group in
-    let turn = c.in_ok-turn.turn in
+    let run = c.in_ok-run.run in
     let text = c.positions.walked.text in
     let ps = map {A = Held} point c.args.points.now in
     let some : is_some c.in_ok-group.event ≡ true = c.is_none.ensures ∙ ap not c.if-is_none.false in
     let went = moves_on old new c.in_ok-group.event some c.in_ok-group.ensures in
     let here : new ≡ place_at first.start (suc old.at) = went.0 ∙ ap (λ (s : List Replaying). place_at s (suc old.at)) i.start in
     let before : old.at < length (events_of_replays first.start) = omega (arith, went.1, ap (λ (s : List Replaying). length (events_of_replays s)) i.start) in
-    let did : treat_points first.start (suc old.at) (quiet_program c.positions.walked.variables) ps ≡ run_so_far turn =
-    sym (c.in_ok-turn.ensures ∙ ap (λ (p : GroupPlace). treat_points p.start p.at (quiet_program c.positions.walked.variables) ps) here) in
-    let many : most_lines ≤ lines_in (text ++ turn.text) = omega (arith, lines_append text turn.text, i.said, c.lines_in-said.ensures, c.if-said-ge-MOST_LINES.true) in
+    let did : treat_points first.start (suc old.at) (quiet_program c.positions.walked.variables) ps ≡ run_so_far run =
+    sym (c.in_ok-run.ensures ∙ ap (λ (p : GroupPlace). treat_points p.start p.at (quiet_program c.positions.walked.variables) ps) here) in
+    let many : most_lines ≤ lines_in (text ++ run.text) = omega (arith, lines_append text run.text, i.said, c.lines_in-said.ensures, c.if-said-ge-MOST_LINES.true) in
     let rest = walk_over first.start ps (suc old.at) (length (events_of_replays first.start) - suc old.at) in
-    let is : walk_from first ps c.args.variables ≡ walk_ended (suc old.at) turn.variables ((text ++ turn.text) ++ codes "paused\n") =
+    let is : walk_from first ps c.args.variables ≡ walk_ended (suc old.at) run.variables ((text ++ run.text) ++ codes "paused\n") =
     sym i.ahead ∙ step first.start ps old.at (length (events_of_replays first.start)) c.positions.walked.variables text before ∙ ap (walk_on rest (suc old.at) text) did
-    ∙ pauses_here rest (suc old.at) text (run_so_far turn) c.if-turn.false many in
-    let said : c.push_bytes.new.self ≡ text ++ turn.text = c.in_ok-push_bytes.ensures.ok ∙ ap (λ (b : List ℕ). text ++ b) c.bytes.ensures in
-    all_three c.arrive-then-said-ge-MOST_LINES.result (λ done. done.group ≡ new) (λ done. done.variables ≡ turn.variables)
+    ∙ pauses_here rest (suc old.at) text (run_so_far run) c.if-run.false many in
+    let said : c.push_bytes.new.self ≡ text ++ run.text = c.in_ok-push_bytes.ensures.ok ∙ ap (λ (b : List ℕ). text ++ b) c.bytes.ensures in
+    all_three c.arrive-then-said-ge-MOST_LINES.result (λ done. done.group ≡ new) (λ done. done.variables ≡ run.variables)
     (λ done. done.text ≡ (c.push_bytes.new.self ++ codes "paused\n") ++ position_line new)
     (λ done. PointsWalk first ps c.args.variables done)
-    (λ done same kept says. arrives first ps c.args.variables turn.variables (suc old.at) ((text ++ turn.text) ++ codes "paused\n") is new done here same kept
+    (λ done same kept says. arrives first ps c.args.variables run.variables (suc old.at) ((text ++ run.text) ++ codes "paused\n") is new done here same kept
     (says ∙ ap (λ (t : List ℕ). (t ++ codes "paused\n") ++ position_line new) said))
     c.arrive-then-said-ge-MOST_LINES.ensures.group c.arrive-then-said-ge-MOST_LINES.ensures.variables c.arrive-then-said-ge-MOST_LINES.ensures.text
 
@@ -208,7 +208,7 @@ positions-preserved g c =
     let first = c.args.group in
     let old = c.positions.walked.group in
     let new = c.in_ok-group.group in
-    let turn = c.in_ok-turn.turn in
+    let run = c.in_ok-run.run in
     let text = c.positions.walked.text in
     let ps = map {A = Held} point c.args.points.now in
     let some : is_some c.in_ok-group.event ≡ true = c.is_none.ensures ∙ ap not c.if-is_none.false in
@@ -217,21 +217,21 @@ positions-preserved g c =
     let same : new.start ≡ first.start = ap (λ (p : GroupPlace). p.start) here in
     let at : new.at ≡ suc old.at = ap (λ (p : GroupPlace). p.at) here in
     let before : old.at < length (events_of_replays first.start) = omega (arith, went.1, ap (λ (s : List Replaying). length (events_of_replays s)) i.start) in
-    let did : treat_points first.start (suc old.at) (quiet_program c.positions.walked.variables) ps ≡ run_so_far turn =
-    sym (c.in_ok-turn.ensures ∙ ap (λ (p : GroupPlace). treat_points p.start p.at (quiet_program c.positions.walked.variables) ps) here) in
-    let said : c.push_bytes.new.self ≡ text ++ turn.text = c.in_ok-push_bytes.ensures.ok ∙ ap (λ (b : List ℕ). text ++ b) c.bytes.ensures in
-    let few : lines_in (text ++ turn.text) < most_lines = omega (arith, lines_append text turn.text, i.said, c.lines_in-said.ensures, c.if-said-ge-MOST_LINES.false) in
+    let did : treat_points first.start (suc old.at) (quiet_program c.positions.walked.variables) ps ≡ run_so_far run =
+    sym (c.in_ok-run.ensures ∙ ap (λ (p : GroupPlace). treat_points p.start p.at (quiet_program c.positions.walked.variables) ps) here) in
+    let said : c.push_bytes.new.self ≡ text ++ run.text = c.in_ok-push_bytes.ensures.ok ∙ ap (λ (b : List ℕ). text ++ b) c.bytes.ensures in
+    let few : lines_in (text ++ run.text) < most_lines = omega (arith, lines_append text run.text, i.said, c.lines_in-said.ensures, c.if-said-ge-MOST_LINES.false) in
     let rest = walk_over first.start ps (suc old.at) (length (events_of_replays first.start) - suc old.at) in
-    let is : walk_from first ps c.args.variables ≡ rest turn.variables (text ++ turn.text) =
+    let is : walk_from first ps c.args.variables ≡ rest run.variables (text ++ run.text) =
     sym i.ahead ∙ step first.start ps old.at (length (events_of_replays first.start)) c.positions.walked.variables text before ∙ ap (walk_on rest (suc old.at) text) did
-    ∙ rests_here rest (suc old.at) text (run_so_far turn) c.if-turn.false few in
+    ∙ rests_here rest (suc old.at) text (run_so_far run) c.if-run.false few in
     record {
       start = same;
       within = omega (arith, before, at);
       after = omega (arith, at, i.after);
       read = read_now first.start old.at ps c.in_ok-now.now new here c.in_ok-now.ensures.now;
-      said = omega (arith, lines_append text turn.text, i.said, c.lines_in-said.ensures, ap lines_in said);
-      ahead = ap (λ (t : List ℕ). walk_over first.start ps new.at (length (events_of_replays first.start) - new.at) turn.variables t) said
-          ∙ ap (λ (n : ℕ). walk_over first.start ps n (length (events_of_replays first.start) - n) turn.variables (text ++ turn.text)) at ∙ sym is;
+      said = omega (arith, lines_append text run.text, i.said, c.lines_in-said.ensures, ap lines_in said);
+      ahead = ap (λ (t : List ℕ). walk_over first.start ps new.at (length (events_of_replays first.start) - new.at) run.variables t) said
+          ∙ ap (λ (n : ℕ). walk_over first.start ps n (length (events_of_replays first.start) - n) run.variables (text ++ run.text)) at ∙ sym is;
       ticks = ticked first.start (watched_expressions ps) first.at old.at new c.args.steps.now c.positions.steps c.after_event.new.steps i.after here i.ticks c.in_ok-now.ensures.ticks;
     }

@@ -21,13 +21,13 @@ use Rattle.debug_command.specs.Limits.{most_input}
 use Rattle.command_run.specs.Outcome.{outcome_text}
 
 -- where a session stands between two bytes: its state, the bytes of the line that has begun, and how many were taken
-pub record SessionTalk : Type 0 where
+pub record SessionReader : Type 0 where
   pub state : SessionState
   pub begun : List ℕ
   pub count : ℕ
 
-abbrev pub session_talk_of : LineReader → SessionTalk
-session_talk_of talk = record { state = talk.session; begun = talk.begun.items; count = talk.count }
+abbrev pub session_reader_of : LineReader → SessionReader
+session_reader_of reader = record { state = reader.session; begun = reader.begun.items; count = reader.count }
 
 -- how many writes failed once a session, or a part of one, came to this
 abbrev pub failed_says_of_session : {T : Type 0} → ℕ → Result T Ended → ℕ
@@ -72,14 +72,14 @@ SpokeLines state lines printed printed_after (Err cause.WriteFault) = PrintsPart
 SpokeLines state lines printed printed_after (Err cause.NoMemory) = PrintsPart state lines printed printed_after
 
 -- a session over these replays took these bytes, and answered each whole line of them; none of them ends it
-pub record SessionStands (start : List Replaying) (printed now : Option (List ℕ)) (talk : SessionTalk) (taken : List ℕ) : Type 0 where
-  pub whole : taken ≡ whole_part taken ++ talk.begun
-  pub open_line : list_any is_line_feed talk.begun ≡ false
-  pub state_is : talk.state ≡ state_after_lines (opening_session start) (whole_lines taken)
+pub record SessionStands (start : List Replaying) (printed now : Option (List ℕ)) (reader : SessionReader) (taken : List ℕ) : Type 0 where
+  pub whole : taken ≡ whole_part taken ++ reader.begun
+  pub open_line : list_any is_line_feed reader.begun ≡ false
+  pub state_is : reader.state ≡ state_after_lines (opening_session start) (whole_lines taken)
   pub goes_on : ends_session (opening_session start) (whole_lines taken) ≡ false
   pub text : now ≡ append_known printed (session_text start (whole_lines taken))
-  pub count_is : talk.count ≡ length taken
-  pub within : talk.count ≤ most_input
+  pub count_is : reader.count ≡ length taken
+  pub within : reader.count ≤ most_input
 
 -- some of the front of what is to be printed was printed, whatever comes after the bytes that were taken
 abbrev pub SaysPart : List Replaying → Option (List ℕ) → Option (List ℕ) → List ℕ → Type 0
@@ -105,10 +105,10 @@ SessionStops start printed now taken cause.WriteFault = SaysPart start printed n
 SessionStops start printed now taken cause.NoMemory = SaysPart start printed now taken
 
 -- from where a session stood on, it stands so after more bytes
-unfoldable pub SessionGoesOn : List ℕ → Option (List ℕ) → Option (List ℕ) → SessionTalk → SessionTalk → Type 0
-SessionGoesOn bytes before now talk next =
+unfoldable pub SessionGoesOn : List ℕ → Option (List ℕ) → Option (List ℕ) → SessionReader → SessionReader → Type 0
+SessionGoesOn bytes before now reader next =
     (start : List Replaying) (printed : Option (List ℕ)) (taken : List ℕ)
-    → SessionStands start printed before talk taken → SessionStands start printed now next (taken ++ bytes)
+    → SessionStands start printed before reader taken → SessionStands start printed now next (taken ++ bytes)
 
 -- no read failed
 abbrev pub InputReadsOn : Ended → Type 0
@@ -119,10 +119,10 @@ InputReadsOn cause.WriteFault = Unit {0}
 InputReadsOn cause.NoMemory = Unit {0}
 
 -- from where a session stood on, it stopped in these bytes
-unfoldable pub SessionStopsIn : List ℕ → Option (List ℕ) → Option (List ℕ) → SessionTalk → Ended → Type 0
-SessionStopsIn bytes before now talk why =
+unfoldable pub SessionStopsIn : List ℕ → Option (List ℕ) → Option (List ℕ) → SessionReader → Ended → Type 0
+SessionStopsIn bytes before now reader why =
     InputReadsOn why × ((start : List Replaying) (printed : Option (List ℕ)) (taken : List ℕ)
-    → SessionStands start printed before talk taken → SessionStops start printed now (taken ++ bytes) why)
+    → SessionStands start printed before reader taken → SessionStops start printed now (taken ++ bytes) why)
 
 -- ---- a piece of the input
 
@@ -137,17 +137,17 @@ exchange_of room old new = record { room = room; old = old; new = new }
 
 -- where a session stands after an exchange, and whether a piece came in it
 pub record HeardPiece : Type 0 where
-  pub talk : SessionTalk
+  pub reader : SessionReader
   pub more : Bool
 
 abbrev pub heard_of : LineReader × Bool → HeardPiece
-heard_of heard = record { talk = session_talk_of heard.0; more = heard.1 }
+heard_of heard = record { reader = session_reader_of heard.0; more = heard.1 }
 
 -- a piece was read and taken, or there was none left. What had been printed before was noted with it
 pub record HearsPiece (start : List Replaying) (printed : Option (List ℕ)) (taken : List ℕ) (exchange : InputExchange) (heard : HeardPiece) : Type 0 where
   pub piece : List ℕ
   pub short : length piece ≤ exchange.room
-  pub stands : SessionStands start printed exchange.new.taken heard.talk (taken ++ piece)
+  pub stands : SessionStands start printed exchange.new.taken heard.reader (taken ++ piece)
   pub read : WhenTold exchange.old.hearing.left (λ input. TakesOfInput input exchange.new.hearing.left piece)
   pub noted : exchange.new.hearing.asked ≡ with_asking exchange.old.taken piece exchange.old.hearing.asked
   pub at_end : heard.more ≡ false → (piece ≡ []) × WhenTold exchange.old.hearing.left (λ input. input ≡ [])
@@ -179,16 +179,16 @@ pub record SessionBreaks (start : List Replaying) (printed : Option (List ℕ)) 
   pub stops : StopsAtPiece start printed exchange.new.taken (taken ++ piece) why
 
 -- from where a session stood on, it hears so
-unfoldable pub SessionHearsFrom : InputExchange → SessionTalk → HeardPiece → Type 0
-SessionHearsFrom exchange talk heard =
+unfoldable pub SessionHearsFrom : InputExchange → SessionReader → HeardPiece → Type 0
+SessionHearsFrom exchange reader heard =
     (start : List Replaying) (printed : Option (List ℕ)) (taken : List ℕ)
-    → SessionStands start printed exchange.old.taken talk taken → HearsPiece start printed taken exchange heard
+    → SessionStands start printed exchange.old.taken reader taken → HearsPiece start printed taken exchange heard
 
 -- from where a session stood on, it breaks so
-unfoldable pub SessionBreaksFrom : InputExchange → SessionTalk → Ended → Type 0
-SessionBreaksFrom exchange talk why =
+unfoldable pub SessionBreaksFrom : InputExchange → SessionReader → Ended → Type 0
+SessionBreaksFrom exchange reader why =
     (start : List Replaying) (printed : Option (List ℕ)) (taken : List ℕ)
-    → SessionStands start printed exchange.old.taken talk taken → SessionBreaks start printed taken exchange why
+    → SessionStands start printed exchange.old.taken reader taken → SessionBreaks start printed taken exchange why
 
 -- ---- the whole session
 
@@ -233,14 +233,14 @@ pub record SessionHolds (start : List Replaying) (old new : TerminalState) (why 
   pub large : why ≡ cause.TooLarge → (earlier : List ℕ) × (new.taken ≡ append_known old.taken earlier)
 
 -- from its opening on, a session is held so
-unfoldable pub SessionHoldsFrom : TerminalState → TerminalState → SessionTalk → Ended → Type 0
-SessionHoldsFrom old new talk why =
+unfoldable pub SessionHoldsFrom : TerminalState → TerminalState → SessionReader → Ended → Type 0
+SessionHoldsFrom old new reader why =
     (start : List Replaying) (printed : Option (List ℕ))
-    → SessionStands start printed old.taken talk [] → SessionHolds start (record old { taken = printed }) new why
+    → SessionStands start printed old.taken reader [] → SessionHolds start (record old { taken = printed }) new why
 
 -- a session is open, and no byte was taken
-unfoldable pub SessionOpens : List Replaying → Option (List ℕ) → Option (List ℕ) → SessionTalk → Type 0
-SessionOpens start printed now talk = SessionStands start printed now talk []
+unfoldable pub SessionOpens : List Replaying → Option (List ℕ) → Option (List ℕ) → SessionReader → Type 0
+SessionOpens start printed now reader = SessionStands start printed now reader []
 
 -- a session did not open
 unfoldable pub SessionOpensPart : List Replaying → Option (List ℕ) → Option (List ℕ) → Ended → Type 0
