@@ -141,7 +141,7 @@ returns-then-run-clause-walks g c =
     let first = c.args.group in
     let old = c.positions.walked.group in
     let new = c.in_ok-group.group in
-    let run = c.in_ok-run.run in
+    let run = c.in_ok-run.run' in
     let text = c.positions.walked.text in
     let ps = map {A = Held} point c.args.points.now in
     let some : is_some c.in_ok-group.event ≡ true = c.is_none.ensures ∙ ap not c.if-is_none.false in
@@ -167,7 +167,7 @@ returns-then-said-ge-MOST_LINES-clause-walks g c =
     let first = c.args.group in
     let old = c.positions.walked.group in
     let new = c.in_ok-group.group in
-    let run = c.in_ok-run.run in
+    let run = c.in_ok-run.run' in
     let text = c.positions.walked.text in
     let ps = map {A = Held} point c.args.points.now in
     let some : is_some c.in_ok-group.event ≡ true = c.is_none.ensures ∙ ap not c.if-is_none.false in
@@ -208,7 +208,7 @@ positions-preserved g c =
     let first = c.args.group in
     let old = c.positions.walked.group in
     let new = c.in_ok-group.group in
-    let run = c.in_ok-run.run in
+    let run = c.in_ok-run.run' in
     let text = c.positions.walked.text in
     let ps = map {A = Held} point c.args.points.now in
     let some : is_some c.in_ok-group.event ≡ true = c.is_none.ensures ∙ ap not c.if-is_none.false in
