@@ -201,6 +201,14 @@ impl<'m, 'a> Group<'m, 'a> {
         Ok((group, true))
     }
 
+    // What is behind the box. The calls that show the group begin with it, so that each need not show again that it is sound.
+    pub(crate) fn course(&self) -> &Course<'m, 'a>
+        ensures sound { IsSoundCourse result.now }
+        ensures place { place_of_course result.now ≡ self.now }
+    {
+        &self.course
+    }
+
     /// How many events have been made.
     pub fn position(&self) -> u64
         ensures position { result ≡ self.now.at }
@@ -208,28 +216,28 @@ impl<'m, 'a> Group<'m, 'a> {
         ensures replayers { AreGroupReplays self.now.start }
         ensures fits { ReplaysFit self.now.start }
     {
-        self.course.here.at
+        self.course().here.at
     }
 
     /// The event that was made last. None comes exactly at position 0.
     pub fn last_event(&self) -> Option<GroupEvent<'a>>
         ensures { option_map event_of result ≡ last_event_of self.now }
     {
-        self.course.here.last
+        self.course().here.last
     }
 
     /// How many logs there are.
     pub fn nodes(&self) -> u32
         ensures { result ≡ length self.now.start }
     {
-        self.course.start.len() as u32
+        self.course().start.len() as u32
     }
 
     /// The name of a node's process. None comes exactly where there is no such node.
     pub fn node_name(&self, node: u32) -> Option<&'a [u8]>
         ensures { option_map (λ name. name.now) result ≡ slice_get (map (λ r. r.head.name) self.now.start) node }
     {
-        Some(self.course.start.get(node as usize)?.head().name)
+        Some(self.course().start.get(node as usize)?.head().name)
     }
 
     /// The process of a node, at the position. None comes exactly where there is no such node.
@@ -243,6 +251,6 @@ impl<'m, 'a> Group<'m, 'a> {
     pub(crate) fn replay(&self, node: u32) -> Option<&Replayer<'m, 'a>>
         ensures { option_map (λ replayer. replayer.now.state) result ≡ slice_get (states_of_nodes self.now.start self.now.at) node }
     {
-        self.course.replay(node)
+        self.course().replay(node)
     }
 }

@@ -16,7 +16,7 @@ impl<'m, 'a> Group<'m, 'a> {
         requires { self.now.at ≡ length (events_of_replays self.now.start) }
         ensures { result ≡ slice_get (map verdict_on self.now.start) node }
     {
-        self.course.verdict(node)
+        self.course().verdict(node)
     }
 }
 

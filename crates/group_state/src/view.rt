@@ -47,7 +47,7 @@ impl<'m, 'a> View for Group<'m, 'a> {
     }
 
     fn lent(&self, node: u32, addr: u64, len: u64) -> Option<&[u8]> {
-        self.course.counter.count_load();
+        self.course().counter.count_load();
         self.at(node).memory().lent(addr, len)
     }
 
@@ -83,7 +83,7 @@ impl<'m, 'a> Group<'m, 'a> {
         ensures { (S : State) (l : Location) → slice_get (states_of_nodes self.now.start self.now.at) node ≡ Some S → node_of l ≡ node → number ≡ mark_in S l
             → result ≡ mark_of_place self.now.start self.now.at l }
     {
-        self.course.position_of(node, number)
+        self.course().position_of(node, number)
     }
 }
 
@@ -127,7 +127,7 @@ impl<'m, 'a> TouchView for Group<'m, 'a> {
         guest_process::laws::states_fit();
         crate::laws::stepwise();
         guest_process::laws::unmarked_stays();
-        self.course.here.at
+        self.course().here.at
     }
 
     fn last_node(&self) -> Option<u32> {

@@ -38,9 +38,10 @@ impl Counter {
 impl<'m, 'a> Group<'m, 'a> {
     /// What the group has done.
     pub fn work(&self) -> Work {
+        let counter = &self.course().counter;
         Work {
-            events: self.course.counter.events,
-            loads: self.course.counter.loads.get(),
+            events: counter.events,
+            loads: counter.loads.get(),
         }
     }
 }

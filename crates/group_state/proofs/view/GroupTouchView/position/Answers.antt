@@ -5,10 +5,10 @@ use Rattle.group_state.proofs.view.GroupTouchView.position.Goals as goal
 
 pub returns-clause-tells : goal.returns-clause-tells
 returns-clause-tells c =
-    let g = c.self.inside.course.value in
-    let i = c.self.invariant in
+    let g = c.course.result.now in
+    let i = c.course.ensures.sound in
     let states = ap (map (λ r. r.state)) i.here.replayers
     ∙ states_at c.merges.ensures c.rises.ensures c.states_fit.ensures.ranges c.replays.ensures.turn g.start.items i.fits g.here.at c.replays.ensures.course i.replayers.fresh in
-    rw (← c.self.view_is)
+    rw (← c.course.ensures.place)
     (tells c.stepwise.ensures.steps c.rises.ensures c.states_fit.ensures.ranges c.unmarked_stays.ensures g.start.items i.replayers i.fits g.here.at i.here.within
     (sound_at g.start.items g.here.replayers.items g.here.at i.here.sound states))
