@@ -18,10 +18,8 @@ use Rattle.shell_points.specs.declared.point.Point.{Point as Held}
 use Rattle.shell_points.specs.Firing.{place_at, reading, point_said_at}
 use Rattle.shell_points.specs.Points.{Point}
 use Rattle.shell_points.specs.inside.Reading.{point_readings, point_said_by, treat_by}
-use Rattle.shell_points.specs.Meanings.{PointsWalk, trigger}
-use Rattle.shell_points.specs.inside.Meanings.{point}
-use Rattle.shell_points.specs.declared.walk.WalkEnd.{WalkEnd}
-use Rattle.group_texts.specs.Texts.{position_line}
+use Rattle.shell_points.specs.Meanings.{trigger}
+use Rattle.shell_points.specs.inside.Meanings.{WalksThere, point}
 use Rattle.shell_points.specs.Walking.{Walk, lines_in, most_lines, quiet_program, treat_point, treat_points, walk_ended, walk_from, walk_on, walk_over}
 
 -- ---- at one position
@@ -132,12 +130,70 @@ rests_here rest at said r goes few =
 pub lines_append : (a b : List ℕ) → lines_in (a ++ b) ≡ lines_in a + lines_in b
 lines_append a b = sum_by-append (λ (x : ℕ). cond (is_line_feed x) 1 0) a b
 
+-- ---- the group after one event more, in a walk that began at the first place
+
+pub next_place : (first old new : GroupPlace) (event : Option GroupEvent) → is_some event ≡ true → GroupMoves old new event → old.start ≡ first.start
+    → (new ≡ place_at first.start (suc old.at)) × (old.at < length (events_of_replays first.start))
+next_place first old new event some moves from =
+    let went = moves_on old new event some moves in
+    (went.0 ∙ ap (λ (s : List Replaying). place_at s (suc old.at)) from, omega (arith, went.1, ap (λ (s : List Replaying). length (events_of_replays s)) from))
+
 -- a walk that ended came there
-pub arrives : (first : GroupPlace) (ps : List Point) (before after : List Variable) (at : ℕ) (said : List ℕ) → walk_from first ps before ≡ walk_ended at after said
-    → (new : GroupPlace) (done : WalkEnd) → new ≡ place_at first.start at → done.group ≡ new → done.variables ≡ after → done.text ≡ said ++ position_line new
-    → PointsWalk first ps before done
-arrives first ps before after at said is new done here same kept says = record {
-  place = same ∙ here ∙ ap (λ (w : Walk). place_at first.start w.at) (sym is);
-  variables = kept ∙ ap (λ (w : Walk). w.variables) (sym is);
-  text_is = says ∙ ap (λ (p : GroupPlace). said ++ position_line p) (sym same) ∙ ap (λ (w : Walk). w.text ++ position_line done.group) (sym is);
+arrives : (first : GroupPlace) (ps : List Point) (before after : List Variable) (at : ℕ) (text : List ℕ) (there : GroupPlace) → walk_from first ps before ≡ walk_ended at after text
+    → there ≡ place_at first.start at → WalksThere first ps before there after text
+arrives first ps before after at text there is here = record {
+  place = here ∙ ap (λ (w : Walk). place_at first.start w.at) (sym is);
+  variables = ap (λ (w : Walk). w.variables) (sym is);
+  text_is = ap (λ (w : Walk). w.text) (sym is);
 }
+
+pub ends_there : (first : GroupPlace) (ps : List Point) (before after : List Variable) (old new : GroupPlace) (event : Option GroupEvent) (text : List ℕ)
+    → is_some event ≡ false → GroupMoves old new event → old.start ≡ first.start
+    → walk_over first.start ps old.at (length (events_of_replays first.start) - old.at) after text ≡ walk_from first ps before
+    → WalksThere first ps before new after (text ++ codes "end\n")
+ends_there first ps before after old new event text none moves from ahead =
+    let stay = stays old new event none moves in
+    let end : length (events_of_replays first.start) - old.at ≡ 0 = omega (arith, stay.1, ap (λ (s : List Replaying). length (events_of_replays s)) from) in
+    arrives first ps before after old.at (text ++ codes "end\n") new (sym ahead ∙ ap (λ (left : ℕ). walk_over first.start ps old.at left after text) end)
+    (stay.0 ∙ ap (λ (s : List Replaying). place_at s old.at) from)
+
+-- the walk is what follows where the points treated the next position
+follows : (first : GroupPlace) (ps : List Point) (before variables : List Variable) (at : ℕ) (new : GroupPlace) (text : List ℕ) (r : ProgramState)
+    → new ≡ place_at first.start (suc at) → at < length (events_of_replays first.start)
+    → walk_over first.start ps at (length (events_of_replays first.start) - at) variables text ≡ walk_from first ps before
+    → r ≡ treat_points new.start new.at (quiet_program variables) ps
+    → walk_from first ps before ≡ walk_on (walk_over first.start ps (suc at) (length (events_of_replays first.start) - suc at)) (suc at) text r
+follows first ps before variables at new text r here within ahead did =
+    sym ahead ∙ step first.start ps at (length (events_of_replays first.start)) variables text within
+    ∙ ap (walk_on (walk_over first.start ps (suc at) (length (events_of_replays first.start) - suc at)) (suc at) text)
+    (sym (did ∙ ap (λ (p : GroupPlace). treat_points p.start p.at (quiet_program variables) ps) here))
+
+pub stops_there : (first : GroupPlace) (ps : List Point) (before variables : List Variable) (at : ℕ) (new : GroupPlace) (text : List ℕ) (r : ProgramState)
+    → new ≡ place_at first.start (suc at) → at < length (events_of_replays first.start)
+    → walk_over first.start ps at (length (events_of_replays first.start) - at) variables text ≡ walk_from first ps before
+    → r ≡ treat_points new.start new.at (quiet_program variables) ps → r.stopped ≡ true
+    → WalksThere first ps before new r.variables (text ++ r.text)
+stops_there first ps before variables at new text r here within ahead did stops =
+    let rest = walk_over first.start ps (suc at) (length (events_of_replays first.start) - suc at) in
+    arrives first ps before r.variables (suc at) (text ++ r.text) new (follows first ps before variables at new text r here within ahead did ∙ stops_here rest (suc at) text r stops) here
+
+pub pauses_there : (first : GroupPlace) (ps : List Point) (before variables : List Variable) (at : ℕ) (new : GroupPlace) (text : List ℕ) (r : ProgramState)
+    → new ≡ place_at first.start (suc at) → at < length (events_of_replays first.start)
+    → walk_over first.start ps at (length (events_of_replays first.start) - at) variables text ≡ walk_from first ps before
+    → r ≡ treat_points new.start new.at (quiet_program variables) ps → r.stopped ≡ false → most_lines ≤ lines_in text + lines_in r.text
+    → WalksThere first ps before new r.variables ((text ++ r.text) ++ codes "paused\n")
+pauses_there first ps before variables at new text r here within ahead did goes many =
+    let rest = walk_over first.start ps (suc at) (length (events_of_replays first.start) - suc at) in
+    arrives first ps before r.variables (suc at) ((text ++ r.text) ++ codes "paused\n") new
+    (follows first ps before variables at new text r here within ahead did ∙ pauses_here rest (suc at) text r goes (omega (arith, many, lines_append text r.text))) here
+
+-- the walk goes on from there
+pub goes_on : (first : GroupPlace) (ps : List Point) (before variables : List Variable) (at : ℕ) (new : GroupPlace) (text : List ℕ) (r : ProgramState)
+    → new ≡ place_at first.start (suc at) → at < length (events_of_replays first.start)
+    → walk_over first.start ps at (length (events_of_replays first.start) - at) variables text ≡ walk_from first ps before
+    → r ≡ treat_points new.start new.at (quiet_program variables) ps → r.stopped ≡ false → lines_in text + lines_in r.text < most_lines
+    → walk_over first.start ps new.at (length (events_of_replays first.start) - new.at) r.variables (text ++ r.text) ≡ walk_from first ps before
+goes_on first ps before variables at new text r here within ahead did goes few =
+    let rest = walk_over first.start ps (suc at) (length (events_of_replays first.start) - suc at) in
+    ap (λ (p : GroupPlace). walk_over first.start ps p.at (length (events_of_replays first.start) - p.at) r.variables (text ++ r.text)) here
+    ∙ sym (follows first ps before variables at new text r here within ahead did ∙ rests_here rest (suc at) text r goes (omega (arith, few, lines_append text r.text)))

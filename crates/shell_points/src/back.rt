@@ -1,8 +1,8 @@
 // Goes back to where points fired last.
-ghost use Rattle.std.specs.Prelude.{◌≡◌, ◌+◌, ◌<◌, ◌≤◌, ◌-◌, ◌++◌, ◌==◌, IfOk, MatchOption, OnOk, if◌then◌else◌, length, map, suc};
+ghost use Rattle.std.specs.Prelude.{◌≡◌, ◌+◌, ◌<◌, ◌≤◌, ◌-◌, ◌++◌, ◌==◌, IfOk, MatchOption, OnOk, count_by, if◌then◌else◌, length, map, suc};
 ghost use Rattle.group_state.specs.Moves.{last_event_of};
 ghost use Rattle.group_state.specs.Place.{events_of_replays};
-ghost use Rattle.group_state.specs.Touch.{watch_ticks};
+ghost use Rattle.group_state.specs.Touch.{is_met_by_event, watch_ticks};
 ghost use Rattle.shell_points.specs.Firing.{firing_lines, place_at};
 ghost use Rattle.shell_points.specs.inside.Reading.{NoneFires, point_readings, readings_before, point_said_by};
 ghost use Rattle.shell_points.specs.Returning.{return_from};
@@ -71,12 +71,30 @@ fn last_firing<'m, 'a, L: Ledger>(
     'positions: while group.position() < count {
         let (next, _) = group.forward()?;
         group = next;
-        let (now, before) = watching.after_event(alloc, points, &group, steps)?;
-        let text = text_here(alloc, points, before, &now, &group)?;
+        let (now, text) = hear_event(alloc, points, watching, &group, steps)?;
         last = later(last, group.position(), text);
         watching = now;
     }
     Ok((group, last))
+}
+
+// What points read after the event that led here, and what they say.
+fn hear_event<L: Ledger>(
+    alloc: Global,
+    points: &[Point],
+    watching: Watching,
+    group: &Group<'_, '_>,
+    steps: &mut Steps<L>,
+) -> Result<(Watching, Text), AllocError>
+    requires moved { 0 < group.now.at }
+    requires before { IsWatching group.now.start (group.now.at - 1) (map {A = Held} seen points.now) watching }
+    ensures now { IfOk result (λ heard. IsWatching group.now.start group.now.at (map {A = Held} seen points.now) heard.0) }
+    ensures text { IfOk result (λ heard. heard.1 ≡ firing_lines group.now.start (map {A = Held} seen points.now) group.now.at) }
+    ensures ticks { OnOk result (steps.new ≡ steps.old + count_by (is_met_by_event group.now.start group.now.at) (watched_expressions (map {A = Held} seen points.now))) }
+{
+    let (now, before) = watching.after_event(alloc, points, group, steps)?;
+    let text = text_here(alloc, points, before, &now, group)?;
+    Ok((now, text))
 }
 
 // What was said at a position, if anything was, and else what was said last.

@@ -16,11 +16,10 @@ use fri_text::Text;
 use group_state::Group;
 use std::alloc::{AllocError, Global};
 
-/// What points did so far at a position: what programs made of the variables, what was said, and whether a point asked to
-/// stop.
+/// What points did so far at a position, beside what programs made of the variables: what was said, and whether a point asked
+/// to stop.
 #[derive(Drop)]
 pub(crate) struct PointsRun {
-    pub(crate) variables: Vars,
     pub(crate) text: Text,
     pub(crate) stops: bool,
 }
@@ -33,23 +32,19 @@ pub(crate) fn run_points_here(
     before: Option<Vec<Option<i64>>>,
     now: &Watching,
     group: &Group<'_, '_>,
-    variables: Vars,
+    variables: &mut Vars,
 ) -> Result<PointsRun, AllocError>
     requires moved { 0 < group.now.at }
     requires before { MatchOption before (NoneFires group.now (map {A = Held} seen points.now))
         (λ before. before.items ≡ readings_before group.now (map {A = Held} seen points.now)) }
     requires now { IsWatching group.now.start group.now.at (map {A = Held} seen points.now) now.now }
-    ensures { IfOk result (λ run. run_so_far run ≡ treat_points group.now.start group.now.at (quiet_program variables) (map {A = Held} seen points.now)) }
+    ensures { IfOk result (λ run. run_so_far variables.new run ≡ treat_points group.now.start group.now.at (quiet_program variables.old) (map {A = Held} seen points.now)) }
 {
     match before {
         Some(before) => treat_points(alloc, points, &before, &now.values, group, variables),
         None => {
             let text = Text::new(alloc);
-            Ok(PointsRun {
-                variables,
-                text,
-                stops: false,
-            })
+            Ok(PointsRun { text, stops: false })
         }
     }
 }
@@ -61,20 +56,19 @@ fn treat_points(
     before: &[Option<i64>],
     now: &[Option<i64>],
     group: &Group<'_, '_>,
-    variables: Vars,
+    variables: &mut Vars,
 ) -> Result<PointsRun, AllocError>
     requires moved { 0 < group.now.at }
     requires before { before.now ≡ readings_before group.now (map {A = Held} seen points.now) }
     requires now { now.now ≡ point_readings group.now.start group.now.at (map {A = Held} seen points.now) }
-    ensures { IfOk result (λ run. run_so_far run ≡ treat_points group.now.start group.now.at (quiet_program variables) (map {A = Held} seen points.now)) }
+    ensures { IfOk result (λ run. run_so_far variables.new run ≡ treat_points group.now.start group.now.at (quiet_program variables.old) (map {A = Held} seen points.now)) }
 {
     let mut run = PointsRun {
-        variables,
         text: Text::new(alloc),
         stops: false,
     };
     for (n, point) in points.iter().enumerate() {
-        treat_point(alloc, point, before[n], now[n], group, &mut run)?;
+        treat_point(alloc, point, before[n], now[n], group, variables, &mut run)?;
     }
     Ok(run)
 }
@@ -86,16 +80,17 @@ fn treat_point(
     before: Option<i64>,
     now: Option<i64>,
     group: &Group<'_, '_>,
+    variables: &mut Vars,
     run: &mut PointsRun,
 ) -> Result<(), AllocError>
-    ensures { OnOk result (run_so_far run.new ≡ treat_by before now (last_event_of group.now) (nodes_at group.now) (run_so_far run.old) (seen point.now)) }
+    ensures { OnOk result (run_so_far variables.new run.new ≡ treat_by before now (last_event_of group.now) (nodes_at group.now) (run_so_far variables.old run.old) (seen point.now)) }
 {
     if !fires(&point.trigger, before, now, group) {
         return Ok(());
     }
     match &point.program {
         Some(program) => {
-            let stops = run_program(alloc, program, group, &mut run.variables, &mut run.text)?;
+            let stops = run_program(alloc, program, group, variables, &mut run.text)?;
             run.stops = run.stops || stops;
         }
         None => {

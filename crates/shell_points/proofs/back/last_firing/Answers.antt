@@ -1,4 +1,4 @@
-use Rattle.std.proofs.Common.{◌≡◌, ◌∙◌, ◌-◌, ◌++◌, List, ℕ, codes, map, suc, ap, sym, refl, arith}
+use Rattle.std.proofs.Common.{◌≡◌, ◌∙◌, ◌++◌, List, ℕ, codes, map, suc, ap, sym, refl, arith}
 use Rattle.proc_replay.specs.Replaying.{Replaying}
 use Rattle.group_state.specs.Place.{GroupPlace}
 use Rattle.group_state.specs.Touch.{watch_ticks}
@@ -21,26 +21,19 @@ positions-init g c = record {
   ticks = omega (arith, ap (watch_ticks c.args.group.start (watched_expressions (map {A = Held} point c.args.points.now)) 0) c.requires.begins);
 }
 
-pub after_event-requires-clause-moved : goal.after_event-requires-clause-moved
-after_event-requires-clause-moved g c =
+pub hear_event-requires-clause-moved : goal.hear_event-requires-clause-moved
+hear_event-requires-clause-moved g c =
     let old = c.positions.group in
     let next = c.in_ok-next.next in
     let went = goes_to c.args.group old next c.in_ok-next.field-0-1 c.args.count c.positions.invariant.start (omega arith) c.requires.within c.in_ok-next.ensures in
     moved_on c.args.group.start old.at next went
 
-pub after_event-requires-clause-before : goal.after_event-requires-clause-before
-after_event-requires-clause-before g c =
+pub hear_event-requires-clause-before : goal.hear_event-requires-clause-before
+hear_event-requires-clause-before g c =
     let old = c.positions.group in
     let next = c.in_ok-next.next in
     let went = goes_to c.args.group old next c.in_ok-next.field-0-1 c.args.count c.positions.invariant.start (omega arith) c.requires.within c.in_ok-next.ensures in
     read_before c.args.group.start old.at (map {A = Held} point c.args.points.now) c.positions.watching next went c.positions.invariant.read
-
-pub text_here-requires-clause-moved : goal.text_here-requires-clause-moved
-text_here-requires-clause-moved g c =
-    let old = c.positions.group in
-    let next = c.in_ok-next.next in
-    let went = goes_to c.args.group old next c.in_ok-next.field-0-1 c.args.count c.positions.invariant.start (omega arith) c.requires.within c.in_ok-next.ensures in
-    moved_on c.args.group.start old.at next went
 
 pub positions-smaller : goal.positions-smaller
 positions-smaller g c =
@@ -63,7 +56,7 @@ positions-preserved g c =
       start = same;
       within = omega (arith, at);
       read = read_now start old.at ps c.in_ok-now.now next went c.in_ok-now.ensures.now;
-      last = later_last start ps next.at c.position-in-positions.result (return_of c.positions.last) (return_of c.later-last.result) c.in_ok-text.text c.position-in-positions.ensures.position
-          (c.in_ok-text.ensures ∙ ap (λ (s : List Replaying). firing_lines s ps next.at) same) (i.last ∙ ap (λ (n : ℕ). return_from (place_at start n) ps) (sym at)) c.later-last.ensures;
-      ticks = ticked_from_start start (watched_expressions ps) old.at next c.args.steps.now c.positions.steps c.after_event.new.steps went i.ticks c.in_ok-now.ensures.ticks;
+      last = later_last start ps next.at c.position-in-positions.result (return_of c.positions.last) (return_of c.later-last.result) c.in_ok-now.text c.position-in-positions.ensures.position
+          (c.in_ok-now.ensures.text ∙ ap (λ (s : List Replaying). firing_lines s ps next.at) same) (i.last ∙ ap (λ (n : ℕ). return_from (place_at start n) ps) (sym at)) c.later-last.ensures;
+      ticks = ticked_from_start start (watched_expressions ps) old.at next c.args.steps.now c.positions.steps c.hear_event.new.steps went i.ticks c.in_ok-now.ensures.ticks;
     }

@@ -13,4 +13,4 @@ returns-in-None c =
     let at = c.args.group.now.at in
     let ps = map {A = Held} point c.args.points.now in
     let none : has_due_point start ps at ≡ false = where_none c.args.before (has_due_point start ps at ≡ false) (λ before. before.items ≡ point_readings start (at - 1) ps) c.in-None.is c.requires.before in
-    (λ i. record { variables = c.args.variables; text = c.new-text.ensures i; stopped = false }) ∙ sym (nothing_done start at ps (quiet_program c.args.variables) none)
+    (λ i. record { variables = c.args.variables.now; text = c.new-text.ensures i; stopped = false }) ∙ sym (nothing_done start at ps (quiet_program c.args.variables.now) none)

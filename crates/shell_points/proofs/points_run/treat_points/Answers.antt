@@ -16,6 +16,6 @@ loop-n-preserved c =
     let p = c.index-points-n.result in
     let within : n < length points = omega (arith, c.loop-n-test.true) in
     let here : get_or points n p ≡ p = sym c.index-points-n.is in
-    let did = treated start at (run_so_far c.loop-n.run) (run_so_far c.treat_point.new.run) (point p) (get_or before n None) (get_or now n None) c.requires.moved
+    let did = treated start at (run_so_far c.loop-n.variables c.loop-n.run) (run_so_far c.treat_point.new.variables c.treat_point.new.run) (point p) (get_or before n None) (get_or now n None) c.requires.moved
     (read_at start (at - 1) n points p before None c.requires.before within here) (read_at start at n points p now None c.requires.now within here) c.in_ok-treat_point.ensures in
-    treated_more start at n points p (run_so_far c.loop-n.run) (run_so_far c.treat_point.new.run) (treat_points start at (quiet_program c.args.variables) (map {A = Held} point points)) within here did c.loop-n.invariant
+    treated_more start at n points p (run_so_far c.loop-n.variables c.loop-n.run) (run_so_far c.treat_point.new.variables c.treat_point.new.run) (treat_points start at (quiet_program c.args.variables.now) (map {A = Held} point points)) within here did c.loop-n.invariant

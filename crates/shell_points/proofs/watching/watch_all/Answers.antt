@@ -1,4 +1,4 @@
-use Rattle.std.proofs.Common.{◌<◌, ◌++◌, List, length, map, sym, ap, ◌∙◌, arith}
+use Rattle.std.proofs.Common.{◌<◌, ◌++◌, List, length, sym, ap, ◌∙◌, arith}
 use Rattle.watch_expr.specs.Expression.{Expression}
 use Rattle.shell_points.specs.inside.Meanings.{point}
 use Rattle.shell_points.specs.Watching.{expressions_of}
