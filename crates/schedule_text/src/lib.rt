@@ -1,19 +1,15 @@
 //! Schedules: the text that says which processes a group has and what happens to them, in order.
 //!
-//! A schedule is text in lines. A line ends with a line feed or with the text, and one carriage return
-//! before its end is dropped. Its fields are separated by spaces and tabs. A line with no field, or whose
-//! first field begins with `#`, is passed over. The others are, in this order:
+//! A schedule is text in lines. A line ends with a line feed or with the text, and one carriage return before its end is
+//! dropped. Its fields are separated by spaces and tabs. A line with no field, or whose first field begins with `#`, is passed
+//! over. The others are, in this order: the header `friday 1`, as it is here; 1 to `MOST_PROCESSES` lines
+//! `process NAME MODULE`, with distinct names, whose processes are numbered from 0; and any number of items, each `run P T`
+//! (one try), `run P T N` (N tries), `deliver P N`, `inject P HEX`, `clock P V`, `random P HEX`, `signal P S` or `kill P`.
 //!
-//! - the header `friday 1`, as it is here;
-//! - 1 to `MOST_PROCESSES` lines `process NAME MODULE`, with distinct names; the processes are numbered
-//!   from 0;
-//! - any number of items, each `run P T` (one try), `run P T N` (N tries), `deliver P N`, `inject P HEX`,
-//!   `clock P V`, `random P HEX`, `signal P S` or `kill P`.
-//!
-//! P is the number of a process, T is 0 to `MOST_THREAD`, N is 1 to `MOST_RUNS` after `run` and to
-//! `MOST_DATAGRAM` after `deliver`, S is 1 to `MOST_SIGNAL` of `signal_points`, and V is a signed number of 64 bits. Numbers
-//! are written in decimal digits, with any zeros in front; a negative V has one minus. HEX is two hexadecimal digits of either
-//! case for each byte, or `-` for no bytes. `ProcessLine` says what NAME and MODULE may be.
+//! P is the number of a process, T is 0 to `MOST_THREAD`, N is 1 to `MOST_RUNS` after `run` and to `MOST_DATAGRAM` after
+//! `deliver`, S is 1 to `MOST_SIGNAL` of `signal_points`, and V is a signed number of 64 bits. Numbers are written in decimal
+//! digits, with any zeros in front; a negative V has one minus. HEX is two hexadecimal digits of either case for each byte, or
+//! `-` for no bytes. `ProcessLine` says what NAME and MODULE may be.
 //!
 //! One schedule is made and not read: that of a group of four processes that hand a number round (`drill`).
 #![tactic(auto)]
