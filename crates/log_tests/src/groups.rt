@@ -1,22 +1,18 @@
 // A group that goes forwards and backwards over the logs of a ring.
-ghost use Rattle.std.specs.Prelude.{List};
-ghost use Rattle.group_state.specs.Place.{AreGroupReplays};
+ghost use Rattle.std.specs.Prelude.{IfOk, List};
 ghost use Rattle.log_pairs.specs.Pairs.{Loaded as LoadedOf};
 ghost use Rattle.log_pairs.specs.Meanings.{AreLoadedPairs, AreOneGroup};
 
+use crate::recorded::{begin, load, record, shared};
 use fri_outside::MemFiles;
 use fri_text::Text;
-use group_record::run_record;
 use group_state::Group;
 use lib_calls::memory_bytes;
-use log_pairs::{Loaded, Pair, begin_all, load_all};
-use schedule_text::{Schedule, read_schedule};
+use log_pairs::{Loaded, Pair};
 use shared_module::SharedModule;
 use std::alloc::{AllocError, Global};
 use std::process::Abort;
 use std::test::Fail;
-use wasm_decode::decode;
-use wasm_validate::validate;
 use watch_expr::View;
 
 // Each process of the ring takes a datagram, counts it at 64 and at 1024, and sends what is at 64 to the next.
@@ -70,7 +66,7 @@ fn push_turn(text: &mut Text, sender: u64, number: u64, process: u64) -> Result<
     text.push_str(" 0 2\n")
 }
 
-fn schedule(alloc: Global) -> Result<Schedule, Fail> {
+fn schedule(alloc: Global) -> Result<Text, AllocError> {
     let mut text = Text::new(alloc);
     text.push_str(BEGINNING)?;
     for round in 0..ROUNDS {
@@ -80,14 +76,14 @@ fn schedule(alloc: Global) -> Result<Schedule, Fail> {
         }
         push_turn(&mut text, round % 4, round / 4 + 1, process)?;
     }
-    Ok(read_schedule(alloc, text.bytes())?)
+    Ok(text)
 }
 
-// Of so many processes, whose module is one.
-fn modules(alloc: Global, count: usize) -> Result<Vec<SharedModule>, Fail> {
-    let module = SharedModule::new(alloc, validate(alloc, decode(alloc, RING)?)?)?;
+// Of the ring's processes, whose module is one.
+fn modules(alloc: Global) -> Result<Vec<SharedModule>, Fail> {
+    let module = shared(alloc, RING)?;
     let mut modules = Vec::new(alloc);
-    for _ in 0..count {
+    for _ in PAIRS {
         modules.push(module.share()?)?;
     }
     Ok(modules)
@@ -96,23 +92,20 @@ fn modules(alloc: Global, count: usize) -> Result<Vec<SharedModule>, Fail> {
 // The ring's module and the logs of its processes.
 fn files(rt: &(impl Abort + AllocGlobal)) -> Result<MemFiles, Fail> {
     let alloc = rt.alloc();
-    let schedule = schedule(alloc)?;
-    let modules = modules(alloc, schedule.processes().len())?;
+    let modules = modules(alloc)?;
     let mut files = MemFiles::new(alloc);
     files.put("ring.wasm", RING)?;
-    assert_eq!(rt; modules.len(), schedule.processes().len());
-    run_record(alloc, &schedule, &modules, &mut files, false)?;
+    record(rt, schedule(alloc)?.bytes(), &modules, &mut files)?;
     Ok(files)
 }
 
-fn begin<'m>(alloc: Global, all: &'m [Loaded<'_>]) -> Result<Group<'m, 'm>, Fail>
-    requires loaded { (ls : List LoadedOf) × AreLoadedPairs all.now ls }
-    requires apart { AreOneGroup all.now }
+// What was recorded of the ring.
+fn recorded(rt: &(impl Abort + AllocGlobal)) -> Result<Vec<Loaded<'static>>, Fail>
+    ensures loaded { IfOk result (λ all. (ls : List LoadedOf) × AreLoadedPairs all.items ls) }
+    ensures apart { IfOk result (λ all. AreOneGroup all.items) }
 {
-    let Ok(replayers) = begin_all(alloc, all) else {
-        return Err("no replays".into());
-    };
-    Ok(Group::begin(alloc, replayers)?)
+    let mut files = files(rt)?;
+    load(rt.alloc(), PAIRS, &mut files)
 }
 
 // The bytes of all memories.
@@ -123,20 +116,6 @@ fn memories(alloc: Global, group: &Group<'_, '_>) -> Result<Vec<u8>, Fail> {
         all.extend_from_slice(memory_bytes(alloc, process.memory())?.as_slice())?;
     }
     Ok(all)
-}
-
-// The group reached the same memories as one that goes there from the beginning.
-fn assert_straight(
-    rt: &(impl Abort + AllocGlobal),
-    group: &Group<'_, '_>,
-    begun: Group<'_, '_>,
-) -> Result<(), Fail> {
-    let (straight, _) = begun.goto(rt.alloc(), group.position())?;
-    let here = memories(rt.alloc(), group)?;
-    let there = memories(rt.alloc(), &straight)?;
-    assert_eq!(rt; straight.position(), group.position());
-    assert!(rt; here == there);
-    Ok(())
 }
 
 // A position to go to, whether it is there, and how many events are replayed on the way.
@@ -158,43 +137,118 @@ const WAYS: &[Way] = &[
     (4010, false, 0),
 ];
 
+// What a group shows after it went a way: whether the position is there, where the group is, how many events it has
+// replayed since it began, and the bytes of all memories.
+#[derive(Drop)]
+struct Arrival {
+    way: Way,
+    there: bool,
+    position: u64,
+    events: u64,
+    memories: Vec<u8>,
+}
+
+fn arrival_of(
+    alloc: Global,
+    group: &Group<'_, '_>,
+    way: Way,
+    there: bool,
+) -> Result<Arrival, Fail> {
+    let position = group.position();
+    let events = group.work().events;
+    let memories = memories(alloc, group)?;
+    Ok(Arrival {
+        way,
+        there,
+        position,
+        events,
+        memories,
+    })
+}
+
+// The group after it went this way.
 fn go<'m>(
-    rt: &(impl Abort + AllocGlobal),
+    alloc: Global,
     group: Group<'m, 'm>,
-    way: &Way,
+    way: Way,
+    arrivals: &mut Vec<Arrival>,
 ) -> Result<Group<'m, 'm>, Fail> {
-    let at = group.position();
-    let before = group.work().events;
-    let (group, there) = group.goto(rt.alloc(), way.0)?;
-    assert_eq!(rt; there, way.1);
-    assert_eq!(rt; group.position(), if there { way.0 } else { at });
-    assert_eq!(rt; group.work().events.wrapping_sub(before), way.2);
+    let (group, there) = group.goto(alloc, way.0)?;
+    arrivals.push(arrival_of(alloc, &group, way, there)?)?;
     Ok(group)
+}
+
+// What the group shows after each of the ways.
+fn arrivals_of<'m>(alloc: Global, group: Group<'m, 'm>) -> Result<Vec<Arrival>, Fail> {
+    let mut arrivals = Vec::new(alloc);
+    let mut group = group;
+    for way in WAYS {
+        group = go(alloc, group, *way, &mut arrivals)?;
+    }
+    Ok(arrivals)
+}
+
+// What a group shows that goes to the position from the beginning.
+fn straight_to(alloc: Global, all: &[Loaded<'_>], position: u64) -> Result<Arrival, Fail>
+    requires loaded { (ls : List LoadedOf) × AreLoadedPairs all.now ls }
+    requires apart { AreOneGroup all.now }
+{
+    let (group, there) = begin(alloc, all)?.goto(alloc, position)?;
+    arrival_of(alloc, &group, (position, true, position), there)
+}
+
+// The group came from the position `at`, and had replayed so many events.
+fn assert_went(rt: &impl Abort, arrival: &Arrival, at: u64, events: u64) {
+    let Arrival {
+        way,
+        there,
+        position,
+        ..
+    } = arrival;
+    assert_eq!(rt; *there, way.1);
+    assert_eq!(rt; *position, if *there { way.0 } else { at });
+    assert_eq!(rt; arrival.events.wrapping_sub(events), way.2);
+}
+
+// The group reached the same memories as one that goes there from the beginning.
+fn assert_straight(rt: &impl Abort, arrival: &Arrival, straight: &Arrival) {
+    assert_eq!(rt; straight.position, arrival.position);
+    assert!(rt; straight.memories == arrival.memories);
 }
 
 #[test]
 fn a_group_goes_back_from_its_checkpoints(rt: HostRuntime) -> Result<(), Fail> {
-    let mut files = files(&rt)?;
-    let Ok(all) = load_all(rt.alloc(), PAIRS, &mut files) else {
-        return Err("no logs".into());
-    };
-    let mut group = begin(rt.alloc(), &all)?;
-    for way in WAYS {
-        group = go(&rt, group, way)?;
-        assert_straight(&rt, &group, begin(rt.alloc(), &all)?)?;
+    let all = recorded(&rt)?;
+    let arrivals = arrivals_of(rt.alloc(), begin(rt.alloc(), &all)?)?;
+    let mut at = 0;
+    let mut events = 0;
+    for arrival in &arrivals {
+        assert_went(&rt, arrival, at, events);
+        assert_straight(
+            &rt,
+            arrival,
+            &straight_to(rt.alloc(), &all, arrival.position)?,
+        );
+        at = arrival.position;
+        events = arrival.events;
     }
+    assert_eq!(rt; arrivals.len(), WAYS.len());
     Ok(())
+}
+
+// Whether a part of a memory was lent, and how often one was asked for by then.
+fn asked_once(group: &Group<'_, '_>) -> (bool, u64) {
+    if group.node_count() == 0 {
+        return (false, 0);
+    }
+    let lent = group.lent(0, 64, 8).is_some();
+    (lent, group.work().loads)
 }
 
 #[test]
 fn parts_that_are_asked_for_are_counted(rt: HostRuntime) -> Result<(), Fail> {
-    let mut files = files(&rt)?;
-    let Ok(all) = load_all(rt.alloc(), PAIRS, &mut files) else {
-        return Err("no logs".into());
-    };
-    let group = begin(rt.alloc(), &all)?;
-    assert!(rt; group.node_count() > 0);
-    assert!(rt; group.lent(0, 64, 8).is_some());
-    assert_eq!(rt; group.work().loads, 1);
+    let all = recorded(&rt)?;
+    let asked = asked_once(&begin(rt.alloc(), &all)?);
+    assert_eq!(rt; asked, (true, 1));
     Ok(())
 }

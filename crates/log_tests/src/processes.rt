@@ -1,13 +1,12 @@
 // A process that goes on from call to call, and its copies.
+use crate::recorded::valid;
 use coop_threads::Status;
 use guest_process::{End, Need, Process};
 use lib_calls::{Call, EntryView};
-use std::alloc::Global;
+use std::alloc::{AllocError, Global};
 use std::process::Abort;
 use std::test::Fail;
-use wasm_decode::decode;
-use wasm_types::{ValidModule, Value};
-use wasm_validate::validate;
+use wasm_types::Value;
 
 // Its `_start` asks for the time, keeps it in the global 0 and in the memory at 16, notes it, asks for
 // its process's number, and asks for the lock 9.
@@ -32,11 +31,6 @@ const LOCK: Call = Call {
     a1: 0,
     a2: 0,
 };
-
-fn module(alloc: Global) -> Result<ValidModule, Fail> {
-    let decoded = decode(alloc, GUEST)?;
-    Ok(validate(alloc, decoded)?)
-}
 
 // The call that the event answers.
 fn call(event: &Event) -> Call {
@@ -66,56 +60,115 @@ fn after<'m>(rt: &impl Abort, process: Process<'m>, event: &Event) -> Result<Pro
     Ok(process.advance(&entry)?)
 }
 
-// The process has had all its events, and asks for a lock that is free.
-fn assert_at_lock(rt: &impl Abort, process: &Process<'_>) {
-    assert_eq!(rt; process.pending(0).copied(), Some(LOCK));
-    assert_eq!(rt; process.need(0), Some(Need::Fixed(0)));
-    assert_eq!(rt; process.end(), End::Running);
-    assert_eq!(rt; process.events(), 4);
-    assert_eq!(rt; process.clock(), 4);
-    assert_eq!(rt; process.global(0), Some(Value::I64(5)));
-    assert_eq!(rt; process.memory().load(16, 8), Some(5));
-    assert!(rt; !process.handles_after(0, 5));
-    assert_threads(rt, process);
+// What the thread 0 asks for, what that depends on, how many events there were, and the last one's clock.
+type Stand = (Option<Call>, Option<Need>, u64, u64);
+
+fn stand_of(process: &Process<'_>) -> Stand {
+    (
+        process.pending(0).copied(),
+        process.need(0),
+        process.events(),
+        process.clock(),
+    )
 }
 
-// The process has one thread.
-fn assert_threads(rt: &impl Abort, process: &Process<'_>) {
-    assert_eq!(rt; process.threads(), 1);
-    assert_eq!(rt; process.status(0), Status::Live);
-    assert_eq!(rt; process.status(1), Status::Unknown);
-    assert!(rt; process.pending(1).is_none());
-    assert!(rt; process.need(1).is_none());
+// How many threads there are, how 0 and 1 stand, and whether 1 asks for nothing.
+type Threads = (u16, Status, Status, bool, bool);
+
+fn threads_of(process: &Process<'_>) -> Threads {
+    (
+        process.threads(),
+        process.status(0),
+        process.status(1),
+        process.pending(1).is_none(),
+        process.need(1).is_none(),
+    )
 }
 
-// The process stands before this event, and then after it. Its copy has the same event.
-fn assert_copied<'m>(
+// How the process ended, the global 0, what is in the memory at 16, and whether the thread 0 handles the signal 5.
+type Left = (End, Option<Value>, Option<u64>, bool);
+
+fn left_of(process: &Process<'_>) -> Left {
+    (
+        process.end(),
+        process.global(0),
+        process.memory().load(16, 8),
+        process.handles_after(0, 5),
+    )
+}
+
+// All that is asserted of a process after its events.
+type Whole = (Stand, Left, Threads);
+
+fn whole(process: &Process<'_>) -> Whole {
+    (stand_of(process), left_of(process), threads_of(process))
+}
+
+// What the process shows, and what a copy of it does.
+fn both(alloc: Global, process: &Process<'_>) -> Result<(Whole, Whole), AllocError> {
+    let copied = whole(&process.copy(alloc)?);
+    Ok((whole(process), copied))
+}
+
+// The process has had all its events, and its one thread asks for a lock that is free.
+fn assert_at_lock(rt: &impl Abort, whole: Whole) {
+    let (stand, left, threads) = whole;
+    assert_eq!(rt; stand, (Some(LOCK), Some(Need::Fixed(0)), 4, 4));
+    assert_eq!(rt; left, (End::Running, Some(Value::I64(5)), Some(5), false));
+    assert_eq!(rt; threads, (1, Status::Live, Status::Unknown, true, true));
+}
+
+// The global of a copy that had the event.
+fn global_of_copy(
+    rt: &(impl Abort + AllocGlobal),
+    process: &Process<'_>,
+    event: &Event,
+) -> Result<Option<Value>, Fail> {
+    let copy = after(rt, process.copy(rt.alloc())?, event)?;
+    Ok(copy.global(0))
+}
+
+// How a process stands before a copy of it has the event and after that, and the global of the copy.
+type Copied = (Stand, Option<Value>, Stand);
+
+fn copied(
+    rt: &(impl Abort + AllocGlobal),
+    process: &Process<'_>,
+    event: &Event,
+) -> Result<Copied, Fail> {
+    let before = stand_of(process);
+    let global = global_of_copy(rt, process, event)?;
+    Ok((before, global, stand_of(process)))
+}
+
+// The process stands before this event. Its copy had the event, and the process itself stays where it was.
+fn assert_copied(rt: &impl Abort, copied: Copied, event: &Event) {
+    let (before, global, then) = copied;
+    assert_eq!(rt; before.0, Some(call(event)));
+    assert_eq!(rt; before.1, Some(event.3));
+    assert_eq!(rt; global, Some(Value::I64(event.4)));
+    assert_eq!(rt; then, before);
+}
+
+// The process after all its events.
+fn after_all<'m>(
     rt: &(impl Abort + AllocGlobal),
     process: Process<'m>,
-    event: &Event,
 ) -> Result<Process<'m>, Fail> {
-    assert_eq!(rt; process.pending(0).copied(), Some(call(event)));
-    assert_eq!(rt; process.need(0), Some(event.3));
-    let events = process.events();
-    let clock = process.clock();
-    let copy = after(rt, process.copy(rt.alloc())?, event)?;
-    // The process itself stays where it was.
-    assert_eq!(rt; process.pending(0).copied(), Some(call(event)));
-    assert_eq!(rt; process.events(), events);
-    assert_eq!(rt; process.clock(), clock);
-    assert_eq!(rt; copy.global(0), Some(Value::I64(event.4)));
-    after(rt, process, event)
+    let mut process = process;
+    for event in EVENTS {
+        assert_copied(rt, copied(rt, &process, event)?, event);
+        process = after(rt, process, event)?;
+    }
+    Ok(process)
 }
 
 #[test]
 fn a_process_and_its_copies_go_from_call_to_call(rt: HostRuntime) -> Result<(), Fail> {
-    let module = module(rt.alloc())?;
-    let mut process = Process::start(rt.alloc(), &module, 1, 3)?;
-    for event in EVENTS {
-        process = assert_copied(&rt, process, event)?;
-    }
-    let copy = process.copy(rt.alloc())?;
-    assert_at_lock(&rt, &process);
-    assert_at_lock(&rt, &copy);
+    let module = valid(rt.alloc(), GUEST)?;
+    let process = after_all(&rt, Process::start(rt.alloc(), &module, 1, 3)?)?;
+    let (itself, copied) = both(rt.alloc(), &process)?;
+    assert_at_lock(&rt, itself);
+    assert_at_lock(&rt, copied);
     Ok(())
 }

@@ -1,12 +1,11 @@
 // A replay that is copied.
+use crate::recorded::valid;
 use call_log::LogView;
 use guest_process::Process;
 use proc_replay::{Replayer, Turn};
-use std::alloc::Global;
+use std::alloc::{AllocError, Global};
 use std::test::Fail;
-use wasm_decode::decode;
 use wasm_types::ValidModule;
-use wasm_validate::validate;
 
 // Its `_start` asks for the time and notes it.
 const GUEST: &[u8] =
@@ -16,11 +15,6 @@ const GUEST: &[u8] =
 // The log of a process `a` that began.
 const LOG: &[u8] = b"LLOG\x01\0\0\0\x01\0\0\0\0\0\0\0\x01a\
       \x14\0\0\0\x01\0\0\0\0\0\0\0\0\0\0\0\0\0\0\0\0\0\0\0";
-
-fn module(alloc: Global) -> Result<ValidModule, Fail> {
-    let decoded = decode(alloc, GUEST)?;
-    Ok(validate(alloc, decoded)?)
-}
 
 fn begin<'m, 'a>(
     alloc: Global,
@@ -42,13 +36,33 @@ fn kind_of(turn: Turn<'_>) -> Option<u8> {
     }
 }
 
+// The kind of the call whose event comes next, how many bytes are unread, and the process.
+type Shown = (Option<u8>, u64, u32);
+
+fn shown(replayer: &Replayer<'_, '_>) -> Shown {
+    (
+        kind_of(replayer.peek()),
+        replayer.unread_len(),
+        replayer.head().process,
+    )
+}
+
+// What a copy of the replay shows, and how many bytes the replay itself has not read then.
+fn shown_by_copy(alloc: Global, replayer: &Replayer<'_, '_>) -> Result<(Shown, u64), AllocError> {
+    let copied = shown(&replayer.copy(alloc)?);
+    Ok((copied, replayer.unread_len()))
+}
+
+// The same of a replay that began.
+fn copied(alloc: Global, module: &ValidModule) -> Result<(Shown, u64), Fail> {
+    let replayer = begin(alloc, module, LOG)?;
+    Ok(shown_by_copy(alloc, &replayer)?)
+}
+
 #[test]
 fn a_copy_takes_the_same_turn(rt: HostRuntime) -> Result<(), Fail> {
-    let module = module(rt.alloc())?;
-    let replayer = begin(rt.alloc(), &module, LOG)?;
-    let copy = replayer.copy(rt.alloc())?;
-    assert_eq!(rt; kind_of(copy.peek()), Some(0));
-    assert_eq!(rt; copy.unread_len(), replayer.unread_len());
-    assert_eq!(rt; copy.head().process, 0);
+    let module = valid(rt.alloc(), GUEST)?;
+    let (copied, unread) = copied(rt.alloc(), &module)?;
+    assert_eq!(rt; copied, (Some(0), unread, 0));
     Ok(())
 }

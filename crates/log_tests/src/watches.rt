@@ -1,27 +1,24 @@
 // Watches over the logs of two processes, and how often they load.
-ghost use Rattle.std.specs.Prelude.{◌≡◌, ◌<◌, IfOk, List};
+ghost use Rattle.std.specs.Prelude.{◌≡◌, ◌<◌, ◌+◌, ◌-◌, IfOk, OnOk, List};
 ghost use Rattle.group_state.specs.Nodes.{nodes_at};
 ghost use Rattle.log_pairs.specs.Pairs.{Loaded as LoadedOf};
 ghost use Rattle.log_pairs.specs.Meanings.{AreLoadedPairs, AreOneGroup};
 ghost use Rattle.page_watch.specs.Watched.{WatchStands};
 
+use crate::recorded::{begin, load, record, shared};
 use fri_outside::MemFiles;
+use fri_text::Text;
 use friday_shell::Session;
-use group_record::run_record;
 use group_state::Group;
-use log_pairs::{Loaded, Pair, begin_all, load_all};
-use page_watch::{TouchView, Watch};
-use schedule_text::read_schedule;
+use log_pairs::{Loaded, Pair};
+use page_watch::Watch;
 use shared_module::SharedModule;
 use std::alloc::{AllocError, Global};
-use std::cell::Cell;
 use std::marker::Brand;
 use std::process::Abort;
 use std::sync::ledger::{Blank, Ledger};
 use std::test::Fail;
-use wasm_decode::decode;
-use wasm_validate::validate;
-use watch_expr::{Agg, Expr, NodeName, Steps, View, Width};
+use watch_expr::{Agg, Expr, NodeName, Steps, Width};
 
 // It counts up at 64, sends the number to process 1, and takes an answer, again and again.
 const PING: &[u8] = b"\0asm\x01\0\0\0\x01\x0b\x02`\x03\x7f\x7f\x7f\x01\x7f`\0\0\
@@ -61,121 +58,50 @@ const PAIR: &[Pair<'static>] = &[Pair {
     log_file: "a.log",
 }];
 
+// The name of a module's file, and its bytes.
+type Guest = (&'static str, &'static [u8]);
+
+const GUESTS: &[Guest] = &[("ping.wasm", PING), ("pong.wasm", PONG)];
+
+fn add_guest(
+    alloc: Global,
+    guest: &Guest,
+    files: &mut MemFiles,
+    modules: &mut Vec<SharedModule>,
+) -> Result<(), Fail> {
+    files.put(guest.0, guest.1)?;
+    modules.push(shared(alloc, guest.1)?)?;
+    Ok(())
+}
+
 // The files of a recording over these modules, one for each process.
 fn files(
     rt: &(impl Abort + AllocGlobal),
     schedule: &str,
-    guests: &[(&'static str, &'static [u8])],
+    guests: &[Guest],
 ) -> Result<MemFiles, Fail> {
     let alloc = rt.alloc();
-    let schedule = read_schedule(alloc, schedule.as_bytes())?;
     let mut files = MemFiles::new(alloc);
     let mut modules = Vec::new(alloc);
-    for (name, bytes) in guests {
-        files.put(name, bytes)?;
-        modules.push(module(alloc, bytes)?)?;
+    for guest in guests {
+        add_guest(alloc, guest, &mut files, &mut modules)?;
     }
-    assert_eq!(rt; modules.len(), schedule.processes().len());
-    run_record(alloc, &schedule, &modules, &mut files, false)?;
+    record(rt, schedule.as_bytes(), &modules, &mut files)?;
     Ok(files)
 }
 
-fn module(alloc: Global, bytes: &[u8]) -> Result<SharedModule, Fail> {
-    let decoded = decode(alloc, bytes)?;
-    Ok(SharedModule::new(alloc, validate(alloc, decoded)?)?)
-}
-
-fn begin<'m>(alloc: Global, all: &'m [Loaded<'_>]) -> Result<Group<'m, 'm>, Fail>
-    requires loaded { (ls : List LoadedOf) × AreLoadedPairs all.now ls }
-    requires apart { AreOneGroup all.now }
-    ensures { IfOk result (λ group. group.at ≡ 0) }
+// What was recorded of this schedule.
+fn recorded(
+    rt: &(impl Abort + AllocGlobal),
+    schedule: &str,
+    guests: &[Guest],
+    pairs: &[Pair<'static>],
+) -> Result<Vec<Loaded<'static>>, Fail>
+    ensures loaded { IfOk result (λ all. (ls : List LoadedOf) × AreLoadedPairs all.items ls) }
+    ensures apart { IfOk result (λ all. AreOneGroup all.items) }
 {
-    let Ok(replayers) = begin_all(alloc, all) else {
-        return Err("no replays".into());
-    };
-    Ok(Group::begin(alloc, replayers)?)
-}
-
-// A group that counts how often a part of a memory is asked of it.
-#[derive(Drop)]
-struct Counting<'g, 'm, 'a> {
-    group: &'g Group<'m, 'a>,
-    loads: Cell<u64>,
-}
-
-impl<'g, 'm, 'a> View for Counting<'g, 'm, 'a> {
-    ghost use Rattle.group_state.specs.Nodes.{nodes_at};
-
-    ghost nodes = { λ c. nodes_at c.group.now };
-
-    fn node_count(&self) -> u32 {
-        self.group.node_count()
-    }
-
-    fn lent(&self, node: u32, addr: u64, len: u64) -> Option<&[u8]> {
-        self.loads.set(self.loads.get().wrapping_add(1));
-        self.group.lent(node, addr, len)
-    }
-
-    fn global(&self, node: u32, n: u32) -> Option<i64> {
-        self.group.global(node, n)
-    }
-
-    fn clock(&self, node: u32) -> i64 {
-        self.group.clock(node)
-    }
-
-    fn events(&self, node: u32) -> i64 {
-        self.group.events(node)
-    }
-
-    fn pages(&self, node: u32) -> u32 {
-        self.group.pages(node)
-    }
-}
-
-impl<'g, 'm, 'a> TouchView for Counting<'g, 'm, 'a> {
-    ghost use Rattle.group_state.specs.Nodes.{nodes_at};
-    ghost use Rattle.group_state.specs.Touch.{mark_of_place};
-
-    ghost states = { λ c k. nodes_at (record { start = c.group.now.start; at = k }) };
-
-    ghost at = { λ c. c.group.now.at };
-
-    ghost marks = { λ c. mark_of_place c.group.now.start c.group.now.at };
-
-    fn position(&self) -> u64 {
-        TouchView::position(self.group)
-    }
-
-    fn last_node(&self) -> Option<u32> {
-        self.group.last_node()
-    }
-
-    fn stamp(&self, node: u32, page: u32) -> u64 {
-        self.group.stamp(node, page)
-    }
-
-    fn global_stamp(&self, node: u32, n: u32) -> u64 {
-        self.group.global_stamp(node, n)
-    }
-
-    fn moved(&self, node: u32) -> u64 {
-        self.group.moved(node)
-    }
-
-    fn resized(&self, node: u32) -> u64 {
-        self.group.resized(node)
-    }
-}
-
-fn view_of<'g, 'm, 'a>(group: &'g Group<'m, 'a>) -> Counting<'g, 'm, 'a>
-    ensures { result.group.now ≡ group.now }
-{
-    Counting {
-        group,
-        loads: Cell::new(0),
-    }
+    let mut files = files(rt, schedule, guests)?;
+    load(rt.alloc(), pairs, &mut files)
 }
 
 // `sum(@_.u32[64])`
@@ -185,30 +111,84 @@ fn summed(alloc: Global) -> Result<Expr, Fail> {
     Ok(Expr::Over(Agg::Sum, Box::new(alloc, load)?))
 }
 
-// The group after its next event, with the watch, and whether that loaded.
+// The group after its next event.
+fn next<'m>(group: Group<'m, 'm>) -> Result<Group<'m, 'm>, Fail>
+    ensures { IfOk result (λ next. next ≡ record { start = group.entry.start; at = group.entry.at + 1 }) }
+{
+    let (group, event) = group.forward()?;
+    match event {
+        Some(_) => Ok(group),
+        None => Err("no event".into()),
+    }
+}
+
+// Adds whether the watch loads after the event that was made last.
+fn add_load<L: Ledger>(
+    alloc: Global,
+    group: &Group<'_, '_>,
+    watch: &mut Watch,
+    steps: &mut Steps<L>,
+    loads: &mut Vec<bool>,
+) -> Result<(), AllocError>
+    requires position { 0 < group.now.at }
+    requires stands { WatchStands watch.old (nodes_at (record { start = group.now.start; at = group.now.at - 1 })) }
+    ensures { OnOk result (WatchStands watch.new (nodes_at group.now)) }
+{
+    let before = group.work().loads;
+    watch.after_event(alloc, group, steps)?;
+    loads.push(group.work().loads != before)?;
+    Ok(())
+}
+
+// The group after its next event, over which the watch stands.
 fn step<'m, L: Ledger>(
     alloc: Global,
     group: Group<'m, 'm>,
-    mut watch: Watch,
+    watch: &mut Watch,
     steps: &mut Steps<L>,
-) -> Result<(Group<'m, 'm>, Watch, bool), Fail>
-    requires { WatchStands watch (nodes_at group) }
-    ensures { IfOk result (λ done. WatchStands done.1 (nodes_at done.0)) }
+    loads: &mut Vec<bool>,
+) -> Result<Group<'m, 'm>, Fail>
+    requires { WatchStands watch.old (nodes_at group) }
+    ensures { IfOk result (λ next. WatchStands watch.new (nodes_at next)) }
 {
-    let (group, event) = group.forward()?;
-    if event.is_none() {
-        return Err("no event".into());
-    }
-    let view = view_of(&group);
-    watch.after_event(alloc, &view, steps)?;
-    let loads = view.loads.get() > 0;
-    Ok((group, watch, loads))
+    let next = next(group)?;
+    add_load(alloc, &next, watch, steps, loads)?;
+    Ok(next)
 }
 
-// Whether the watch loads at each position from 1 on.
+// Whether the watch loads at each position.
 const LOADS: &[bool] = &[
-    true, false, false, true, false, true, false, true, false, true, false,
+    true, true, false, false, true, false, true, false, true, false, true, false,
 ];
+
+// A watch over a group that nothing was asked of.
+fn begin_watch<L: Ledger>(
+    alloc: Global,
+    group: &Group<'_, '_>,
+    steps: &mut Steps<L>,
+    loads: &mut Vec<bool>,
+) -> Result<Watch, Fail>
+    ensures { IfOk result (λ watch. WatchStands watch (nodes_at group.now)) }
+{
+    let watch = Watch::new(alloc, summed(alloc)?, group, steps)?;
+    loads.push(group.work().loads > 0)?;
+    Ok(watch)
+}
+
+// The watch's last value, after as many positions as there are in `LOADS`.
+fn walk<'m, L: Ledger>(
+    alloc: Global,
+    group: Group<'m, 'm>,
+    steps: &mut Steps<L>,
+    loads: &mut Vec<bool>,
+) -> Result<Option<i64>, Fail> {
+    let mut watch = begin_watch(alloc, &group, steps, loads)?;
+    let mut group = group;
+    'events: for _ in 1..LOADS.len() {
+        group = step(alloc, group, &mut watch, steps, loads)?;
+    }
+    Ok(watch.value())
+}
 
 fn assert_touched<'m, L: Ledger>(
     rt: &(impl Abort + AllocGlobal),
@@ -220,100 +200,131 @@ fn assert_touched<'m, L: Ledger>(
     requires some { 0 < blank.parts }
 {
     let mut steps = Steps::<L>::new(blank);
-    let view = view_of(&group);
-    let mut watch = Watch::new(rt.alloc(), summed(rt.alloc())?, &view, &mut steps)?;
-    assert!(rt; view.loads.get() > 0);
-    let mut group = group;
-    for loads in LOADS {
-        let (next, asked, did) = step(rt.alloc(), group, watch, &mut steps)?;
-        assert_eq!(rt; did, *loads);
-        group = next;
-        watch = asked;
-    }
-    assert_eq!(rt; watch.value(), Some(4));
+    let mut loads = Vec::new(rt.alloc());
+    let value = walk(rt.alloc(), group, &mut steps, &mut loads)?;
+    assert_eq!(rt; loads.as_slice(), LOADS);
+    assert_eq!(rt; value, Some(4));
     Ok(())
 }
 
 #[test]
 fn a_watch_loads_where_its_bytes_were_touched(rt: HostRuntime) -> Result<(), Fail> {
-    let mut files = files(&rt, BOTH, &[("ping.wasm", PING), ("pong.wasm", PONG)])?;
-    let Ok(all) = load_all(rt.alloc(), PAIRS, &mut files) else {
-        return Err("no logs".into());
-    };
+    let all = recorded(&rt, BOTH, GUESTS, PAIRS)?;
     assert_touched::<Brand>(&rt, begin(rt.alloc(), &all)?, Blank::new(1))
 }
 
-// The session after a line, and how often that loaded.
-fn loads_of<'m, L: Ledger>(
+fn begin_session<'m>(alloc: Global, group: Group<'m, 'm>) -> Result<Session<'m, 'm>, AllocError>
+    requires { group.at ≡ 0 }
+{
+    let (session, _) = Session::begin(alloc, group)?;
+    Ok(session)
+}
+
+// How often a session's group had loaded before a line, and the answer of that.
+#[derive(Drop)]
+struct Said {
+    loads: u64,
+    text: Text,
+}
+
+fn loads_of(session: &Session<'_, '_>) -> u64 {
+    session.group().work().loads
+}
+
+// The session after a line.
+fn say<'m, L: Ledger>(
     alloc: Global,
     session: Session<'m, 'm>,
     line: &[u8],
     steps: &mut Steps<L>,
-) -> Result<(Session<'m, 'm>, u64), AllocError> {
-    let before = session.group().work().loads;
-    let (session, _, _) = session.answer_line(alloc, line, steps)?;
-    let loads = session.group().work().loads.wrapping_sub(before);
-    Ok((session, loads))
+    all: &mut Vec<Said>,
+) -> Result<Session<'m, 'm>, AllocError> {
+    let loads = loads_of(&session);
+    let (session, text, _) = session.answer_line(alloc, line, steps)?;
+    all.push(Said { loads, text })?;
+    Ok(session)
 }
 
-fn assert_loads<'m, L: Ledger>(
-    rt: &(impl Abort + AllocGlobal),
-    group: Group<'m, 'm>,
-    blank: Blank,
-) -> Result<(), Fail>
-    requires at { group.at ≡ 0 }
-    requires name { blank.name ≡ L.name }
-    requires parts { blank.parts ≡ L.parts }
-    requires some { 0 < blank.parts }
-{
-    let mut steps = Steps::<L>::new(blank);
-    let (session, _) = Session::begin(rt.alloc(), group)?;
-    let (session, none) = loads_of(rt.alloc(), session, b"watch sum(@_.u32[64])", &mut steps)?;
-    assert_eq!(rt; none, 0);
-    let (mut session, two) = loads_of(rt.alloc(), session, b"continue", &mut steps)?;
-    assert!(rt; two > 0);
-    for times in [2, 3, 2, 1] {
-        let (next, loads) = loads_of(rt.alloc(), session, b"continue", &mut steps)?;
-        assert_eq!(rt; loads.wrapping_mul(2), two.wrapping_mul(times));
-        session = next;
+fn say_all<'m, L: Ledger>(
+    alloc: Global,
+    session: Session<'m, 'm>,
+    lines: &[&[u8]],
+    steps: &mut Steps<L>,
+    all: &mut Vec<Said>,
+) -> Result<(), AllocError> {
+    let mut session = session;
+    for line in lines {
+        session = say(alloc, session, line, steps, all)?;
     }
     Ok(())
 }
 
-#[test]
-fn a_session_loads_where_bytes_were_touched(rt: HostRuntime) -> Result<(), Fail> {
-    let mut files = files(&rt, BOTH, &[("ping.wasm", PING), ("pong.wasm", PONG)])?;
-    let Ok(all) = load_all(rt.alloc(), PAIRS, &mut files) else {
-        return Err("no logs".into());
-    };
-    assert_loads::<Brand>(&rt, begin(rt.alloc(), &all)?, Blank::new(1))
-}
-
-fn assert_grows<'m, L: Ledger>(
-    rt: &(impl Abort + AllocGlobal),
+// What is said in a session of these lines over the group.
+fn said_in<'m, L: Ledger>(
+    alloc: Global,
     group: Group<'m, 'm>,
+    lines: &[&[u8]],
     blank: Blank,
-) -> Result<(), Fail>
+) -> Result<Vec<Said>, AllocError>
     requires at { group.at ≡ 0 }
     requires name { blank.name ≡ L.name }
     requires parts { blank.parts ≡ L.parts }
     requires some { 0 < blank.parts }
 {
     let mut steps = Steps::<L>::new(blank);
-    let (session, _) = Session::begin(rt.alloc(), group)?;
-    let (session, _, _) = session.answer_line(rt.alloc(), b"watch @a.u32[65536]", &mut steps)?;
-    let (session, text, _) = session.answer_line(rt.alloc(), b"continue", &mut steps)?;
-    assert!(rt; text.bytes() == b"watch 1: undef -> 0\nat 2: 2 a 0 me = 0\n".as_slice());
-    let (_, text, _) = session.answer_line(rt.alloc(), b"rcontinue", &mut steps)?;
-    assert!(rt; text.bytes() == b"start\nat 0\n".as_slice());
+    let session = begin_session(alloc, group)?;
+    let mut all = Vec::new(alloc);
+    say_all(alloc, session, lines, &mut steps, &mut all)?;
+    Ok(all)
+}
+
+// The last does nothing, but tells how often those before it loaded.
+const WATCHING: &[&[u8]] = &[
+    b"watch sum(@_.u32[64])",
+    b"continue",
+    b"continue",
+    b"continue",
+    b"continue",
+    b"continue",
+    b"",
+];
+
+// How often each line but the last loads, in halves of how often the first `continue` did.
+const HALVES: &[u64] = &[0, 2, 2, 3, 2, 1];
+
+fn assert_loads(rt: &impl Abort, said: &[Said]) {
+    assert_eq!(rt; said.len(), HALVES.len() + 1);
+    assert_eq!(rt; said[1].loads, said[0].loads);
+    let two = said[2].loads.wrapping_sub(said[1].loads);
+    assert!(rt; two > 0);
+    for (n, halves) in HALVES.iter().enumerate() {
+        let loads = said[n + 1].loads.wrapping_sub(said[n].loads);
+        assert_eq!(rt; loads.wrapping_mul(2), two.wrapping_mul(*halves));
+    }
+}
+
+#[test]
+fn a_session_loads_where_bytes_were_touched(rt: HostRuntime) -> Result<(), Fail> {
+    let all = recorded(&rt, BOTH, GUESTS, PAIRS)?;
+    let group = begin(rt.alloc(), &all)?;
+    let said = said_in::<Brand>(rt.alloc(), group, WATCHING, Blank::new(1))?;
+    assert_loads(&rt, &said);
     Ok(())
+}
+
+const WALKING: &[&[u8]] = &[b"watch @a.u32[65536]", b"continue", b"rcontinue"];
+
+fn assert_grows(rt: &impl Abort, said: &[Said]) {
+    assert_eq!(rt; said.len(), 3);
+    assert!(rt; said[1].text.bytes() == b"watch 1: undef -> 0\nat 2: 2 a 0 me = 0\n".as_slice());
+    assert!(rt; said[2].text.bytes() == b"start\nat 0\n".as_slice());
 }
 
 #[test]
 fn memory_that_grows_is_read(rt: HostRuntime) -> Result<(), Fail> {
-    let mut files = files(&rt, ALONE, &[("a.wasm", GROWING)])?;
-    let Ok(all) = load_all(rt.alloc(), PAIR, &mut files) else {
-        return Err("no logs".into());
-    };
-    assert_grows::<Brand>(&rt, begin(rt.alloc(), &all)?, Blank::new(1))
+    let all = recorded(&rt, ALONE, &[("a.wasm", GROWING)], PAIR)?;
+    let group = begin(rt.alloc(), &all)?;
+    let said = said_in::<Brand>(rt.alloc(), group, WALKING, Blank::new(1))?;
+    assert_grows(&rt, &said);
+    Ok(())
 }

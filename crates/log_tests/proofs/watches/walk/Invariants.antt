@@ -1,0 +1,6 @@
+use Rattle.group_state.specs.Nodes.{nodes_at}
+use Rattle.page_watch.specs.Watched.{WatchStands}
+use Rattle.log_tests.proofs.watches.walk.Given as goal
+
+abbrev pub invariant-events : goal.invariant-events
+invariant-events g l = WatchStands l.watch (nodes_at l.group)
