@@ -1,12 +1,10 @@
 -- When the places of a group were touched last.
-use Rattle.std.proofs.Common.{◌≡◌, ◌<◌, ◌≤◌, ℕ, zero, suc, ◌+◌, ◌==◌, ◌&&◌, Bool, true, false, cond, List, [], ◌∷◌, ◌++◌, length, length-take, map, get_or, set, take, Option, Some, None, inl, inr, refl, sym, ap, ◌∙◌, subst, arith}
-use Rattle.std.specs.Prelude.{All, option_map, slice_get, slice_index_or}
-use Rattle.std.specs.List.{AllByRecursion}
+use Rattle.std.proofs.Common.{◌≡◌, ◌<◌, ◌≤◌, ℕ, zero, suc, ◌+◌, ◌==◌, ◌&&◌, Bool, true, false, cond, List, [], ◌∷◌, ◌++◌, length, length-take, set, take, Option, Some, None, inl, inr, refl, sym, ap, ◌∙◌, subst, arith}
+use Rattle.std.specs.Prelude.{option_map, slice_get, slice_index_or}
 use Rattle.std.proofs.Math.Seq.{get_or-append_seam}
-use Rattle.std.proofs.lemmas.Bool.{cases_Bool, cases_eq, eqb-true}
+use Rattle.std.proofs.lemmas.Bool.{cases_eq, eqb-true}
 use Rattle.std.proofs.lemmas.Bool.Decides.{nat_tests}
 use Rattle.std.proofs.lemmas.List.{get_or_append_left, length-append, take_more}
-use Rattle.std.proofs.lemmas.List.Elements.{recursion_from_All}
 use Rattle.std.proofs.lemmas.Option.{get_or_from_slice_get, same_Some, slice_get-map, slice_get_past, slice_get_within}
 use Rattle.guest_memory.specs.Stamps.{AreWithin}
 use Rattle.lib_calls.specs.declared.entry.Entry.{Entry}
@@ -22,8 +20,7 @@ use Rattle.watch_expr.specs.declared.reads.Place.{Place as Location}
 use Rattle.watch_expr.specs.declared.reads.Place.TheVariants as location
 use Rattle.page_watch.specs.Touch.{node_of}
 use Rattle.group_state.specs.Laws.{IsStepOfGroup}
-use Rattle.group_state.specs.inside.Motions.{nth_position, positions, positions_from}
-use Rattle.group_state.specs.Moves.{event_before}
+use Rattle.group_state.specs.inside.Motions.{nth_position, positions}
 use Rattle.group_state.specs.Place.{AreGroupReplays, ReplaysFit, events_of_replays, states_of_nodes}
 use Rattle.group_state.specs.Touch.{is_touched_by, is_touched_in, mark_of_place, mark_in, is_touched_at}
 use Rattle.group_state.proofs.NodeMoves.{one_more_other, one_more_own}

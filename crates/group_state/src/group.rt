@@ -92,6 +92,39 @@ impl<'m, 'a> Course<'m, 'a> {
         Ok(())
     }
 
+    // Goes on to position k, which it has not passed, and tells whether it came there; else it is at the end.
+    fn advance_to(&mut self, k: u64) -> Result<bool, AllocError>
+        requires sound { IsSoundCourse self.old }
+        requires ahead { self.old.here.at ≤ k }
+        ensures sound { OnOk result (IsSoundCourse self.new) }
+        ensures start { OnOk result (self.new.start.items ≡ self.old.start.items) }
+        ensures there { IfOk result (λ there. IsTrue there → self.new.here.at ≡ k) }
+        ensures within { IfOk result (λ there. IsTrue there ↔ k ≤ length (events_of_replays self.old.start.items)) }
+    {
+        'events: while self.here.at < k {
+            if self.forward()?.is_none() {
+                return Ok(false);
+            }
+        }
+        Ok(true)
+    }
+
+    // Goes to position k, from where it comes there soonest. Where there are fewer events, it is as it was.
+    fn goto(&mut self, alloc: Global, k: u64) -> Result<bool, AllocError>
+        requires { IsSoundCourse self.old }
+        ensures sound { OnOk result (IsSoundCourse self.new) }
+        ensures goes { IfOk result (IsAtPosition (place_of_course self.old) k (place_of_course self.new)) }
+    {
+        let at = self.here.at;
+        self.go_near(alloc, k)?;
+        if self.advance_to(k)? {
+            return Ok(true);
+        }
+        self.go_near(alloc, at)?;
+        self.advance_to(at)?;
+        Ok(false)
+    }
+
     // The replay of a node, at the position.
     fn replay(&self, node: u32) -> Option<&Replayer<'m, 'a>>
         requires { IsSoundCourse self.now }
@@ -164,41 +197,9 @@ impl<'m, 'a> Group<'m, 'a> {
     pub fn goto(self, alloc: Global, k: u64) -> Result<(Group<'m, 'a>, bool), AllocError>
         ensures { IfOk result (λ went. IsAtPosition self.entry k went.0 went.1) }
     {
-        let at = self.course.here.at;
-        let (reached, there) = self.near(alloc, k)?.advance_to(k)?;
-        if there {
-            return Ok((reached, true));
-        }
-        let (back, _) = reached.near(alloc, at)?.advance_to(at)?;
-        Ok((back, false))
-    }
-
-    // The group from where it comes to position k soonest.
-    fn near(self, alloc: Global, k: u64) -> Result<Group<'m, 'a>, AllocError>
-        ensures start { IfOk result (λ group. group.start ≡ self.entry.start) }
-        ensures at { IfOk result (λ group. group.at ≤ k) }
-    {
         let Group { mut course } = self;
-        course.go_near(alloc, k)?;
-        Ok(Group { course })
-    }
-
-    // The group at position k, which it has not passed, and true; or at its end, and false.
-    fn advance_to(self, k: u64) -> Result<(Group<'m, 'a>, bool), AllocError>
-        requires { self.at ≤ k }
-        ensures start { IfOk result (λ went. went.0.start ≡ self.entry.start) }
-        ensures there { IfOk result (λ went. IsTrue went.1 → went.0.at ≡ k) }
-        ensures within { IfOk result (λ went. IsTrue went.1 ↔ k ≤ length (events_of_replays self.entry.start)) }
-    {
-        let mut group = self;
-        'events: while group.course.here.at < k {
-            let (next, event) = group.forward()?;
-            group = next;
-            if event.is_none() {
-                return Ok((group, false));
-            }
-        }
-        Ok((group, true))
+        let there = course.goto(alloc, k)?;
+        Ok((Group { course }, there))
     }
 
     // What is behind the box. The calls that show the group begin with it, so that each need not show again that it is sound.

@@ -4,7 +4,6 @@ use Rattle.proc_replay.specs.declared.turn.Turn.{Turn}
 use Rattle.proc_replay.specs.Replaying.{Replaying, after_replay_turn, turn, Diverges, Ends, Makes, ReplayMove}
 use Rattle.proc_replay.specs.Meanings.{move_of}
 use Rattle.guest_process.specs.declared.verdict.Verdict.{Verdict}
-use Rattle.guest_process.specs.Replay.{verdict}
 use Rattle.proc_replay.specs.Course.{TellsVerdict, outcome_of_replay}
 
 -- a node had this turn, and the other nodes are as they were
