@@ -33,17 +33,38 @@ mod outcome;
 mod play;
 
 use play::Session;
+use std::alloc::Global;
 use std::io::{self, BufRead, BufReader, BufWriter, Write};
+
+// Does what a line asks for, and prints what came of it.
+fn play_line<W: Write>(
+    session: &mut Session,
+    number: usize,
+    line: &str,
+    out: &mut W,
+) -> io::Result<()> {
+    match session.perform(line) {
+        Ok(text) => out.write_all(text.as_bytes()),
+        Err(error) => writeln!(out, "line {number}: {error}"),
+    }
+}
+
+fn play_script<R: BufRead + Drop, W: Write>(
+    alloc: Global,
+    script: R,
+    out: &mut W,
+) -> io::Result<()> {
+    let mut session = Session::new(alloc);
+    for (index, line) in script.lines(alloc).enumerate() {
+        play_line(&mut session, index + 1, line?.as_str(), out)?;
+    }
+    Ok(())
+}
 
 fn main(rt: HostRuntime) -> io::Result<()> {
     let alloc = rt.alloc();
+    let script = BufReader::new(alloc, rt.reader())?;
     let mut out = BufWriter::new(alloc, io::writer(&rt))?;
-    let mut session = Session::new(alloc);
-    for (index, line) in BufReader::new(alloc, rt.reader())?.lines(alloc).enumerate() {
-        match session.perform(line?.as_str()) {
-            Ok(text) => out.write_all(text.as_bytes())?,
-            Err(error) => writeln!(out, "line {}: {error}", index + 1)?,
-        }
-    }
+    play_script(alloc, script, &mut out)?;
     out.flush()
 }

@@ -109,31 +109,41 @@ fn set(rest: &str) -> anyhow::Result<Order<'_>> {
     })
 }
 
+fn cut(rest: &str) -> anyhow::Result<Order<'_>> {
+    let (name, len) = split_word(rest);
+    Ok(Order::Cut {
+        name,
+        len: number(len)?,
+    })
+}
+
+fn input(rest: &str) -> anyhow::Result<Order<'_>> {
+    let (piece, pieces) = split_word(rest);
+    Ok(Order::Input {
+        piece: number(piece)?,
+        pieces,
+    })
+}
+
 /// What the line asks for.
 pub fn read_order(line: &str) -> anyhow::Result<Order<'_>> {
     let (verb, rest) = split_word(line);
     let (name, pieces) = split_word(rest);
-    Ok(match verb {
-        "keep" => Order::Keep { name, pieces },
-        "case" => Order::Case(rest),
-        "file" => Order::File { name, pieces },
-        "add" => Order::Add { name, pieces },
-        "cut" => Order::Cut {
-            name,
-            len: number(pieces)?,
-        },
-        "set" => set(rest)?,
-        "input" => Order::Input {
-            piece: number(name)?,
-            pieces,
-        },
-        "fail" => fail(rest)?,
-        "run" => Order::Run(rest),
-        "sum" => Order::Sum(rest),
-        "cuts" => each(Change::Cut, rest)?,
-        "turns" => each(Change::Turn(0xff), rest)?,
-        "flips" => each(Change::Turn(1), rest)?,
-        "show" => Order::Show(rest),
+    match verb {
+        "keep" => Ok(Order::Keep { name, pieces }),
+        "case" => Ok(Order::Case(rest)),
+        "file" => Ok(Order::File { name, pieces }),
+        "add" => Ok(Order::Add { name, pieces }),
+        "cut" => cut(rest),
+        "set" => set(rest),
+        "input" => input(rest),
+        "fail" => fail(rest),
+        "run" => Ok(Order::Run(rest)),
+        "sum" => Ok(Order::Sum(rest)),
+        "cuts" => each(Change::Cut, rest),
+        "turns" => each(Change::Turn(0xff), rest),
+        "flips" => each(Change::Turn(1), rest),
+        "show" => Ok(Order::Show(rest)),
         _ => bail!("no line of a script begins with {verb}"),
-    })
+    }
 }

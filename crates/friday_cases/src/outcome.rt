@@ -21,11 +21,12 @@ impl Outcome {
     /// The status in the line of the command, and each line that was printed below it.
     pub fn tell(&self, alloc: Global) -> Result<String, AllocError> {
         let status = self.status;
+        let text = self.text();
         let mut told = format!(in alloc; "{status:?}\n")?;
-        for line in self.text().split_inclusive('\n') {
+        for line in text.split_inclusive('\n') {
             write!(told, "    {line}")?;
         }
-        if !self.text().is_empty() && !self.text().ends_with('\n') {
+        if !text.is_empty() && !text.ends_with('\n') {
             told.push_str("(no line feed)\n")?;
         }
         Ok(told)

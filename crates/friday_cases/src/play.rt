@@ -3,7 +3,7 @@
 use crate::bytes::spelled;
 use crate::order::{Change, Order, Side, read_order};
 use crate::outcome::Outcome;
-use anyhow::{Context, bail, ensure};
+use anyhow::{Context, ensure};
 use fri_outside::{MemFiles, MemSink, MemSource, MemTerminal};
 use friday_app::friday;
 use sha2::{Digest, Sha256};
@@ -15,6 +15,9 @@ const MOST_SHOWN: usize = 512;
 
 /// The bytes of a file that stand in one line.
 const ROW: usize = 32;
+
+/// What is said of a file that ends before a place.
+const SHORTER: &str = "the file is shorter";
 
 /// What was kept for all cases, and the files and the input of the one that was begun last.
 #[derive(Drop)]
@@ -49,10 +52,7 @@ impl Session {
         match read_order(line)? {
             Order::Keep { name, pieces } => self.keep(name, pieces),
             Order::Case(name) => self.begin(name),
-            Order::File { name, pieces } => {
-                let bytes = spelled(self.alloc, pieces, &self.kept)?;
-                self.put("file", name, &bytes)
-            }
+            Order::File { name, pieces } => self.file(name, pieces),
             Order::Add { name, pieces } => self.add(name, pieces),
             Order::Cut { name, len } => self.cut(name, len),
             Order::Set { name, at, pieces } => self.set(name, at, pieces),
@@ -92,6 +92,11 @@ impl Session {
         Ok(format!(in self.alloc; "{done} {name}: {len} bytes\n")?)
     }
 
+    fn file(&mut self, name: &str, pieces: &str) -> anyhow::Result<String> {
+        let bytes = spelled(self.alloc, pieces, &self.kept)?;
+        self.put("file", name, &bytes)
+    }
+
     // A copy of a file, which must be there.
     fn copy(&self, name: &str) -> anyhow::Result<Vec<u8>> {
         let bytes = self
@@ -110,17 +115,15 @@ impl Session {
 
     fn cut(&mut self, name: &str, len: usize) -> anyhow::Result<String> {
         let bytes = self.copy(name)?;
-        let front = bytes.get(..len).context("the file is shorter")?;
+        let front = bytes.get(..len).context(SHORTER)?;
         self.put("cut", name, front)
     }
 
     fn set(&mut self, name: &str, at: usize, pieces: &str) -> anyhow::Result<String> {
         let mut bytes = self.copy(name)?;
         let others = spelled(self.alloc, pieces, &self.kept)?;
-        let Some(end) = at.checked_add(others.len()) else {
-            bail!("the file is shorter");
-        };
-        ensure!(end <= bytes.len(), "the file is shorter");
+        let end = at.checked_add(others.len()).context(SHORTER)?;
+        ensure!(end <= bytes.len(), SHORTER);
         bytes[at..end].copy_from_slice(&others);
         self.put("set", name, &bytes)
     }
@@ -165,24 +168,40 @@ impl Session {
         Ok(format!(in self.alloc; "sum {words}: {status:?}\n    {len} bytes, SHA-256 {digits}\n")?)
     }
 
-    // Makes the call with the input from its beginning, and a fresh output.
-    fn call(&mut self, words: &str) -> Result<Outcome, AllocError> {
-        let words = split_words(self.alloc, words)?;
+    // The input from its beginning, whose chosen reads fail, once.
+    fn source(&mut self) -> Result<MemSource, AllocError> {
         let bytes = Vec::from_slice(self.alloc, &self.input)?;
         let mut input = MemSource::new(bytes, self.piece.max(1));
         for read in &self.failing_reads {
             input.fail_at(*read)?;
         }
+        self.failing_reads.clear();
+        Ok(input)
+    }
+
+    // A fresh output, whose chosen writes fail, once.
+    fn sink(&mut self) -> Result<MemSink, AllocError> {
         let mut output = MemSink::new(self.alloc);
         for write in &self.failing_writes {
             output.fail_at(*write)?;
         }
-        self.failing_reads.clear();
         self.failing_writes.clear();
-        let mut terminal = MemTerminal::new(self.alloc, input, output);
+        Ok(output)
+    }
+
+    fn call(&mut self, words: &str) -> Result<Outcome, AllocError> {
+        let words = split_words(self.alloc, words)?;
+        let input = self.source()?;
+        let mut terminal = MemTerminal::new(self.alloc, input, self.sink()?);
         let status = friday(self.alloc, &words, &mut self.files, &mut terminal);
         let printed = Vec::from_slice(self.alloc, terminal.bytes())?;
         Ok(Outcome { status, printed })
+    }
+
+    // Makes the call with these bytes as those of a file, and tells its outcome in a line.
+    fn call_with(&mut self, name: &str, bytes: &[u8], words: &str) -> Result<String, AllocError> {
+        self.files.put(name, bytes)?;
+        self.call(words)?.tell_in_line(self.alloc)
     }
 
     // Makes the call for each changed form of a file, which is as it was after that.
@@ -198,8 +217,7 @@ impl Session {
         let mut told = format!(in self.alloc; "run {words}, for each\n")?;
         for at in first..=last {
             let changed = changed(self.alloc, change, &whole, at)?;
-            self.files.put(name, &changed)?;
-            let outcome = self.call(words)?.tell_in_line(self.alloc)?;
+            let outcome = self.call_with(name, &changed, words)?;
             write!(told, "    {at}: {outcome}")?;
         }
         self.files.put(name, &whole)?;
@@ -212,16 +230,28 @@ impl Session {
         };
         let mut told = format!(in self.alloc; "show {name}: {} bytes\n", bytes.len())?;
         if bytes.len() > MOST_SHOWN {
-            let digits = digest_of(self.alloc, bytes)?;
-            write!(told, "    SHA-256 {digits}\n")?;
-            return Ok(told);
-        }
-        for row in bytes.chunks(ROW) {
-            let digits = hex::encode(self.alloc, row)?;
-            write!(told, "    {digits}\n")?;
+            push_digest(&mut told, bytes)?;
+        } else {
+            push_rows(&mut told, bytes)?;
         }
         Ok(told)
     }
+}
+
+// Adds the line of a long file.
+fn push_digest(told: &mut String, bytes: &[u8]) -> Result<(), AllocError> {
+    let digits = digest_of(*told.allocator(), bytes)?;
+    write!(told, "    SHA-256 {digits}\n")?;
+    Ok(())
+}
+
+// Adds the lines of a short file.
+fn push_rows(told: &mut String, bytes: &[u8]) -> Result<(), AllocError> {
+    for row in bytes.chunks(ROW) {
+        let digits = hex::encode(*told.allocator(), row)?;
+        write!(told, "    {digits}\n")?;
+    }
+    Ok(())
 }
 
 // The digits of the SHA-256.
@@ -242,14 +272,12 @@ fn split_words(alloc: Global, words: &str) -> Result<Vec<String>, AllocError> {
 fn changed(alloc: Global, change: Change, whole: &[u8], at: usize) -> anyhow::Result<Vec<u8>> {
     match change {
         Change::Cut => {
-            let front = whole.get(..at).context("the file is shorter")?;
+            let front = whole.get(..at).context(SHORTER)?;
             Ok(Vec::from_slice(alloc, front)?)
         }
         Change::Turn(bits) => {
             let mut bytes = Vec::from_slice(alloc, whole)?;
-            let Some(byte) = bytes.get_mut(at) else {
-                bail!("the file is shorter");
-            };
+            let byte = bytes.get_mut(at).context(SHORTER)?;
             *byte ^= bits;
             Ok(bytes)
         }

@@ -6,6 +6,7 @@
 #![tactic(auto)]
 
 use fri_outside::{MemFiles, MemSink, MemSource, MemTerminal};
+use friday_app::Status;
 use std::alloc::{AllocError, Global};
 use std::fs;
 use std::io::{self, Write};
@@ -30,26 +31,57 @@ fn recordable<R: Files + AllocGlobal>(rt: &R) -> io::Result<MemFiles> {
     Ok(files)
 }
 
-// Records with the first words and shows with the second, where this is typed.
+// A terminal on which this is typed.
+fn typing(alloc: Global, typed: &str) -> Result<MemTerminal, AllocError> {
+    let input = MemSource::new(Vec::from_slice(alloc, typed.as_bytes())?, 64);
+    Ok(MemTerminal::new(alloc, input, MemSink::new(alloc)))
+}
+
+// Records with the first words and shows with the second. Gives the second status, or that of the first call where it
+// stopped.
+fn call(
+    alloc: Global,
+    first: &str,
+    second: &str,
+    files: &mut MemFiles,
+    terminal: &mut MemTerminal,
+) -> Result<Result<Status, Status>, AllocError> {
+    let recording = split_words(alloc, first)?;
+    let showing = split_words(alloc, second)?;
+    Ok(record_and_show(alloc, &recording, &showing, files, terminal))
+}
+
+// What was printed, and how the calls ended.
+fn print<R: Print>(rt: &R, printed: &[u8], ended: Result<Status, Status>) -> io::Result<()> {
+    io::writer(rt).write_all(printed)?;
+    match ended {
+        Ok(status) => println!(rt; "status {}", status.number()),
+        Err(status) => println!(rt; "status {} of the first", status.number()),
+    }
+}
+
+// Makes both calls, where this is typed, and prints what came of them.
+fn play_over<R: Print + AllocGlobal>(
+    rt: &R,
+    files: &mut MemFiles,
+    first: &str,
+    second: &str,
+    typed: &str,
+) -> io::Result<()> {
+    let mut terminal = typing(rt.alloc(), typed)?;
+    let ended = call(rt.alloc(), first, second, files, &mut terminal)?;
+    print(rt, terminal.bytes(), ended)
+}
+
 fn play<R: Files + Print + AllocGlobal>(
     rt: &R,
     first: &str,
     second: &str,
     typed: &str,
 ) -> io::Result<()> {
-    let alloc = rt.alloc();
-    let mut files = recordable(rt)?;
-    let input = MemSource::new(Vec::from_slice(alloc, typed.as_bytes())?, 64);
-    let mut terminal = MemTerminal::new(alloc, input, MemSink::new(alloc));
-    let recording = split_words(alloc, first)?;
-    let showing = split_words(alloc, second)?;
     println!(rt; "friday {first}, friday {second}")?;
-    let ended = record_and_show(alloc, &recording, &showing, &mut files, &mut terminal);
-    io::writer(rt).write_all(terminal.bytes())?;
-    match ended {
-        Ok(status) => println!(rt; "status {}", status.number()),
-        Err(status) => println!(rt; "status {} of the first", status.number()),
-    }
+    let mut files = recordable(rt)?;
+    play_over(rt, &mut files, first, second, typed)
 }
 
 fn main(rt: HostRuntime) -> io::Result<()> {
