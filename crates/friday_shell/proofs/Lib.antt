@@ -1,5 +1,4 @@
 pub mod LineAnswers
-pub mod AttachAnswers
 pub mod EventLines
 pub mod ListLines
 pub mod ProcessNames

@@ -6,7 +6,7 @@ ghost use Rattle.friday_shell.specs.inside.Meanings.{PerformsCommand, session_st
 ghost use Rattle.shell_lines.specs.Spelled.{scope as scope_meant};
 ghost use Rattle.shell_points.specs.Meanings.{trigger as trigger_meant};
 
-use crate::state::{State, told};
+use crate::state::State;
 use crate::variables::MOST_VARIABLES;
 use embed_cmds::Program;
 use fri_text::Text;
@@ -19,79 +19,75 @@ use std::alloc::{AllocError, Global};
 const MOST_POINTS: usize = 64;
 
 /// A point more, which this line makes, unless there are as many as there may be.
-pub(crate) fn add<'m, 'a>(
+pub(crate) fn add(
     alloc: Global,
-    state: State<'m, 'a>,
+    state: &mut State<'_, '_>,
     line: &[u8],
     trigger: Trigger,
-) -> Result<(State<'m, 'a>, Text), AllocError>
-    ensures { IfOk result (λ done. PerformsCommand (adds_point (session_state state.entry) line.now (trigger_meant trigger)) (session_state done.0) done.1) }
+) -> Result<Text, AllocError>
+    ensures { IfOk result (λ text. PerformsCommand (adds_point (session_state state.old) line.now (trigger_meant trigger)) (session_state state.new) text) }
 {
-    if state.kept.points.count() >= MOST_POINTS {
-        return told(refused(alloc, LineRefusal::TooMany), state);
+    let kept = &mut state.kept;
+    if kept.points.count() >= MOST_POINTS {
+        return refused(alloc, LineRefusal::TooMany);
     }
-    let State { group, mut kept } = state;
     kept.made = kept.made.checked_add(1).ok_or(AllocError)?;
     kept.points.add(alloc, kept.made, line, trigger)?;
-    let text = numbered(alloc, "point ", kept.made);
-    told(text, State { group, kept })
+    numbered(alloc, "point ", kept.made)
 }
 
 /// A breakpoint more. Of one for a node that no process is, nothing is said.
-pub(crate) fn add_breakpoint<'m, 'a>(
+pub(crate) fn add_breakpoint(
     alloc: Global,
-    state: State<'m, 'a>,
+    state: &mut State<'_, '_>,
     line: &[u8],
     scope: WhichNodes,
     kind: Kind,
-) -> Result<(State<'m, 'a>, Text), AllocError>
-    ensures { IfOk result (λ done. PerformsCommand (breaks_at (session_state state.entry) line.now kind (scope_meant scope)) (session_state done.0) done.1) }
+) -> Result<Text, AllocError>
+    ensures { IfOk result (λ text. PerformsCommand (breaks_at (session_state state.old) line.now kind (scope_meant scope)) (session_state state.new) text) }
 {
     match scope {
         WhichNodes::Everywhere => add(alloc, state, line, Trigger::Break(None, kind)),
         WhichNodes::At(Some(node)) => add(alloc, state, line, Trigger::Break(Some(node), kind)),
-        WhichNodes::At(None) => Ok((state, Text::new(alloc))),
+        WhichNodes::At(None) => Ok(Text::new(alloc)),
     }
 }
 
 /// The point with this number is gone, where it is held.
-pub(crate) fn delete<'m, 'a>(
+pub(crate) fn delete(
     alloc: Global,
-    state: State<'m, 'a>,
+    state: &mut State<'_, '_>,
     number: u64,
-) -> Result<(State<'m, 'a>, Text), AllocError>
-    ensures { IfOk result (λ done. PerformsCommand (deletes_point (session_state state.entry) number) (session_state done.0) done.1) }
+) -> Result<Text, AllocError>
+    ensures { IfOk result (λ text. PerformsCommand (deletes_point (session_state state.old) number) (session_state state.new) text) }
 {
-    if !state.kept.points.is_held(number) {
-        return told(refused(alloc, LineRefusal::NoPoint), state);
+    let points = &mut state.kept.points;
+    if !points.is_held(number) {
+        return refused(alloc, LineRefusal::NoPoint);
     }
-    let State { group, mut kept } = state;
-    kept.points.remove(number);
-    let text = numbered(alloc, "deleted ", number);
-    told(text, State { group, kept })
+    points.remove(number);
+    numbered(alloc, "deleted ", number)
 }
 
 /// Attaches a program to the point with this number, in place of an older one, where it is held; and mentions all variables
 /// that the program sets, unless there were too many then.
-pub(crate) fn attach<'m, 'a>(
+pub(crate) fn attach(
     alloc: Global,
-    state: State<'m, 'a>,
+    state: &mut State<'_, '_>,
     number: u64,
     program: Program,
-) -> Result<(State<'m, 'a>, Text), AllocError>
-    ensures { IfOk result (λ done. PerformsCommand (attaches_program (session_state state.entry) number (program_body program)) (session_state done.0) done.1) }
+) -> Result<Text, AllocError>
+    ensures { IfOk result (λ text. PerformsCommand (attaches_program (session_state state.old) number (program_body program)) (session_state state.new) text) }
 {
-    let Some(index) = state.kept.points.index_of(number) else {
-        let text = refused(alloc, LineRefusal::NoPoint)?;
-        return Ok((state, text));
+    let kept = &mut state.kept;
+    let Some(index) = kept.points.index_of(number) else {
+        return refused(alloc, LineRefusal::NoPoint);
     };
-    let State { group, mut kept } = state;
     if !kept.variables.mention_all(alloc, &program, MOST_VARIABLES)? {
-        let text = refused(alloc, LineRefusal::TooMany)?;
-        return Ok((State { group, kept }, text));
+        return refused(alloc, LineRefusal::TooMany);
     }
     kept.points.attach(index, program);
-    Ok((State { group, kept }, Text::new(alloc)))
+    Ok(Text::new(alloc))
 }
 
 // A line of words and a number.

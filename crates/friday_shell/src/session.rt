@@ -2,18 +2,18 @@
 ghost use Rattle.std.specs.Prelude.{◌≡◌, ℕ, ◌+◌, ◌<◌, ◌≤◌, ◌^◌, IfOk, List, Ok, codes, length, true};
 ghost use Rattle.std.specs.Result.{IsOk};
 ghost use Rattle.group_state.specs.Place.{node_names};
-ghost use Rattle.friday_shell.specs.Answer.{answer, command_answer};
+ghost use Rattle.friday_shell.specs.Answer.{answer, answer_of_meaning, command_answer};
 ghost use Rattle.friday_shell.specs.Points.{SessionState};
-ghost use Rattle.friday_shell.specs.inside.Meanings.{IsLine};
+ghost use Rattle.friday_shell.specs.inside.Meanings.{session_state};
 ghost use Rattle.friday_shell.specs.Meanings.{IsLineAnswer, is_quit};
 ghost use Rattle.friday_shell.specs.Session.{opening_session};
-ghost use Rattle.friday_shell.specs.Ticks.{line_ticks};
-ghost use Rattle.shell_lines.specs.Meaning.{is_silent, line_meaning};
+ghost use Rattle.friday_shell.specs.Ticks.{line_ticks, meaning_ticks};
+ghost use Rattle.shell_lines.specs.Meaning.{is_silent, line_meaning, trimmed};
 ghost use Rattle.shell_lines.specs.Spelled.{command, meaning};
 ghost use Rattle.shell_lines.specs.declared.line.Line.TheVariants.{Silent};
 
 use crate::answer::perform;
-use crate::state::{PointsAndVariables, State};
+use crate::state::{PointsAndVariables, State, told};
 use embed_cmds::Vars;
 use fri_bytes::Bytes;
 use fri_text::Text;
@@ -41,7 +41,7 @@ pub struct Session<'m, 'a> {
 }
 
 impl<'m, 'a> Model for Session<'m, 'a> {
-    ghost use Rattle.std.specs.Prelude.{◌≡◌};
+    ghost use Rattle.std.specs.Prelude.{◌≡◌, ◌<◌, ◌^◌, length};
     ghost use Rattle.std.specs.Coded.{codes};
     ghost use Rattle.guest_process.specs.Coding.{crew_code, trees_code};
     ghost use Rattle.watch_expr.specs.Coding.{expression_code};
@@ -57,7 +57,7 @@ impl<'m, 'a> Model for Session<'m, 'a> {
 
     ghost view = { λ s. session_state s.state };
 
-    ghost invariant = { λ s. s.names.items ≡ node_names s.state.group.start };
+    ghost invariant = { λ s. (s.names.items ≡ node_names s.state.group.start) × (length s.names.items < 2 ^ 32) };
 }
 
 impl<'m, 'a> Session<'m, 'a> {
@@ -95,20 +95,9 @@ impl<'m, 'a> Session<'m, 'a> {
         ensures ticks { IfOk result (λ said. steps.new ≡ steps.old + line_ticks self.entry line.now said.0.place.at) }
     {
         let Session { state, names } = self;
-        let _ = state.group.nodes();
-        let meant = understood(alloc, line, &names)?;
-        match meant {
-            Line::Silent => Ok((Session { state, names }, Text::new(alloc), Go::On)),
-            Line::Refused(why) => {
-                let text = refused(alloc, why)?;
-                Ok((Session { state, names }, text, Go::On))
-            }
-            Line::Does(command) => {
-                let goes = go_after(&command);
-                let (state, text) = perform(alloc, state, trimmed(line), command, steps)?;
-                Ok((Session { state, names }, text, goes))
-            }
-        }
+        let meant = read_line(alloc, line, &names)?;
+        let (state, text, goes) = answer_meant(alloc, state, line, meant, steps)?;
+        Ok((Session { state, names }, text, goes))
     }
 
     /// The group, which is at the session's position.
@@ -119,14 +108,31 @@ impl<'m, 'a> Session<'m, 'a> {
     }
 }
 
-// What a line is, over a group whose processes have these names, and so what it answers.
-fn understood(alloc: Global, bytes: &[u8], names: &[Bytes]) -> Result<Line, AllocError>
-    requires { length names.now < 2 ^ 32 }
-    ensures line { IfOk result (IsLine names.now bytes.now) }
-    ensures meaning { IfOk result (λ line. meaning line ≡ line_meaning names.now bytes.now) }
-    ensures silent { length bytes.now ≤ 4096 → is_silent bytes.now ≡ true → result ≡ Ok Silent }
+// What a line answers that was read so, where the session then is, and whether it goes on.
+fn answer_meant<'m, 'a, L: Ledger>(
+    alloc: Global,
+    state: State<'m, 'a>,
+    line: &[u8],
+    meant: Line,
+    steps: &mut Steps<L>,
+) -> Result<(State<'m, 'a>, Text, Go), AllocError>
+    ensures answer { IfOk result (λ said. IsLineAnswer (answer_of_meaning (session_state state.entry) (trimmed line.now) (meaning meant)) (session_state said.0) said.1 said.2) }
+    ensures start { IfOk result (λ said. said.0.group.start ≡ state.entry.group.start) }
+    ensures silent { meant ≡ Silent → IsOk result }
+    ensures ticks { IfOk result (λ said. steps.new ≡ steps.old + meaning_ticks (session_state state.entry) (meaning meant) said.0.group.at) }
 {
-    read_line(alloc, bytes, names)
+    match meant {
+        Line::Silent => Ok((state, Text::new(alloc), Go::On)),
+        Line::Refused(why) => {
+            let (state, text) = told(refused(alloc, why), state)?;
+            Ok((state, text, Go::On))
+        }
+        Line::Does(command) => {
+            let goes = go_after(&command);
+            let (state, text) = perform(alloc, state, trimmed(line), command, steps)?;
+            Ok((state, text, goes))
+        }
+    }
 }
 
 // Whether a session goes on after a command.
@@ -141,7 +147,8 @@ fn go_after(spelled: &DebuggerCommand) -> Go
 
 // The names of a group's processes.
 fn node_names(alloc: Global, group: &Group<'_, '_>) -> Result<Vec<Bytes>, AllocError>
-    ensures { IfOk result (λ names. names.items ≡ node_names group.now.start) }
+    ensures names { IfOk result (λ names. names.items ≡ node_names group.now.start) }
+    ensures fits { IfOk result (λ names. length names.items < 2 ^ 32) }
 {
     let mut names = Vec::new(alloc);
     for node in 0..group.nodes() {

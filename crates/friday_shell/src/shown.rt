@@ -3,26 +3,17 @@ ghost use Rattle.std.specs.Prelude.{◌≡◌, IfOk};
 ghost use Rattle.friday_shell.specs.Answer.{memory_text, threads_of, value_text};
 ghost use Rattle.embed_cmds.specs.Running.{value_in};
 ghost use Rattle.group_state.specs.Nodes.{nodes_at};
-ghost use Rattle.group_texts.specs.Texts.{position_line};
 ghost use Rattle.watch_expr.specs.Expression.{expression_of};
 
 use crate::state::State;
+use crate::variables::value_here;
 use embed_cmds::push_value;
 use fri_text::Text;
 use group_state::Group;
-use group_texts::{push_position, push_process};
+use group_texts::push_process;
 use lib_calls::memory_part;
 use std::alloc::{AllocError, Global};
-use watch_expr::{Expr, eval};
-
-/// The position of a group.
-pub(crate) fn show_position(alloc: Global, group: &Group<'_, '_>) -> Result<Text, AllocError>
-    ensures { IfOk result (λ text. text ≡ position_line group.now) }
-{
-    let mut text = Text::new(alloc);
-    push_position(&mut text, group)?;
-    Ok(text)
-}
+use watch_expr::Expr;
 
 /// The value of an expression.
 pub(crate) fn print(
@@ -32,7 +23,7 @@ pub(crate) fn print(
 ) -> Result<Text, AllocError>
     ensures { IfOk result (λ text. text ≡ value_text (value_in (nodes_at state.now.group) state.now.kept.variables (expression_of expression.now))) }
 {
-    let value = eval(expression, &state.group, &state.kept.variables);
+    let value = value_here(state, expression);
     let mut text = Text::new(alloc);
     push_value(&mut text, value)?;
     text.push_str("\n")?;

@@ -1,12 +1,14 @@
 // The variables of a session.
 ghost use Rattle.std.specs.Prelude.{◌≡◌, ◌++◌, [], IfOk, OnOk};
 ghost use Rattle.std.specs.List.{flat_map};
-ghost use Rattle.friday_shell.specs.Answer.{command_answer, variable_text};
+ghost use Rattle.embed_cmds.specs.Running.{value_in};
+ghost use Rattle.friday_shell.specs.Answer.{command_answer, sets_variable, variable_text};
 ghost use Rattle.friday_shell.specs.inside.Meanings.{PerformsCommand, session_state};
+ghost use Rattle.group_state.specs.Nodes.{nodes_at};
 ghost use Rattle.shell_lines.specs.Lines.{SetTo};
 ghost use Rattle.watch_expr.specs.Expression.{expression_of};
 
-use crate::state::{State, told};
+use crate::state::State;
 use embed_cmds::{Vars, push_value};
 use fri_bytes::Bytes;
 use fri_text::Text;
@@ -17,24 +19,42 @@ use watch_expr::{Expr, eval};
 /// How many variables there are at most.
 pub(crate) const MOST_VARIABLES: usize = 256;
 
+/// The value of an expression where a session is.
+pub(crate) fn value_here(state: &State<'_, '_>, expression: &Expr) -> Option<i64>
+    ensures { result ≡ value_in (nodes_at state.now.group) state.now.kept.variables (expression_of expression.now) }
+{
+    eval(expression, &state.group, &state.kept.variables)
+}
+
 /// A variable gets the value of an expression, unless there were too many variables then.
-pub(crate) fn set<'m, 'a>(
+pub(crate) fn set(
     alloc: Global,
-    state: State<'m, 'a>,
+    state: &mut State<'_, '_>,
     name: &Bytes,
     expression: &Expr,
-) -> Result<(State<'m, 'a>, Text), AllocError>
-    ensures { IfOk result (λ done.
-        PerformsCommand (command_answer (session_state state.entry) [] (SetTo name.now (expression_of expression.now))) (session_state done.0) done.1) }
+) -> Result<Text, AllocError>
+    ensures { IfOk result (λ text.
+        PerformsCommand (command_answer (session_state state.old) [] (SetTo name.now (expression_of expression.now))) (session_state state.new) text) }
 {
-    let variables = &state.kept.variables;
-    if !variables.is_mentioned(name.as_slice()) && variables.names() >= MOST_VARIABLES {
-        return told(refused(alloc, LineRefusal::TooMany), state);
+    let value = value_here(state, expression);
+    set_value(alloc, state, name.as_slice(), value)
+}
+
+// A variable gets this value, unless there were too many variables then.
+fn set_value(
+    alloc: Global,
+    state: &mut State<'_, '_>,
+    name: &[u8],
+    value: Option<i64>,
+) -> Result<Text, AllocError>
+    ensures { IfOk result (λ text. PerformsCommand (sets_variable (session_state state.old) name.now value) (session_state state.new) text) }
+{
+    let variables = &mut state.kept.variables;
+    if !variables.is_mentioned(name) && variables.names() >= MOST_VARIABLES {
+        return refused(alloc, LineRefusal::TooMany);
     }
-    let value = eval(expression, &state.group, variables);
-    let State { group, mut kept } = state;
-    kept.variables.set(alloc, name.as_slice(), value)?;
-    Ok((State { group, kept }, Text::new(alloc)))
+    variables.set(alloc, name, value)?;
+    Ok(Text::new(alloc))
 }
 
 /// The name of each variable, and its value.

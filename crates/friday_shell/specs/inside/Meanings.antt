@@ -1,13 +1,14 @@
--- The session that the state of the code stands for, and what a line is to each session.
-use Rattle.std.specs.Prelude.{◌≡◌, ℕ, List}
-use Rattle.group_state.specs.Place.{GroupPlace, node_names}
+-- The session that the state of the code stands for, and what a command does to it.
+use Rattle.std.specs.Prelude.{◌≡◌, ℕ, suc, ◌++◌, Bool, true, false, List, Some, slice_get}
+use Rattle.group_order.specs.Order.{NodeEvent}
+use Rattle.group_state.specs.Place.{GroupPlace, events_of_replays}
+use Rattle.group_texts.specs.Texts.{event_line}
+use Rattle.lib_calls.specs.declared.entry.Entry.{Entry}
 use Rattle.friday_shell.specs.declared.state.PointsAndVariables.{PointsAndVariables}
 use Rattle.friday_shell.specs.declared.state.State.{State as Stands}
-use Rattle.shell_lines.specs.Meaning.{trimmed}
-use Rattle.shell_lines.specs.Spelled.{meaning}
-use Rattle.shell_lines.specs.declared.line.Line.{Line}
+use Rattle.shell_lines.specs.Lines.{Back, Continue, Events, Goto, LineCommand, Rcontinue, Step}
 use Rattle.friday_shell.specs.Points.{SessionState}
-use Rattle.friday_shell.specs.Answer.{LineAnswer, answer, answer_of_meaning}
+use Rattle.friday_shell.specs.Answer.{LineAnswer}
 
 -- what a session keeps, whose group is there
 abbrev pub state_with : GroupPlace → PointsAndVariables → SessionState
@@ -22,6 +23,19 @@ pub record PerformsCommand (answered : LineAnswer) (new : SessionState) (text : 
   pub text_is : text ≡ answered.text
   pub state : new ≡ answered.state
 
--- what a line is, over a group whose processes have these names: what each session over it answers
-abbrev pub IsLine : List (List ℕ) → List ℕ → Line → Type 0
-IsLine names bytes line = (state : SessionState) → node_names state.place.start ≡ names → answer state bytes ≡ answer_of_meaning state (trimmed bytes) (meaning line)
+-- a command that does not move the group, even for a while
+abbrev pub leaves_group : LineCommand → Bool
+leaves_group (Goto k) = false
+leaves_group (Step n) = false
+leaves_group (Back n) = false
+leaves_group (Events n) = false
+leaves_group Continue = false
+leaves_group Rcontinue = false
+leaves_group _ = true
+
+-- the next event was made, and its line written
+pub record WritesNext (old new : GroupPlace) (before after : List ℕ) : Type 0 where
+  pub event : NodeEvent Entry
+  pub gives : slice_get (events_of_replays old.start) old.at ≡ Some event
+  pub place : new ≡ record old { at = suc old.at }
+  pub written : after ≡ before ++ event_line old.start (suc old.at) event
