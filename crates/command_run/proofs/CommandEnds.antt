@@ -227,8 +227,6 @@ module _ (expected : Option CommandOutcome) (written : Folder → List (List ℕ
         faults = ended_faults ended answer old new p.counted f unheard;
         absent = grind (arith, common_steps);
         absent_text = absent_ends ended answer _ _ f.status f.text f.fault;
-        read_fault = grind (arith, common_steps);
-        write_fault = grind (arith, common_steps);
         out_fault = λ o e. let m = makes o e in grind (arith, common_steps);
       }
 
@@ -244,9 +242,11 @@ module _ (expected : Option CommandOutcome) (written : Folder → List (List ℕ
     diverged = diverged_ends may_diverge ended answer p.diverges f.status f.fault;
     done = done_ends ended answer f.status f.fault;
     came_to_end = is_end ended answer f.fault;
-    refused = refusal_ends ended answer _ _ old.counts new.counts f.status f.text f.fault p.cause;
-    read = reads_end ended answer old.counts new.counts f.read_fault f.fault p.cause;
-    unheard = unheard;
+    input = record {
+      unheard = unheard;
+      read = reads_end ended answer old.counts new.counts f.read_fault f.fault p.cause;
+      refused = refusal_ends ended answer _ _ old.counts new.counts f.status f.text f.fault p.cause;
+    };
   }
 
   -- for want of memory, before anything was read
@@ -261,8 +261,6 @@ module _ (expected : Option CommandOutcome) (written : Folder → List (List ℕ
     faults = refl;
     absent = λ is. absurd cc;
     absent_text = λ is. absurd cc;
-    read_fault = λ is. absurd cc;
-    write_fault = λ is. absurd cc;
     out_fault = λ e here is. absurd cc;
   }
 
@@ -285,8 +283,6 @@ words_end answer old new same usage prints reads counts writes unheard = record 
   faults = said_faults answer old new (ap (λ (c : Counts). c.reads) counts) (ap (λ (c : Counts). c.writes) counts) unheard writes reads;
   absent = λ is. let e : ends.Absent ≡ ends.Usage = sym is ∙ usage (subst IsAnswerStatus (sym is) tt) in cc;
   absent_text = λ is. let e : ends.Absent ≡ ends.Usage = sym is ∙ usage (subst IsAnswerStatus (sym is) tt) in absurd (usage_not_absent e);
-  read_fault = λ is. absurd (reads is);
-  write_fault = λ is. inr (omega (arith, writes ∙ ap (failed_says_after old.out_faults) is));
   out_fault = λ o e is. inr (same ∙ ap (λ w. with_files w old.told) (ap writes_of (same_Some _ _ e)));
 } where
   usage_not_absent : ends.Absent ≡ ends.Usage → ⊥

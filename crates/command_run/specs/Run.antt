@@ -1,5 +1,5 @@
 -- What a run of a command says, from one state of the outside to another.
-use Rattle.std.specs.Prelude.{◌≡◌, ◌≢◌, ◌⊎◌, ℕ, Bool, IsTrue, List, Option, Some, Result, IfErr}
+use Rattle.std.specs.Prelude.{◌≡◌, ◌≢◌, ◌⊎◌, ℕ, Bool, IsTrue, List, Option, Some, option_map, Result, IfErr}
 use Rattle.std.specs.Result.{IsOk}
 use Rattle.fri_outside.specs.Outside.{Folder, WhenTold, Counts, CountRose, raised_count}
 use Rattle.fri_outside.specs.Terminal.{Hearing}
@@ -68,10 +68,16 @@ pub record CallEnds (expected : Option CommandOutcome) (written : Folder → Lis
   pub faults : TellsFaults answer old new
   pub absent : answer ≡ ends.Absent → CountRose old.counts.misses new.counts.misses
   pub absent_text : answer ≡ ends.Absent → PrintsAbsent old.taken new.taken
-  pub read_fault : answer ≡ ends.ReadFault → CountRose old.counts.reads new.counts.reads ⊎ CountRose old.hearing.faults new.hearing.faults
-  pub write_fault : answer ≡ ends.WriteFault → CountRose old.counts.writes new.counts.writes ⊎ CountRose old.out_faults new.out_faults
   pub out_fault : WhenTold expected (λ outcome. answer ≡ ends.WriteFault
       → CountRose old.counts.writes new.counts.writes ⊎ (new.told ≡ with_files (writes_of outcome) old.told))
+
+-- ---- a command that reads no input
+
+-- the input stays as it was. So a read that failed was one of a file, and only a file is refused for its size
+pub record LeavesInput (old new : Outside) (answer : Status) : Type 0 where
+  pub unheard : new.hearing ≡ old.hearing
+  pub read : answer ≡ ends.ReadFault → CountRose old.counts.reads new.counts.reads
+  pub refused : answer ≡ ends.Refused → PrintsRefusal old.taken new.taken (λ file. CountRose old.counts.misses new.counts.misses)
 
 -- ---- a command that prints once, at its end
 
@@ -89,6 +95,10 @@ pub record Expectation : Type 0 where
 
 abbrev pub expectation : Option CommandOutcome → (Folder → List (List ℕ)) → Bool → Expectation
 expectation outcome written may_diverge = record { outcome = outcome; written = written; may_diverge = may_diverge }
+
+-- of a command whose outcome depends on the folder alone, and which may write the files of that outcome
+abbrev pub expected_by_folder : (Folder → CommandOutcome) → Option Folder → Bool → Expectation
+expected_by_folder outcome_of told may_diverge = expectation (option_map outcome_of told) (λ folder. written_names (outcome_of folder)) may_diverge
 
 -- the files at one moment, as far as they tell, with the counts of their faults
 pub record FileState : Type 0 where
@@ -115,6 +125,4 @@ pub record FinishedCommand (expected : Expectation) (ended : Result WorkText Sto
   pub diverged : answer ≡ ends.Diverged → IsTrue expected.may_diverge
   pub done : answer ≡ ends.Done → IsOk ended
   pub came_to_end : IsAnswerStatus answer → IsAnswerResult ended
-  pub refused : answer ≡ ends.Refused → PrintsRefusal old.taken new.taken (λ file. CountRose old.counts.misses new.counts.misses)
-  pub read : answer ≡ ends.ReadFault → CountRose old.counts.reads new.counts.reads
-  pub unheard : new.hearing ≡ old.hearing
+  pub input : LeavesInput old new answer

@@ -2,4 +2,5 @@ pub mod Cut
 pub mod Words
 pub mod Valid
 pub mod Laws
+pub mod Promises
 pub mod inside

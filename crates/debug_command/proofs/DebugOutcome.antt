@@ -1,5 +1,5 @@
 -- The outcome of `debug`, from what it read and what its session said.
-use Rattle.std.proofs.Common.{◌≡◌, ◌⊎◌, ◌∙◌, ℕ, Bool, true, false, cond, List, [], Option, Some, None, option_map, Result, Ok, Err, refl, sym, ap, subst, inl, inr, arith}
+use Rattle.std.proofs.Common.{◌≡◌, ◌⊎◌, ◌∙◌, ℕ, Bool, true, false, cond, List, [], Option, Some, None, option_map, Result, Ok, Err, refl, sym, ap, subst, inl, inr}
 use Rattle.std.specs.Prelude.{⊤, option_and_then}
 use Rattle.std.proofs.lemmas.Option.{same_Some}
 use Rattle.fri_outside.specs.Outside.{Folder, CountRose, WhenTold}
@@ -72,9 +72,9 @@ run_refused pairs e answer old new f = record {
   call = f.call;
   is_command = f.is_command;
   no_divergence = λ is. let never = f.diverged is in cc;
-  input = inl (f.unheard, λ is. let never = f.done is in cc);
-  answered = λ is quiet. absurd (quiet (f.read is));
-  refused = λ is. other_refusal old new (f.refused is);
+  input = inl (f.input.unheard, λ is. let never = f.done is in cc);
+  answered = λ is quiet. absurd (quiet (f.input.read is));
+  refused = λ is. other_refusal old new (f.input.refused is);
 }
 
 -- ---- a session was held
@@ -110,13 +110,6 @@ session_makes_none : (start : List Replaying) (left : Option (List ℕ)) (o : Co
 session_makes_none start left o s =
     ap writes_of s.outcome ∙ makes_none (is_large_input start s.input) (session_text start (early_lines s.input)) (session_text start (lines_of s.input))
 
--- a count that was told rose
-heard_rose : (answer : Status) (old new : ℕ) → new ≡ heard_after old answer → answer ≡ ends.ReadFault → CountRose old new
-heard_rose answer old new is fault = omega (arith, is ∙ ap (heard_after old) fault)
-
-said_rose : (answer : Status) (old new : ℕ) → new ≡ failed_says_after old answer → answer ≡ ends.WriteFault → CountRose old new
-said_rose answer old new is fault = omega (arith, is ∙ ap (failed_says_after old) fault)
-
 conversed_faults : (answer : Status) (old new : Outside) → new.counts.reads ≡ old.counts.reads → new.counts.writes ≡ old.counts.writes
     → new.hearing.faults ≡ heard_after old.hearing.faults answer → new.out_faults ≡ failed_says_after old.out_faults answer → TellsFaults answer old new
 conversed_faults ends.Done old new reads writes h s = counted_faults new _ _ _ _ reads writes h s
@@ -147,8 +140,6 @@ run_conversed pairs start answer old new opens c same counts = record {
     faults = conversed_faults answer old new counts.reads counts.writes c.reads c.writes;
     absent = λ is. absurd (c.other (subst NeverOfASession (sym is) tt));
     absent_text = λ is. absurd (c.other (subst NeverOfASession (sym is) tt));
-    read_fault = λ is. inr (heard_rose answer _ _ c.reads is);
-    write_fault = λ is. inr (said_rose answer _ _ c.writes is);
     out_fault = λ o e is. inr (made o e);
   };
   is_command = λ is. absurd (c.other (subst NeverOfASession (sym is) tt));

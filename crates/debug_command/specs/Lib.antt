@@ -4,4 +4,5 @@ pub mod Conversation
 pub mod Run
 pub mod Valid
 pub mod Laws
+pub mod Promises
 pub mod inside

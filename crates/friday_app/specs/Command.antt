@@ -37,17 +37,18 @@ pairs_of [] = Some []
 pairs_of (module_name ∷ []) = None
 pairs_of (module_name ∷ log_name ∷ names) = option_map (λ pairs. record { module_name = module_name; log_name = log_name } ∷ pairs) (pairs_of names)
 
+-- of one pair at least
+abbrev pub some_pairs_of : List (List ℕ) → Option (List Pair)
+some_pairs_of [] = None
+some_pairs_of names = pairs_of names
+
+-- and of words without the option for images
+abbrev pub pairs_without_images : Bool → List (List ℕ) → Option (List Pair)
+pairs_without_images images names = if images then None else some_pairs_of names
+
 abbrev pub recording_command : Bool → List (List ℕ) → Option Command
 recording_command images (schedule_name ∷ []) = Some (Record images schedule_name)
 recording_command images names = None
-
-abbrev pub replay_of_names : Bool → List (List ℕ) → Option Command
-replay_of_names images [] = None
-replay_of_names images names = option_map (Replay images) (pairs_of names)
-
-abbrev pub debugging_command : Bool → List (List ℕ) → Option Command
-debugging_command images [] = None
-debugging_command images names = if images then None else option_map Debug (pairs_of names)
 
 abbrev pub drilling_command : Bool → List (List ℕ) → Option Command
 drilling_command images (word ∷ []) = if images then None else option_map Drill (rounds_of word)
@@ -57,10 +58,6 @@ abbrev pub migrating_command : Bool → List (List ℕ) → Option Command
 migrating_command images (log_name ∷ new_name ∷ []) = if images then None else Some (Migrate log_name new_name)
 migrating_command images names = None
 
-abbrev pub scheduling_command : Bool → List (List ℕ) → Option Command
-scheduling_command images [] = None
-scheduling_command images names = if images then None else option_map Schedule (pairs_of names)
-
 -- an event, and then the pairs
 abbrev pub cutting_by : Option ℕ → Option ℕ → Option (List Pair) → Option Command
 cutting_by None event pairs = None
@@ -68,25 +65,20 @@ cutting_by (Some process) None pairs = None
 cutting_by (Some process) (Some event) pairs = option_map (Cut process event) pairs
 
 abbrev pub cutting_command : Bool → List (List ℕ) → Option Command
-cutting_command images (process ∷ event ∷ module_name ∷ names) =
-    if images then None else cutting_by (process_of process) (event_number_of event) (pairs_of (module_name ∷ names))
+cutting_command images (process ∷ event ∷ names) = cutting_by (process_of process) (event_number_of event) (pairs_without_images images names)
 cutting_command images names = None
-
-abbrev pub streaming_command : Bool → List (List ℕ) → Option Command
-streaming_command images [] = None
-streaming_command images names = if images then None else option_map Streams (pairs_of names)
 
 -- the command of this verb, of these words other than the option
 abbrev pub command_by_verb : List ℕ → Bool → List (List ℕ) → Option Command
 command_by_verb verb images names =
     if bytes_eq verb (codes "record") then recording_command images names
-    else if bytes_eq verb (codes "replay") then replay_of_names images names
-    else if bytes_eq verb (codes "debug") then debugging_command images names
+    else if bytes_eq verb (codes "replay") then option_map (Replay images) (some_pairs_of names)
+    else if bytes_eq verb (codes "debug") then option_map Debug (pairs_without_images images names)
     else if bytes_eq verb (codes "drill") then drilling_command images names
     else if bytes_eq verb (codes "migrate") then migrating_command images names
-    else if bytes_eq verb (codes "schedule") then scheduling_command images names
+    else if bytes_eq verb (codes "schedule") then option_map Schedule (pairs_without_images images names)
     else if bytes_eq verb (codes "cut") then cutting_command images names
-    else if bytes_eq verb (codes "streams") then streaming_command images names
+    else if bytes_eq verb (codes "streams") then option_map Streams (pairs_without_images images names)
     else None
 
 -- the command that the words name: a verb, and after it names of files, and once at most the option for images
@@ -95,15 +87,3 @@ command_of [] = None
 command_of (verb ∷ words) =
     if nat_le (length (options_in words)) 1 && list_all is_file_word (names_in words)
     then command_by_verb verb (length (options_in words) == 1) (names_in words) else None
-
--- the command that answers whether a log diverges
-abbrev pub IsReplayCommand : Option Command → Type 0
-IsReplayCommand (Some (Replay images pairs)) = Unit {0}
-IsReplayCommand (Some (Record images schedule_name)) = ⊥
-IsReplayCommand (Some (Debug pairs)) = ⊥
-IsReplayCommand (Some (Drill rounds)) = ⊥
-IsReplayCommand (Some (Migrate log_name new_name)) = ⊥
-IsReplayCommand (Some (Schedule pairs)) = ⊥
-IsReplayCommand (Some (Cut process event pairs)) = ⊥
-IsReplayCommand (Some (Streams pairs)) = ⊥
-IsReplayCommand None = ⊥

@@ -1,7 +1,6 @@
 pub mod Command
 pub mod Expected
-pub mod Agreement
-pub mod Input
+pub mod Promises
 pub mod Run
 pub mod Valid
 pub mod Streams

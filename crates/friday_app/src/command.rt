@@ -1,7 +1,7 @@
 // Which command the words name.
 ghost use Rattle.std.specs.Prelude.{◌≡◌, length, map, option_map, string_bytes, IfOk, IfSome};
 ghost use Rattle.std.specs.List.{list_all};
-ghost use Rattle.friday_app.specs.Command.{command_by_verb, command_of, cutting_command, debugging_command, drilling_command, is_file_word, is_images, migrating_command, names_in, options_in, pairs_of, recording_command, replay_of_names, scheduling_command, streaming_command};
+ghost use Rattle.friday_app.specs.Command.{command_by_verb, command_of, cutting_command, drilling_command, is_file_word, is_images, migrating_command, names_in, options_in, pairs_of, pairs_without_images, recording_command, some_pairs_of};
 ghost use Rattle.friday_app.specs.inside.Meanings.{HasDrillRounds, command_meaning};
 ghost use Rattle.log_pairs.specs.Meanings.{pair_of};
 
@@ -97,13 +97,13 @@ fn command_by_verb<'a>(
 {
     match verb {
         "record" => Ok(record_command(images, names)),
-        "replay" => replay_command(alloc, images, names),
-        "debug" => debug_command(alloc, images, names),
+        "replay" => { Ok(some_pairs_of(alloc, names)?.map(|pairs| Command::Replay(images, pairs))) }
+        "debug" => Ok(pairs_without_images(alloc, images, names)?.map(Command::Debug)),
         "drill" => Ok(drill_command(images, names)),
         "migrate" => Ok(migrate_command(images, names)),
-        "schedule" => schedule_command(alloc, images, names),
+        "schedule" => Ok(pairs_without_images(alloc, images, names)?.map(Command::Schedule)),
         "cut" => cut_command(alloc, images, names),
-        "streams" => streams_command(alloc, images, names),
+        "streams" => Ok(pairs_without_images(alloc, images, names)?.map(Command::Streams)),
         _ => Ok(None),
     }
 }
@@ -115,34 +115,6 @@ fn record_command<'a>(images: bool, names: &[&'a str]) -> Option<Command<'a>>
         [schedule_file] => Some(Command::Record(images, schedule_file)),
         _ => None,
     }
-}
-
-fn replay_command<'a>(
-    alloc: Global,
-    images: bool,
-    names: &[&'a str],
-) -> Result<Option<Command<'a>>, AllocError>
-    ensures { IfOk result (λ command. option_map command_meaning command ≡ replay_of_names images (map (λ name. name.now) names.now)) }
-{
-    if names.is_empty() {
-        return Ok(None);
-    }
-    let pairs = pairs_of(alloc, names)?;
-    Ok(pairs.map(|pairs| Command::Replay(images, pairs)))
-}
-
-fn debug_command<'a>(
-    alloc: Global,
-    images: bool,
-    names: &[&'a str],
-) -> Result<Option<Command<'a>>, AllocError>
-    ensures { IfOk result (λ command. option_map command_meaning command ≡ debugging_command images (map (λ name. name.now) names.now)) }
-{
-    if images || names.is_empty() {
-        return Ok(None);
-    }
-    let pairs = pairs_of(alloc, names)?;
-    Ok(pairs.map(Command::Debug))
 }
 
 fn drill_command<'a>(images: bool, words: &[&'a str]) -> Option<Command<'a>>
@@ -164,20 +136,6 @@ fn migrate_command<'a>(images: bool, names: &[&'a str]) -> Option<Command<'a>>
     }
 }
 
-fn schedule_command<'a>(
-    alloc: Global,
-    images: bool,
-    names: &[&'a str],
-) -> Result<Option<Command<'a>>, AllocError>
-    ensures { IfOk result (λ command. option_map command_meaning command ≡ scheduling_command images (map (λ name. name.now) names.now)) }
-{
-    if images || names.is_empty() {
-        return Ok(None);
-    }
-    let pairs = pairs_of(alloc, names)?;
-    Ok(pairs.map(Command::Schedule))
-}
-
 fn cut_command<'a>(
     alloc: Global,
     images: bool,
@@ -189,31 +147,14 @@ fn cut_command<'a>(
     let [process, event, names @ ..] = words else {
         return Ok(None);
     };
-    if images || names.is_empty() {
-        return Ok(None);
-    }
     let Some(process) = process_of(process) else {
         return Ok(None);
     };
     let Some(event) = event_number_of(event) else {
         return Ok(None);
     };
-    let pairs = pairs_of(alloc, names)?;
+    let pairs = pairs_without_images(alloc, images, names)?;
     Ok(pairs.map(|pairs| Command::Cut(process, event, pairs)))
-}
-
-fn streams_command<'a>(
-    alloc: Global,
-    images: bool,
-    names: &[&'a str],
-) -> Result<Option<Command<'a>>, AllocError>
-    ensures { IfOk result (λ command. option_map command_meaning command ≡ streaming_command images (map (λ name. name.now) names.now)) }
-{
-    if images || names.is_empty() {
-        return Ok(None);
-    }
-    let pairs = pairs_of(alloc, names)?;
-    Ok(pairs.map(Command::Streams))
 }
 
 // A module and a log, two by two. None comes exactly where a name is left over.
@@ -230,4 +171,28 @@ fn pairs_of<'a>(alloc: Global, names: &[&'a str]) -> Result<Option<Vec<Pair<'a>>
         left = behind;
     }
     Ok(if left.is_empty() { Some(pairs) } else { None })
+}
+
+// The same, unless there are no names.
+fn some_pairs_of<'a>(alloc: Global, names: &[&'a str]) -> Result<Option<Vec<Pair<'a>>>, AllocError>
+    ensures { IfOk result (λ pairs. option_map (λ pairs. map pair_of pairs.items) pairs ≡ some_pairs_of (map (λ name. name.now) names.now)) }
+{
+    if names.is_empty() {
+        return Ok(None);
+    }
+    pairs_of(alloc, names)
+}
+
+// The same again, unless images are asked for.
+fn pairs_without_images<'a>(
+    alloc: Global,
+    images: bool,
+    names: &[&'a str],
+) -> Result<Option<Vec<Pair<'a>>>, AllocError>
+    ensures { IfOk result (λ pairs. option_map (λ pairs. map pair_of pairs.items) pairs ≡ pairs_without_images images (map (λ name. name.now) names.now)) }
+{
+    if images {
+        return Ok(None);
+    }
+    some_pairs_of(alloc, names)
 }

@@ -24,6 +24,7 @@ fn run<F: Files, T: Terminal>(alloc: Global, words: &[String], files: &mut F, io
         (outside (F.told files.new) (F.counts files.new) (T.hearing io.new) (T.taken io.new) (T.faults io.new))
         result }
 {
+    record_command::laws::recordings_agree();
     record_command::laws::recordings_rest();
     headline::laws::left_is_shown();
     match parse_words(alloc, words) {
@@ -63,7 +64,7 @@ fn run<F: Files, T: Terminal>(alloc: Global, words: &[String], files: &mut F, io
 
 /// Does what the words of the command line say, without the program's own name.
 ///
-/// The outcome of a command (`expected`) is said once for all commands, as far as the files and the
+/// What is expected of a command (`expected`) is said once for all commands, as far as the files and the
 /// input tell it: the status, the text that `io` gets and the files that are made. A fault of an
 /// object that was handed in ends the call in its place, and so does want of memory, which is free.
 pub fn friday<F: Files, T: Terminal>(

@@ -4,31 +4,36 @@ use Rattle.std.specs.List.{AllByRecursion}
 use Rattle.fri_outside.specs.Outside.{Folder}
 use Rattle.group_record.specs.Run.{IsMoment, RunStep, log_of, processes_in_group}
 use Rattle.record_command.specs.Agreement.{IsAtMomentOfRun, IsStoppedInHeads, IsRecordable, LeavesCut, MayFollowLog, Nothing, group_in, steps_in}
-use Rattle.record_command.specs.Laws.{RecordingsStand}
-use Rattle.headline.specs.Headline.{HasFiles, Headline, HoldsProcess, LeftIsShown, ShowsMoment, ShowsSteps}
+use Rattle.record_command.specs.Laws.{RecordingsLeaveLogs, RecordingsStand}
+use Rattle.headline.specs.Headline.{Headline, HoldsProcess, LeftIsShown, ShowsMoment, ShowsSteps, logs_in, logs_of_run}
 use Rattle.headline.specs.Shown.{no_cut}
 
--- a folder that has these files holds the processes
-holds : {before : Folder} {name : List ℕ} (r : IsRecordable before name) (steps : List RunStep) (cut : ℕ → List ℕ) (after folder : Folder)
-    → ((p : ℕ) → p < processes_in_group (group_in r) → MayFollowLog (group_in r) (steps_in r) steps p (cut p)) → LeavesCut (group_in r) steps cut after
-    → (ps : List ℕ) → AllByRecursion (λ p. p < processes_in_group (group_in r)) ps → AllByRecursion (HasFiles r after folder) ps → AllByRecursion (HoldsProcess r steps cut folder) ps
-holds r steps cut after folder follows left [] below has = tt
-holds r steps cut after folder follows left (p ∷ ps) below has = (
-  record { «module» = has.0.«module»; log = has.0.log ∙ left p below.0; front = follows p below.0 },
-  holds r steps cut after folder follows left ps below.1 has.1,
-)
+module _ {before : Folder} {name : List ℕ} (r : IsRecordable before name) (steps : List RunStep) (cut : ℕ → List ℕ) (after folder : Folder) where
+  abbrev Below : List ℕ → Type 0
+  Below ps = AllByRecursion (λ p. p < processes_in_group (group_in r)) ps
+
+  -- a folder that has the logs that were left has those of the run
+  holds : LeavesCut (group_in r) steps cut after → (ps : List ℕ) → Below ps → AllByRecursion (HoldsProcess r (logs_in (group_in r) after) folder) ps
+      → AllByRecursion (HoldsProcess r (logs_of_run (group_in r) steps cut) folder) ps
+  holds left [] below has = tt
+  holds left (p ∷ ps) below has = (record { «module» = has.0.«module»; log = has.0.log ∙ left p below.0 }, holds left ps below.1 has.1)
+
+  all_follow : ((p : ℕ) → p < processes_in_group (group_in r) → MayFollowLog (group_in r) (steps_in r) steps p (cut p)) → (ps : List ℕ) → Below ps
+      → AllByRecursion (λ p. MayFollowLog (group_in r) (steps_in r) steps p (cut p)) ps
+  all_follow follows [] below = tt
+  all_follow follows (p ∷ ps) below = (follows p below.0, all_follow follows ps below.1)
 
 shows_steps : Headline → {before : Folder} {name : List ℕ} (r : IsRecordable before name) (steps : List RunStep) → IsMoment steps (steps_in r) → (cut : ℕ → List ℕ) (after : Folder)
     → ((p : ℕ) → p < processes_in_group (group_in r) → MayFollowLog (group_in r) (steps_in r) steps p (cut p)) → LeavesCut (group_in r) steps cut after → ShowsSteps r steps cut after
-shows_steps law {before} {name} r steps moment cut after follows left folder ps are has =
-    law before folder name r steps moment cut ps are (holds r steps cut after folder follows left ps are.within has)
+shows_steps law {before} {name} r steps moment cut after follows left ps are folder has =
+    law before name r steps moment cut ps are (all_follow r steps cut after folder follows ps are.within) folder (holds r steps cut after folder left ps are.within has)
 
-pub left_is_shown_so : Headline → RecordingsStand → LeftIsShown
-left_is_shown_so law stand images name answer before after whole moment r = record {
+pub left_is_shown_so : Headline → RecordingsLeaveLogs → RecordingsStand → LeftIsShown
+left_is_shown_so law leave stand images name answer before after made moment r = record {
   whole = λ answers.
       shows_steps law r (steps_in r) ([], refl) no_cut after (λ p below. Nothing refl)
-      (λ p below. (whole answers r).0 p below ∙ ap (λ (bytes : List ℕ). Some bytes) (sym (append-nil (log_of (group_in r) (steps_in r) p))));
-  stopped = by_place (stand images name before after r (moment r).0);
+      (λ p below. leave images name before after r (made answers) p below ∙ ap (λ (bytes : List ℕ). Some bytes) (sym (append-nil (log_of (group_in r) (steps_in r) p))));
+  stopped = by_place (stand images name before after r (moment r));
 } where
   by_place : IsStoppedInHeads (group_in r) before after ⊎ IsAtMomentOfRun (group_in r) (steps_in r) after → IsStoppedInHeads (group_in r) before after ⊎ ShowsMoment r after
   by_place (inl heads) = inl heads

@@ -27,10 +27,11 @@ use Rattle.command_run.specs.Laws.{ReadsModules}
 use Rattle.command_run.specs.Outcome.{CommandStop, CommandWork, and_then}
 use Rattle.log_pairs.specs.Pairs.{Loaded, replays_of, replays_of_pairs, sort_replays}
 use Rattle.log_pairs.specs.Valid.{GoTogether}
-use Rattle.record_command.specs.Agreement.{IsRecordable, LogsAgree, MayFollowLog, Front, Nothing, RecordingsAgree, group_in, steps_in}
+use Rattle.record_command.specs.Agreement.{IsRecordable, LogsAgree, MayFollowLog, Front, Nothing, group_in, steps_in}
+use Rattle.record_command.specs.Laws.{RecordingsAgree}
 use Rattle.replay_command.specs.Report.{replay_work}
 use Rattle.debug_command.specs.Debug.{opened_outcome}
-use Rattle.headline.specs.Headline.{AreDistinct, AreProcesses, Headline, HoldsProcess, IsShown, pairs_of_processes}
+use Rattle.headline.specs.Headline.{AreDistinct, AreProcesses, Headline, HoldsProcess, IsShown, logs_of_run, pairs_of_processes}
 use Rattle.headline.specs.Shown.{AreShown, ShowsProcess, recorded_run}
 use Rattle.headline.proofs.RecordedGroup.{HasBegun, has_begun, pair_stands, schedule_formed, together}
 use Rattle.headline.proofs.LoadedPairs.{AllStand, AllTogether, opened}
@@ -115,8 +116,12 @@ module _ (reads : ReadsModules) (gives : GivesSchedules) (beginning : Beginning)
   agreed : LogsAgree (group_in r) (steps_in r)
   agreed = agree before name r
 
-  tells : (p : ℕ) → p < processes_in_group (group_in r) → HoldsProcess r steps cut folder p → TellsBeforeRest (group_in r) steps p (cut p)
-  tells p below holds = tells_by (group_in r) (steps_in r) steps p (cut p) agreed.cut (agreed.logs steps moment p below) holds.front
+  -- the folder has the module and the log of a process, and no more than a part of its next entry after the log
+  abbrev Holds : ℕ → Type 0
+  Holds p = HoldsProcess r (logs_of_run (group_in r) steps cut) folder p × MayFollowLog (group_in r) (steps_in r) steps p (cut p)
+
+  tells : (p : ℕ) → p < processes_in_group (group_in r) → Holds p → TellsBeforeRest (group_in r) steps p (cut p)
+  tells p below holds = tells_by (group_in r) (steps_in r) steps p (cut p) agreed.cut (agreed.logs steps moment p below) holds.1
 
   -- the first state of a process is in its ranges
   first_fits : (p : ℕ) → p < processes_in_group (group_in r) → (S : State) → slice_get (group_in r).first p ≡ Some S → StateFits S
@@ -124,7 +129,7 @@ module _ (reads : ReadsModules) (gives : GivesSchedules) (beginning : Beginning)
       let s = (standing (group_in r) r.schedule.items begun.begun begun.fits [] (steps_in r, sym (append-nil (steps_in r)))).processes p below in
       subst StateFits (same_Some s.last S (sym s.stands ∙ before_steps (group_in r) p ∙ at)) s.fits
 
-  known : (p : ℕ) (below : p < processes_in_group (group_in r)) (holds : HoldsProcess r steps cut folder p) → Known (group_in r) steps cut p (replay_of (group_in r) steps cut p (tells p below holds))
+  known : (p : ℕ) (below : p < processes_in_group (group_in r)) (holds : Holds p) → Known (group_in r) steps cut p (replay_of (group_in r) steps cut p (tells p below holds))
   known p below holds = record {
     shows = shows (group_in r) steps cut p run_is (tells p below holds);
     comes = comes_to (group_in r) steps cut p run_is below (tells p below holds);
@@ -135,7 +140,12 @@ module _ (reads : ReadsModules) (gives : GivesSchedules) (beginning : Beginning)
   Below ps = AllByRecursion (λ p. p < processes_in_group (group_in r)) ps
 
   abbrev Held : List ℕ → Type 0
-  Held ps = AllByRecursion (HoldsProcess r steps cut folder) ps
+  Held ps = AllByRecursion Holds ps
+
+  held : (ps : List ℕ) → AllByRecursion (HoldsProcess r (logs_of_run (group_in r) steps cut) folder) ps
+      → AllByRecursion (λ p. MayFollowLog (group_in r) (steps_in r) steps p (cut p)) ps → Held ps
+  held [] files follow = tt
+  held (p ∷ ps) files follow = ((files.0, follow.0), held ps files.1 follow.1)
 
   -- the replays of some processes
   abbrev replays : (ps : List ℕ) → Below ps → Held ps → List Replaying
@@ -148,7 +158,7 @@ module _ (reads : ReadsModules) (gives : GivesSchedules) (beginning : Beginning)
 
   all_stand : (ps : List ℕ) (below : Below ps) (holds : Held ps) → AllStand folder (pairs_of_processes r.schedule ps) (replays ps below holds)
   all_stand [] below holds = tt
-  all_stand (p ∷ ps) below holds = (pair_stands reads r steps cut folder p holds.0 (tells p below.0 holds.0), all_stand ps below.1 holds.1)
+  all_stand (p ∷ ps) below holds = (pair_stands reads r steps cut folder p holds.0.0 (tells p below.0 holds.0), all_stand ps below.1 holds.1)
 
   one_together : (p : ℕ) → p < processes_in_group (group_in r) → (ps : List ℕ) (below : Below ps) (holds : Held ps) → AllByRecursion (λ q. p ≢ q) ps
       → AllByRecursion (λ s. GoTogether (head_of_log (group_in r) p) s.head) (replays ps below holds)
@@ -160,7 +170,7 @@ module _ (reads : ReadsModules) (gives : GivesSchedules) (beginning : Beginning)
   all_together [] below holds apart = tt
   all_together (p ∷ ps) below holds apart = (one_together p below.0 ps below.1 holds.1 apart.0, all_together ps below.1 holds.1 apart.1)
 
-  pub is_shown : (ps : List ℕ) → AreProcesses (processes_in_group (group_in r)) ps → AllByRecursion (HoldsProcess r steps cut folder) ps → IsShown (recorded_run (group_in r) steps) cut folder ps (pairs_of_processes r.schedule ps)
+  pub is_shown : (ps : List ℕ) → AreProcesses (processes_in_group (group_in r)) ps → Held ps → IsShown (recorded_run (group_in r) steps) cut folder ps (pairs_of_processes r.schedule ps)
   is_shown ps are holds =
       let pairs = pairs_of_processes r.schedule ps in
       let unsorted = replays ps are.within holds in
@@ -202,5 +212,6 @@ module _ (reads : ReadsModules) (gives : GivesSchedules) (beginning : Beginning)
             agreed.datagrams (moment.0 ++ later) early p e (moment.1 ∙ ap (λ (s : List RunStep). moment.0 ++ s) split ∙ sym (append_assoc moment.0 later (Had p e ∷ early))) takes
 
 pub headline : ReadsModules → GivesSchedules → Beginning → Standing → RecordingsAgree → Ordered → SendsFirst → Headline
-headline reads gives beginning standing agree ordered sends before folder name r steps moment cut ps are holds =
-    is_shown reads gives beginning standing agree ordered sends before folder name r steps moment cut ps are holds
+headline reads gives beginning standing agree ordered sends before name r steps moment cut ps are follow folder files =
+    is_shown reads gives beginning standing agree ordered sends before folder name r steps moment cut ps are
+    (held reads gives beginning standing agree ordered sends before folder name r steps moment cut ps files follow)

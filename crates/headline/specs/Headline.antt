@@ -1,19 +1,21 @@
 -- The main theorem: the modules and the logs of a recording, and these alone, make `replay` and `debug` show what was recorded.
-use Rattle.std.specs.Prelude.{◌≡◌, ◌≢◌, ◌⊎◌, ◌<◌, ◌↔◌, ℕ, Bool, List, [], ◌∷◌, ◌++◌, length, map, Some, Ok, Contains}
+use Rattle.std.specs.Prelude.{◌≡◌, ◌≢◌, ◌⊎◌, ◌<◌, ◌↔◌, ℕ, Bool, List, [], ◌∷◌, ◌++◌, length, map, Option, Some, Ok, Contains}
 use Rattle.std.specs.FinMap.{get}
 use Rattle.std.specs.List.{AllByRecursion, slice_index_or}
 use Rattle.fri_outside.specs.Outside.{Folder}
+use Rattle.fri_outside.specs.Several.{with_files}
 use Rattle.schedule_text.specs.Schedule.{Schedule}
 use Rattle.group_record.specs.Answer.{names_of}
 use Rattle.group_record.specs.Images.{images as all_images}
 use Rattle.group_record.specs.Logs.{log_name}
-use Rattle.group_record.specs.Run.{IsMoment, RunStep, log_of, name_of_process, processes_in_group}
+use Rattle.group_record.specs.Run.{GroupStart, IsMoment, RunStep, log_of, name_of_process, processes_in_group}
 use Rattle.proc_replay.specs.Replaying.{Replaying}
 use Rattle.command_run.specs.declared.status.Status.{Status}
 use Rattle.command_run.specs.Call.{IsAnswerStatus}
+use Rattle.command_run.specs.Outcome.{writes_of}
 use Rattle.log_pairs.specs.Pairs.{Pair, replays_of_pairs}
-use Rattle.record_command.specs.Agreement.{IsAtMomentOfRun, IsStoppedInHeads, IsRecordable, LeavesMoment, LeavesRecording, MayFollowLog, group_in, steps_in}
-use Rattle.record_command.specs.Expected.{module_name}
+use Rattle.record_command.specs.Agreement.{IsAtMomentOfRun, IsStoppedInHeads, IsRecordable, LeavesMoment, MayFollowLog, group_in, steps_in}
+use Rattle.record_command.specs.Expected.{module_name, record_outcome}
 use Rattle.replay_command.specs.Report.{replay_outcome}
 use Rattle.debug_command.specs.Debug.{debug_outcome, session_outcome}
 use Rattle.headline.specs.Shown.{AreShown, RecordedRun, ShowsGroup, no_cut, recorded_images, recorded_report, recorded_run}
@@ -50,13 +52,19 @@ pub record AreInOrder (ps sorted : List ℕ) : Type 0 where
 
 -- ---- the folder
 
--- of process p a folder has the module, as the recording found it, and the log of these steps. After the log there may
--- stand a first part of one more entry, as a recording leaves it that was stopped. Nothing else of the folder matters
-pub record HoldsProcess {before : Folder} {schedule_name : List ℕ} (r : IsRecordable before schedule_name) (steps : List RunStep) (cut : ℕ → List ℕ)
+-- the log of each process, by these steps, and what stands after it
+abbrev pub logs_of_run : GroupStart → List RunStep → (ℕ → List ℕ) → ℕ → Option (List ℕ)
+logs_of_run group steps cut p = Some (log_of group steps p ++ cut p)
+
+-- the log of each process that a folder has
+abbrev pub logs_in : GroupStart → Folder → ℕ → Option (List ℕ)
+logs_in group folder p = get folder (log_name (name_of_process group p))
+
+-- of process p a folder has the module, as the recording found it, and this log. Nothing else of the folder matters
+pub record HoldsProcess {before : Folder} {schedule_name : List ℕ} (r : IsRecordable before schedule_name) (logs : ℕ → Option (List ℕ))
     (folder : Folder) (p : ℕ) : Type 0 where
   pub «module» : get folder (module_name r.schedule p) ≡ get before (module_name r.schedule p)
-  pub log : get folder (log_name (name_of_process (group_in r) p)) ≡ Some (log_of (group_in r) steps p ++ cut p)
-  pub front : MayFollowLog (group_in r) (steps_in r) steps p (cut p)
+  pub log : logs_in (group_in r) folder p ≡ logs p
 
 -- ---- the whole
 
@@ -75,25 +83,26 @@ pub record IsShown (run : RecordedRun) (cut : ℕ → List ℕ) (folder : Folder
   pub debug : (input : List ℕ) → debug_outcome pairs (Some input) folder ≡ Some (session_outcome start input)
   pub shows : ShowsGroup run.group run.steps sorted start
 
+-- in every folder that has the modules and these logs of these processes, and whatever else, these are shown as they were
+-- after these steps
+abbrev pub ShowsLogs : {before : Folder} {schedule_name : List ℕ} → IsRecordable before schedule_name → List RunStep → (ℕ → List ℕ) → (ℕ → Option (List ℕ)) → List ℕ → Type 0
+ShowsLogs r steps cut logs ps =
+    (folder : Folder) → AllByRecursion (HoldsProcess r logs folder) ps → IsShown (recorded_run (group_in r) steps) cut folder ps (pairs_of_processes r.schedule ps)
+
 -- At each moment of the run of a schedule that can be recorded, so also where the recording was stopped or a log was full:
--- in every folder that holds the modules and the logs of some processes, these are shown as they were recorded
+-- the logs of some processes are shown as they were recorded. After each log there may stand a first part of one more entry,
+-- as a recording leaves it that was stopped
 abbrev pub Headline : Type 0
-Headline = (before folder : Folder) (schedule_name : List ℕ) (r : IsRecordable before schedule_name) (steps : List RunStep) → IsMoment steps (steps_in r)
-    → (cut : ℕ → List ℕ) (ps : List ℕ) → AreProcesses (processes_in_group (group_in r)) ps → AllByRecursion (HoldsProcess r steps cut folder) ps
-    → IsShown (recorded_run (group_in r) steps) cut folder ps (pairs_of_processes r.schedule ps)
+Headline = (before : Folder) (schedule_name : List ℕ) (r : IsRecordable before schedule_name) (steps : List RunStep) → IsMoment steps (steps_in r)
+    → (cut : ℕ → List ℕ) (ps : List ℕ) → AreProcesses (processes_in_group (group_in r)) ps → AllByRecursion (λ p. MayFollowLog (group_in r) (steps_in r) steps p (cut p)) ps
+    → ShowsLogs r steps cut (logs_of_run (group_in r) steps cut) ps
 
 -- ---- what a recording leaves
 
--- of process p a folder has the module, as the recording found it, and the log, as the recording left it
-pub record HasFiles {before : Folder} {schedule_name : List ℕ} (r : IsRecordable before schedule_name) (after folder : Folder) (p : ℕ) : Type 0 where
-  pub «module» : get folder (module_name r.schedule p) ≡ get before (module_name r.schedule p)
-  pub log : get folder (log_name (name_of_process (group_in r) p)) ≡ get after (log_name (name_of_process (group_in r) p))
-
--- in every folder that has these files of some processes, and whatever else, these are shown as they were after these steps
+-- the logs of some processes, as a folder has them, are shown so
 abbrev pub ShowsSteps : {before : Folder} {schedule_name : List ℕ} → IsRecordable before schedule_name → List RunStep → (ℕ → List ℕ) → Folder → Type 0
 ShowsSteps r steps cut after =
-    (folder : Folder) (ps : List ℕ) → AreProcesses (processes_in_group (group_in r)) ps → AllByRecursion (HasFiles r after folder) ps
-    → IsShown (recorded_run (group_in r) steps) cut folder ps (pairs_of_processes r.schedule ps)
+    (ps : List ℕ) → AreProcesses (processes_in_group (group_in r)) ps → ShowsLogs r steps cut (logs_in (group_in r) after) ps
 
 -- a moment of the run, which is shown
 pub record ShowsMoment {before : Folder} {schedule_name : List ℕ} (r : IsRecordable before schedule_name) (after : Folder) : Type 0 where
@@ -106,8 +115,9 @@ pub record ShowsRun {before : Folder} {schedule_name : List ℕ} (r : IsRecordab
   pub whole : IsAnswerStatus answer → ShowsSteps r (steps_in r) no_cut after
   pub stopped : IsStoppedInHeads (group_in r) before after ⊎ ShowsMoment r after
 
--- this holds wherever a recording ends
+-- this holds wherever a recording ends, which at an answer has made the files of its outcome
 abbrev pub LeftIsShown : Type 0
 LeftIsShown = (images : Bool) (schedule_name : List ℕ) (answer : Status) (before after : Folder)
-    → (IsAnswerStatus answer → LeavesRecording schedule_name before after) → LeavesMoment images schedule_name before (Some after)
+    → (IsAnswerStatus answer → Some after ≡ with_files (writes_of (record_outcome images schedule_name before)) (Some before))
+    → LeavesMoment images schedule_name before (Some after)
     → (r : IsRecordable before schedule_name) → ShowsRun r answer after

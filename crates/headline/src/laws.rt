@@ -20,5 +20,6 @@ pub fn left_is_shown()
     ensures { LeftIsShown }
 {
     recordings_are_shown();
+    record_command::laws::recordings_leave_logs();
     record_command::laws::recordings_stand();
 }

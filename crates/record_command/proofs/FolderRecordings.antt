@@ -1,5 +1,5 @@
--- The recording of the files that a folder holds: there is one, and its logs agree with it.
-use Rattle.std.proofs.Common.{◌≡◌, ◌++◌, ℕ, Bool, List, Option, Some, option_map, Result, Ok, Err, refl, sym, ap, subst, ◌∙◌}
+-- The recording of the files that a folder holds: there is one, its logs agree with it, and it leaves them.
+use Rattle.std.proofs.Common.{◌≡◌, ◌++◌, ℕ, Bool, List, Option, Some, Result, Ok, Err, refl, sym, ap, subst, ◌∙◌}
 use Rattle.fri_outside.specs.Laws.{KeepsFiles}
 use Rattle.fri_outside.specs.Outside.{Folder, WhenTold}
 use Rattle.fri_outside.specs.Several.{with_files}
@@ -9,19 +9,16 @@ use Rattle.schedule_text.specs.Laws.{GivesSchedules}
 use Rattle.schedule_text.specs.Reading.{ScheduleRefusal, BadLineAt, TooManyRuns, schedule_of}
 use Rattle.schedule_text.specs.Schedule.{IsWellFormed, Schedule}
 use Rattle.group_record.specs.Answer.{StoppedWhereBegun, first_states}
-use Rattle.group_record.specs.Files.{InHeads, IsStoppedRecording}
+use Rattle.group_record.specs.Files.{InHeads}
 use Rattle.group_record.specs.Images.{images_of}
 use Rattle.group_record.specs.Laws.{Agreement, Beginning, CutAgreement, Delivery, TakesDrawn, TakesWaiting}
 use Rattle.group_record.specs.Logs.{logs_of_steps}
 use Rattle.group_record.specs.Run.{log_of}
-use Rattle.command_run.specs.declared.refusal.WorkText.{WorkText}
-use Rattle.command_run.specs.declared.refusal.StopCause.{StopCause}
-use Rattle.command_run.specs.declared.refusal.StopCause.TheVariants as refusal
-use Rattle.record_command.specs.Agreement.{IsRecordable, LeavesMoment, LeavesRecording, RecordingsAgree, group_in, run_in, steps_in}
-use Rattle.command_run.specs.Call.{IsAnswerResult, MakesWorkFiles}
+use Rattle.record_command.specs.Agreement.{IsRecordable, LeavesMoment, group_in, run_in, steps_in}
+use Rattle.record_command.specs.Laws.{RecordingsAgree, RecordingsLeaveLogs}
 use Rattle.record_command.specs.Expected.{group_outcome, modules_of, record_outcome, schedule_in, schedule_or_refusal}
 use Rattle.schedule_text.specs.Limits.{most_schedule}
-use Rattle.command_run.specs.Outcome.{CommandOutcome, file_of, writes_of}
+use Rattle.command_run.specs.Outcome.{file_of, writes_of}
 use Rattle.record_command.specs.inside.Gathering.{GathersFromFolder}
 use Rattle.record_command.proofs.GatheredOutcome.{gathered}
 use Rattle.record_command.proofs.GroupOutcome.{group_writes}
@@ -84,30 +81,18 @@ one_recording {folder} {name} schedule modules g r =
 -- ---- what stands of it
 
 -- before anything was made
-pub moment_before : RecordingsAgree → (told after : Option Folder) (images : Bool) (name : List ℕ) → after ≡ told → WhenTold told (λ before. LeavesMoment images name before after)
-moment_before agree told after images name same before is r = (InHeads 0 (λ p. 0) (same ∙ is), agree before name r)
+pub moment_before : (told after : Option Folder) (images : Bool) (name : List ℕ) → after ≡ told → WhenTold told (λ before. LeavesMoment images name before after)
+moment_before told after images name same before is r = InHeads 0 (λ p. 0) (same ∙ is)
 
 -- where the recording was stopped or reached its end
-pub moment_then : RecordingsAgree → (told middle after : Option Folder) (images : Bool) (name : List ℕ) (schedule : Schedule) (modules : List Module) → WhenTold told (λ folder. GathersFromFolder folder name schedule modules)
+pub moment_then : (told middle after : Option Folder) (images : Bool) (name : List ℕ) (schedule : Schedule) (modules : List Module) → WhenTold told (λ folder. GathersFromFolder folder name schedule modules)
     → middle ≡ told → StoppedWhereBegun schedule images (first_states schedule modules) middle after → WhenTold told (λ before. LeavesMoment images name before after)
-moment_then agree told middle after images name schedule modules gathers same stopped before is r = (here, agree before name r) where
-  one : IsOne schedule modules r
-  one = one_recording schedule modules (gathers before is) r
-
-  here : IsStoppedRecording (group_in r) (steps_in r) (images_of images (group_in r) (run_in r)) (Some before) after
-  here = subst (λ (s : Result (List State) ℕ). StoppedWhereBegun r.schedule images s (Some before) after) r.begins
-      (subst (λ (m : List Module). StoppedWhereBegun r.schedule images (first_states r.schedule m) (Some before) after) one.modules_same
-      (subst (λ (s : Schedule). StoppedWhereBegun s images (first_states s modules) (Some before) after) one.schedules
-      (subst (λ (t : Option Folder). StoppedWhereBegun schedule images (first_states schedule modules) t after) (same ∙ is) stopped)))
-
--- at an answer the files of the outcome are made
-made_at_end : (result : Result WorkText StopCause) (files : List (List ℕ × List ℕ)) (before after : Option Folder) → IsAnswerResult result → MakesWorkFiles result files before after → after ≡ with_files files before
-made_at_end (Ok answer) files before after end makes = makes
-made_at_end (Err (refusal.Refused file why)) files before after end makes = makes
-made_at_end (Err (refusal.Absent file)) files before after end makes = makes
-made_at_end (Err refusal.ReadFault) files before after end makes = absurd end
-made_at_end (Err refusal.WriteFault) files before after end makes = absurd end
-made_at_end (Err refusal.NoMemory) files before after end makes = absurd end
+moment_then told middle after images name schedule modules gathers same stopped before is r =
+    let one = one_recording schedule modules (gathers before is) r in
+    subst (λ (s : Result (List State) ℕ). StoppedWhereBegun r.schedule images s (Some before) after) r.begins
+    (subst (λ (m : List Module). StoppedWhereBegun r.schedule images (first_states r.schedule m) (Some before) after) one.modules_same
+    (subst (λ (s : Schedule). StoppedWhereBegun s images (first_states s modules) (Some before) after) one.schedules
+    (subst (λ (t : Option Folder). StoppedWhereBegun schedule images (first_states schedule modules) t after) (same ∙ is) stopped)))
 
 -- those of a recording are its logs, and after them the images that were asked for
 recording_writes : {folder : Folder} {name : List ℕ} (images : Bool) (r : IsRecordable folder name) → writes_of (record_outcome images name folder) ≡ logs_of_steps (group_in r) (steps_in r) ++ images_of images (group_in r) (run_in r)
@@ -115,14 +100,9 @@ recording_writes {folder} {name} images r =
     ap writes_of (gathered folder images name r.schedule r.modules (gathers_it r) ∙ ap (group_outcome images name r.schedule) r.begins)
     ∙ group_writes images name r.schedule r.first
 
-pub recording_left : KeepsFiles → GivesSchedules → RecordingsAgree → (told after : Option Folder) (images : Bool) (name : List ℕ) (result : Result WorkText StopCause)
-    → ((o : CommandOutcome) → option_map (record_outcome images name) told ≡ Some o → MakesWorkFiles result (writes_of o) told after) → IsAnswerResult result
-    → WhenTold told (λ before. WhenTold after (LeavesRecording name before))
-recording_left keeps gives agree told after images name result makes end before is now here r =
-    let made = made_at_end result _ told after end (makes (record_outcome images name before) (ap (option_map (record_outcome images name)) is)) in
-    let whole = sym here ∙ made ∙ ap (with_files (writes_of (record_outcome images name before))) is ∙ ap (λ (files : List (List ℕ × List ℕ)). with_files files (Some before)) (recording_writes images r) in
-    let formed = schedule_formed gives before name r.schedule r.spelled in (
-      logs_stand keeps (group_in r) (steps_in r) (images_of images (group_in r) (run_in r)) before now (logs_apart r.schedule.processes 0 (log_of (group_in r) (steps_in r)) formed.names)
-          (images_are_no_logs images (group_in r) (run_in r)) (sym whole),
-      agree before name r,
-    )
+pub recordings_leave_logs_so : KeepsFiles → GivesSchedules → RecordingsLeaveLogs
+recordings_leave_logs_so keeps gives images name before after r made =
+    let whole = made ∙ ap (λ (files : List (List ℕ × List ℕ)). with_files files (Some before)) (recording_writes images r) in
+    let formed = schedule_formed gives before name r.schedule r.spelled in
+    logs_stand keeps (group_in r) (steps_in r) (images_of images (group_in r) (run_in r)) before after (logs_apart r.schedule.processes 0 (log_of (group_in r) (steps_in r)) formed.names)
+    (images_are_no_logs images (group_in r) (run_in r)) (sym whole)

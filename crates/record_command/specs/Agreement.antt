@@ -73,18 +73,12 @@ pub record LogsAgree (group : GroupStart) (steps : List RunStep) : Type 0 where
   pub waiting : WaitingIsTaken group steps
   pub random : RandomIsDrawn group steps
 
--- this holds of each recording
-abbrev pub RecordingsAgree : Type 0
-RecordingsAgree = (folder : Folder) (schedule_name : List ℕ) (r : IsRecordable folder schedule_name) → LogsAgree (group_in r) (steps_in r)
-
--- where the files can be recorded, the logs that an answer leaves are those of the whole run, which agree with it
-abbrev pub LeavesRecording : List ℕ → Folder → Folder → Type 0
-LeavesRecording schedule_name before after =
-    (r : IsRecordable before schedule_name) → LeavesLogs (group_in r) (steps_in r) after × LogsAgree (group_in r) (steps_in r)
+-- this holds of what can be recorded from these files
+abbrev pub AgreesWithRun : List ℕ → Folder → Type 0
+AgreesWithRun schedule_name folder = (r : IsRecordable folder schedule_name) → LogsAgree (group_in r) (steps_in r)
 
 -- wherever it is stopped, the logs are those of a moment of its run, but for a first part of the next entry; or the
 -- whole logs stand, and some of the images that were asked for
 abbrev pub LeavesMoment : Bool → List ℕ → Folder → Option Folder → Type 0
 LeavesMoment images schedule_name before after =
-    (r : IsRecordable before schedule_name)
-    → IsStoppedRecording (group_in r) (steps_in r) (images_of images (group_in r) (run_in r)) (Some before) after × LogsAgree (group_in r) (steps_in r)
+    (r : IsRecordable before schedule_name) → IsStoppedRecording (group_in r) (steps_in r) (images_of images (group_in r) (run_in r)) (Some before) after

@@ -3,8 +3,9 @@ use Rattle.std.specs.Prelude.{◌≡◌, ◌⊎◌, ℕ, Bool, List, Some, Ok}
 use Rattle.fri_outside.specs.Outside.{Folder}
 use Rattle.group_record.specs.Files.{IsStoppedRecording}
 use Rattle.group_record.specs.Images.{images_of}
-use Rattle.command_run.specs.Outcome.{CommandWork}
-use Rattle.record_command.specs.Agreement.{IsAtMomentOfRun, IsStoppedInHeads, IsRecordable, LeavesMoment, group_in, run_in, steps_in}
+use Rattle.fri_outside.specs.Several.{with_files}
+use Rattle.command_run.specs.Outcome.{CommandWork, writes_of}
+use Rattle.record_command.specs.Agreement.{AgreesWithRun, IsAtMomentOfRun, IsStoppedInHeads, IsRecordable, LeavesLogs, LeavesMoment, group_in, run_in, steps_in}
 use Rattle.record_command.specs.Expected.{record_outcome}
 use Rattle.record_command.specs.Valid.{RecordsWhole}
 
@@ -12,6 +13,15 @@ use Rattle.record_command.specs.Valid.{RecordsWhole}
 abbrev pub RecordingsWork : Type 0
 RecordingsWork = (images : Bool) (schedule_name : List ℕ) (folder : Folder) → RecordsWhole folder schedule_name
     → (work : CommandWork) × (record_outcome images schedule_name folder ≡ Ok work)
+
+-- the logs of each recording agree with its run
+abbrev pub RecordingsAgree : Type 0
+RecordingsAgree = (folder : Folder) (schedule_name : List ℕ) → AgreesWithRun schedule_name folder
+
+-- a folder in which the files of the outcome are made has the log of each process, of the whole run
+abbrev pub RecordingsLeaveLogs : Type 0
+RecordingsLeaveLogs = (images : Bool) (schedule_name : List ℕ) (before after : Folder) (r : IsRecordable before schedule_name)
+    → Some after ≡ with_files (writes_of (record_outcome images schedule_name before)) (Some before) → LeavesLogs (group_in r) (steps_in r) after
 
 -- before anything is made a folder stands as at a moment of the run
 abbrev pub RecordingsRest : Type 0

@@ -6,8 +6,8 @@ ghost use Rattle.wasm_types.specs.Modules.{module_of as shown};
 ghost use Rattle.group_record.specs.Answer.{StoppedWhereBegun, first_states};
 ghost use Rattle.command_run.specs.Outcome.{writes_of};
 ghost use Rattle.record_command.specs.Expected.{group_outcome, module_name, record_outcome};
-ghost use Rattle.record_command.specs.Agreement.{LeavesMoment, LeavesRecording};
-ghost use Rattle.command_run.specs.Call.{CountsFaults, TellsOutcome, MakesWorkFiles, KeepsFolder, DivergesOnlyIf, IsAnswerResult, RefusesFile, RaisesCount};
+ghost use Rattle.record_command.specs.Agreement.{LeavesMoment};
+ghost use Rattle.command_run.specs.Call.{CountsFaults, TellsOutcome, MakesWorkFiles, KeepsFolder, DivergesOnlyIf, RefusesFile, RaisesCount};
 ghost use Rattle.record_command.specs.inside.Gathering.{GathersInputs, RefusesAs};
 
 use crate::inputs::{take_modules, take_schedule};
@@ -115,14 +115,10 @@ pub fn record<F: Files>(
         MakesWorkFiles result (writes_of outcome) (F.told files.old) (F.told files.new)) }
     ensures keeps { KeepsFolder result (F.told files.old) (F.told files.new) }
     ensures done { DivergesOnlyIf false result }
-    ensures recorded { IsAnswerResult result → WhenTold (F.told files.old) (λ before. WhenTold (F.told files.new) (LeavesRecording schedule_file.now before)) }
     ensures moment { WhenTold (F.told files.old) (λ before. LeavesMoment images schedule_file.now before (F.told files.new)) }
     ensures counts { CountsFaults (F.counts files.old) (F.counts files.new) result }
     ensures cause { IfErr result (RaisesCount (F.counts files.old) (F.counts files.new)) }
 {
-    fri_outside::laws::keeps_files();
-    schedule_text::laws::exact_outcome();
-    crate::laws::recordings_agree();
     let inputs = gather(alloc, schedule_file, files)?;
     record_group(
         alloc,

@@ -23,10 +23,10 @@ use Rattle.record_command.specs.Expected.{module_name, record_outcome}
 use Rattle.replay_command.specs.Report.{replay_outcome}
 use Rattle.debug_command.specs.Debug.{debug_outcome, session_outcome}
 use Rattle.friday_app.specs.Command.{Command, Debug, Record, Replay}
-use Rattle.friday_app.specs.Expected.{expected_outcome}
+use Rattle.friday_app.specs.Expected.{expected}
 use Rattle.friday_app.specs.Run.{CommandRun}
 use Rattle.two_calls.specs.Calls.{CameTo, ShowsRecorded, ShowsThese, printed_by}
-use Rattle.headline.specs.Headline.{AreProcesses, HasFiles, ShowsSteps, pairs_of_processes}
+use Rattle.headline.specs.Headline.{AreProcesses, HoldsProcess, ShowsSteps, logs_in, pairs_of_processes}
 use Rattle.headline.specs.Shown.{no_cut, recorded_report}
 use Rattle.two_calls.proofs.LeftByRecording.{IsDone, is_done, module_not_written, schedule_formed}
 
@@ -47,7 +47,7 @@ recorded : GivesSchedules → (images : Bool) (before : Folder) (name : List ℕ
     → Recorded images r old middle
 recorded gives images before name r old middle is run =
     let outcome = record_outcome images name before in
-    let known : expected_outcome (Some (Record images name)) old.told old.hearing.left ≡ Some outcome = ap (option_map (record_outcome images name)) is in
+    let known : (expected (Some (Record images name)) old.told old.hearing.left).outcome ≡ Some outcome = ap (option_map (record_outcome images name)) is in
     let done : IsDone images r = is_done images r (run.call.status outcome known tt) in
     let others = run.call.others.each before is in
     let files : middle.told ≡ with_files (logs_of_steps (group_in r) (steps_in r) ++ images_of images (group_in r) (run_in r)) (Some before) =
@@ -59,15 +59,15 @@ recorded gives images before name r old middle is run =
       folder = others.0;
       told = others.1;
       left = sym files ∙ others.1;
-      shows = (run.shown before is others.0 others.1 r).whole tt;
+      shows = (run.promises.shown before is others.0 others.1 r).whole tt;
       modules = λ p below. others.2 (module_name r.schedule p) (module_not_written images r formed done p (omega (arith, below, count)));
       printed = (run.call.text outcome known).whole tt ∙ ap (λ (o : CommandOutcome). append_known old.taken (outcome_text o)) done.outcome;
-      unheard = run.input;
+      unheard = run.promises.input.unheard;
     }
 
 -- the folder then has the files of each process
 has_all : (images : Bool) {before : Folder} {name : List ℕ} (r : IsRecordable before name) (old middle : Outside) (rec : Recorded images r old middle) (ps : List ℕ) → AllByRecursion (λ p. p < processes_in_group (group_in r)) ps
-    → AllByRecursion (HasFiles r rec.folder rec.folder) ps
+    → AllByRecursion (HoldsProcess r (logs_in (group_in r) rec.folder) rec.folder) ps
 has_all images r old middle rec [] below = tt
 has_all images r old middle rec (p ∷ ps) below = (record { «module» = rec.modules p below.0; log = refl }, has_all images r old middle rec ps below.1)
 
@@ -75,7 +75,7 @@ has_all images r old middle rec (p ∷ ps) below = (record { «module» = rec.mo
 
 -- a call from which this is expected has this outcome
 came_to : (command : Option Command) (outcome : CommandOutcome) (folder : Folder) (printed : Option (List ℕ)) (middle new : Outside) (answer : Status) → CommandRun command middle new answer
-    → expected_outcome command middle.told middle.hearing.left ≡ Some outcome → middle.told ≡ Some folder → middle.taken ≡ printed → IsAnswerStatus answer → CameTo outcome folder printed new answer
+    → (expected command middle.told middle.hearing.left).outcome ≡ Some outcome → middle.told ≡ Some folder → middle.taken ≡ printed → IsAnswerStatus answer → CameTo outcome folder printed new answer
 came_to command outcome folder printed middle new answer run known told said answers = record {
   status = run.call.status outcome known answers;
   text = (run.call.text outcome known).whole answers ∙ ap (λ (t : Option (List ℕ)). append_known t (outcome_text outcome)) said;
@@ -87,7 +87,7 @@ these : GivesSchedules → (images : Bool) (before : Folder) (name : List ℕ) (
 these gives images before name r second old middle new answer is first run ps are =
     let rec = recorded gives images before name r old middle is first in
     let pairs = pairs_of_processes r.schedule ps in
-    let shown = rec.shows rec.folder ps are (has_all images r old middle rec ps are.within) in
+    let shown = rec.shows ps are rec.folder (has_all images r old middle rec ps are.within) in
     record {
       whole = rec.done.whole;
       folder = rec.folder;

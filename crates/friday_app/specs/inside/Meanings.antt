@@ -16,13 +16,7 @@ command_meaning (words.Schedule pairs) = Schedule (map pair_of pairs.items)
 command_meaning (words.Cut process event pairs) = Cut process event (map pair_of pairs.items)
 command_meaning (words.Streams pairs) = Streams (map pair_of pairs.items)
 
--- a drill of so many rounds as there may be
+-- a drill has as many rounds as there may be
 abbrev pub HasDrillRounds : Words → Type 0
-HasDrillRounds (words.Record images schedule_name) = Unit {0}
-HasDrillRounds (words.Replay images pairs) = Unit {0}
-HasDrillRounds (words.Debug pairs) = Unit {0}
 HasDrillRounds (words.Drill rounds) = (1 ≤ rounds) × (rounds ≤ most_rounds)
-HasDrillRounds (words.Migrate log_name new_name) = Unit {0}
-HasDrillRounds (words.Schedule pairs) = Unit {0}
-HasDrillRounds (words.Cut process event pairs) = Unit {0}
-HasDrillRounds (words.Streams pairs) = Unit {0}
+HasDrillRounds other = Unit {0}
