@@ -1,7 +1,5 @@
-pub mod Limits
 pub mod Debug
 pub mod Conversation
 pub mod Run
 pub mod Valid
 pub mod Laws
-pub mod inside
