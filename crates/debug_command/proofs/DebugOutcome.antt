@@ -6,7 +6,6 @@ use Rattle.fri_outside.specs.Outside.{Folder, CountRose, WhenTold}
 use Rattle.fri_outside.specs.Several.{with_files}
 use Rattle.fri_text.specs.Line.{lines_of}
 use Rattle.proc_replay.specs.Replaying.{Replaying}
-use Rattle.friday_shell.specs.Session.{session_text}
 use Rattle.command_run.specs.declared.status.Status.{Status}
 use Rattle.command_run.specs.declared.status.Status.TheVariants as ends
 use Rattle.command_run.specs.declared.refusal.Reason.TheVariants as reason
@@ -19,8 +18,11 @@ use Rattle.command_run.specs.Outcome.{CommandOutcome, Refuses, CommandStop, outc
 use Rattle.command_run.specs.OutcomeLaws.{no_file_left, stops_make_files, stops_tell_outcome}
 use Rattle.command_run.specs.Run.{TellsFaults, FinishedCommand, Outside, PerformedCommand, expectation, file_state}
 use Rattle.log_pairs.specs.Pairs.{NoneOpened, Pair, WasOpened, replays_of_pairs}
-use Rattle.debug_command.specs.inside.Conversing.{ConversesInSession, NeverOfASession, TerminalState, heard_after}
-use Rattle.debug_command.specs.Debug.{early_lines, input_name, is_large_input, opened_outcome, session_outcome, spoken_session}
+use Rattle.conversation.specs.Conversing.{Converses, NeverOfASession, TerminalState, heard_after}
+use Rattle.conversation.specs.Lines.{early_lines}
+use Rattle.conversation.specs.Outcome.{input_name, is_large_input, spoken_work}
+use Rattle.conversation.specs.Talker.{spoken_text}
+use Rattle.debug_command.specs.Debug.{opened_outcome, session_outcome, shell_talker}
 use Rattle.debug_command.specs.Run.{DebugRun, debug_expected}
 
 -- ---- no session began
@@ -96,7 +98,7 @@ is_spoken pairs (Some folder) left start opens o here =
 
 -- by whether the input is too large
 abbrev pub spoken_if : Bool → List ℕ → List ℕ → CommandOutcome
-spoken_if large early whole = cond large (Err (Refuses input_name reason.TooLarge (spoken_session early))) (Ok (spoken_session whole))
+spoken_if large early whole = cond large (Err (Refuses input_name reason.TooLarge (spoken_work early))) (Ok (spoken_work whole))
 
 makes_none : (large : Bool) (early whole : List ℕ) → writes_of (spoken_if large early whole) ≡ []
 makes_none true early whole = refl
@@ -108,7 +110,7 @@ was_large false early whole is = cc
 
 session_makes_none : (start : List Replaying) (left : Option (List ℕ)) (o : CommandOutcome) → IsSpoken start left o → writes_of o ≡ []
 session_makes_none start left o s =
-    ap writes_of s.outcome ∙ makes_none (is_large_input start s.input) (session_text start (early_lines s.input)) (session_text start (lines_of s.input))
+    ap writes_of s.outcome ∙ makes_none (is_large_input (shell_talker start) s.input) (spoken_text (shell_talker start) (early_lines s.input)) (spoken_text (shell_talker start) (lines_of s.input))
 
 conversed_faults : (answer : Status) (old new : Outside) → new.counts.reads ≡ old.counts.reads → new.counts.writes ≡ old.counts.writes
     → new.hearing.faults ≡ heard_after old.hearing.faults answer → new.out_faults ≡ failed_says_after old.out_faults answer → TellsFaults answer old new
@@ -126,7 +128,7 @@ abbrev pub terminal_of : Outside → TerminalState
 terminal_of o = record { hearing = o.hearing; taken = o.taken; faults = o.out_faults }
 
 pub run_conversed : (pairs : List Pair) (start : List Replaying) (answer : Status) (old new : Outside) → WasOpened pairs old.told start
-    → ConversesInSession start (terminal_of old) (terminal_of new) answer
+    → Converses (shell_talker start) (terminal_of old) (terminal_of new) answer
     → new.told ≡ old.told → CountsFaults {T = ⊤} old.counts new.counts (Ok tt)
     → DebugRun pairs old new answer
 run_conversed pairs start answer old new opens c same counts = record {
@@ -154,6 +156,6 @@ run_conversed pairs start answer old new opens c same counts = record {
   made : (o : CommandOutcome) → debug_expected pairs old ≡ Some o → new.told ≡ with_files (writes_of o) old.told
   made o e = same ∙ ap (λ (files : List (List ℕ × List ℕ)). with_files files old.told) (sym (session_makes_none start old.hearing.left o (said o e)))
 
-  large : answer ≡ ends.Refused → WhenTold old.hearing.left (λ input. is_large_input start input ≡ true)
+  large : answer ≡ ends.Refused → WhenTold old.hearing.left (λ input. is_large_input (shell_talker start) input ≡ true)
   large is input told =
-      was_large (is_large_input start input) (session_text start (early_lines input)) (session_text start (lines_of input)) (sym is ∙ c.ended input told (subst IsAnswerStatus (sym is) tt))
+      was_large (is_large_input (shell_talker start) input) (spoken_text (shell_talker start) (early_lines input)) (spoken_text (shell_talker start) (lines_of input)) (sym is ∙ c.ended input told (subst IsAnswerStatus (sym is) tt))

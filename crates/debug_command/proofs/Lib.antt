@@ -1,8 +1,3 @@
-pub mod SessionBytes
-pub mod SessionEnds
-pub mod InputPieces
-pub mod WholeSessions
 pub mod DebugOutcome
-pub mod PrintedSoFar
-pub mod WholeLines
 pub mod OutcomeIsWork
+pub mod ShellAnswers

@@ -1,8 +1,6 @@
-pub mod Limits
 pub mod Debug
 pub mod Conversation
 pub mod Run
 pub mod Valid
 pub mod Laws
 pub mod Promises
-pub mod inside

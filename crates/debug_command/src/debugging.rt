@@ -4,7 +4,7 @@ ghost use Rattle.command_run.specs.Run.{outside};
 ghost use Rattle.log_pairs.specs.Meanings.{pair_of};
 ghost use Rattle.debug_command.specs.Run.{DebugRun};
 
-use crate::converse::debug_lines;
+use crate::session::debug_lines;
 use command_run::{Status, finish};
 use fri_outside::{Files, Terminal};
 use log_pairs::{Pair, begin_all, load_all};

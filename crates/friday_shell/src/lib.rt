@@ -15,4 +15,4 @@ mod shown;
 mod state;
 mod variables;
 
-pub use session::{Go, Session};
+pub use session::Session;

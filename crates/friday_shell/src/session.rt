@@ -1,11 +1,12 @@
 // A session of the debugger.
 ghost use Rattle.std.specs.Prelude.{◌≡◌, ℕ, ◌+◌, ◌<◌, ◌≤◌, ◌^◌, IfOk, List, Ok, codes, length, true};
 ghost use Rattle.std.specs.Result.{IsOk};
+ghost use Rattle.conversation.specs.Talker.{is_quit};
 ghost use Rattle.group_state.specs.Place.{node_names};
 ghost use Rattle.friday_shell.specs.Answer.{answer, answer_of_meaning, command_answer};
 ghost use Rattle.friday_shell.specs.Points.{SessionState};
 ghost use Rattle.friday_shell.specs.inside.Meanings.{session_state};
-ghost use Rattle.friday_shell.specs.Meanings.{IsLineAnswer, is_quit};
+ghost use Rattle.friday_shell.specs.Meanings.{IsLineAnswer};
 ghost use Rattle.friday_shell.specs.Session.{opening_session};
 ghost use Rattle.friday_shell.specs.Ticks.{line_ticks, meaning_ticks};
 ghost use Rattle.shell_lines.specs.Meaning.{is_silent, line_meaning, trimmed};
@@ -14,6 +15,7 @@ ghost use Rattle.shell_lines.specs.declared.line.Line.TheVariants.{Silent};
 
 use crate::answer::perform;
 use crate::state::{PointsAndVariables, State, told};
+use conversation::Go;
 use embed_cmds::Vars;
 use fri_bytes::Bytes;
 use fri_text::Text;
@@ -24,13 +26,6 @@ use std::alloc::{AllocError, Global};
 use std::marker::Model;
 use std::sync::ledger::Ledger;
 use watch_expr::Steps;
-
-/// Whether a session goes on.
-#[derive(Clone, Copy, Debug, PartialEq, Eq)]
-pub enum Go {
-    On,
-    Quit,
-}
 
 /// A debugger over the logs of a group. Contracts see where its group is, the points that it holds, how many were
 /// made, and the variables.

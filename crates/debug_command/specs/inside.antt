@@ -1,3 +1,0 @@
--- What no public contract cites.
-pub mod Conversing
-pub mod Reader
