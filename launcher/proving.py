@@ -7,7 +7,7 @@ import time
 from lanes import Lane, folder_of_lanes, lane_count
 from order import Order
 from saying import as_time, pause, say
-from sources import FOLDER, HERE, OUT, PROVED, crates_below, crates_in_order, found, is_proved, line_count
+from sources import FOLDER, HERE, IN_CLONE, PROVED, crates_below, crates_in_order, found, is_proved, line_count
 from unproved import alone
 
 # How much processor time a line takes to prove, before this machine has shown it.
@@ -15,7 +15,7 @@ SECONDS_A_LINE = 0.06
 # More processors than this make one crate hardly faster.
 MOST_JOBS = 4
 WANTED_ROOM = 3 << 30
-LOG = f"{OUT}/proofs.log"
+LOG = f"{IN_CLONE}/proofs.log"
 
 
 class Progress:

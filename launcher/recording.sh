@@ -1,26 +1,32 @@
-# What is looked at around a recording: whose logs it writes over, and whether another one runs in the same folder.
+# What is looked at around a recording: whose logs it replaces, and whether another one runs in the same folder.
 # shellcheck shell=sh
 
-# The names of the processes, which stand before the first item.
+# The names of the processes, which stand before the first item, or their modules.
 names_of() {
     sed -n -e 's/^[[:blank:]]*process[[:blank:]]\{1,\}\([a-z0-9_]\{1,32\}\)[[:blank:]].*/\1/p' \
         -e '/^[[:blank:]]*\(run\|deliver\|inject\|clock\|random\|signal\|kill\)[[:blank:]]/q' < "$1"
 }
 
-# Whether a log has another head than this process's could have, in either version: the size of the group, the number.
-is_of_other_group() {
-    case $(od -An -v -tu1 -N16 < "$1" | tr -s ' \n' ' ') in
-    " 76 76 79 71 "[12]" 0 0 0 $2 0 0 0 $3 0 0 0 ") return 1 ;;
-    esac
+# Of the schedule and of what else its lines name that is a file: another module makes another recording too.
+sum_of_inputs() {
+    sed -n -e 's/^[[:blank:]]*process[[:blank:]]\{1,\}[a-z0-9_]\{1,32\}[[:blank:]]\{1,\}\([!-~]\{1,255\}\).*/\1/p' \
+        -e '/^[[:blank:]]*\(run\|deliver\|inject\|clock\|random\|signal\|kill\)[[:blank:]]/q' < "$schedule" |
+        { cat "$schedule"; while read -r module; do [ ! -f "$module" ] || cat -- "$module"; done; } 2>/dev/null | cksum
 }
 
-sums_of() {
+# A note of what was recorded here last stands where programs are kept, so that this folder has nothing but the recording.
+note_of_folder() {
+    printf '%s/recordings/%s' "$kept" "$(pwd -P | cksum | tr ' ' -)"
+}
+
+# What tells whether logs are still those that were written: the number of each file, its size and its time.
+state_of() {
     # shellcheck disable=SC2086 # Names of processes have no blanks.
-    [ -z "$1" ] || cksum $1 2>/dev/null
+    [ -z "$1" ] || stat -c '%n %i %s %Y %y' $1 2>/dev/null
 }
 
 before_recording() {
-    before='' logs='' schedule='' kinds=log
+    logs='' schedule='' kinds=log names='' note=''
     for word in "$@"; do
         case $word in
         record) ;;
@@ -28,10 +34,9 @@ before_recording() {
         *) schedule=$word ;;
         esac
     done
-    [ -f "$schedule" ] && [ -r "$schedule" ] || return 0
-    names=$(names_of "$schedule")
-    # shellcheck disable=SC2086
-    count=$(set -- $names; echo $#) number=0 others=''
+    # Other words are the program's to refuse.
+    [ $# -le 3 ] && [ -f "$schedule" ] && [ -r "$schedule" ] || return 0
+    names=$(names_of "$schedule" | awk '!seen[$0]++ { printf "%s ", $0 }')
     for name in $names; do
         for kind in $kinds; do
             # shellcheck disable=SC3013 # dash has -ef, as bash has.
@@ -40,22 +45,44 @@ before_recording() {
                 return 2
             fi
         done
-        if [ -f "$name.log" ]; then
-            logs="$logs $name.log"
-            is_of_other_group "$name.log" "$count" "$number" && others="$others $name.log"
-        fi
-        number=$((number + 1))
+        [ ! -f "$name.log" ] || logs="$logs $name.log"
     done
-    [ -z "$others" ] || say "logs of another group are written over:$others. Each recording wants a folder of its own"
-    before=$(sums_of "$logs")
-    if [ -r . ] && command -v flock > /dev/null; then
-        # The lock is on the folder, and goes with this shell.
-        exec 9<.
-        flock -n 9 || say "another recording is being made in this folder: logs of processes of one name get mixed"
-    fi
+    [ -w "$kept" ] || kept=$own
+    note=$(note_of_folder)
+    sum=$(sum_of_inputs)
+    lock_folder || return
+    tell_logs
+}
+
+# The lock is on the folder, and goes with this shell and the program.
+lock_folder() {
+    [ -r . ] && command -v flock > /dev/null || return 0
+    exec 9<.
+    flock -n 9 && return
+    say "another recording is being made in this folder: wait until it ends, or record in a folder of its own"
+    return 6
+}
+
+# Nothing is said where the logs are still those of this very recording, which are written again.
+tell_logs() {
+    others=''
+    for log in *.log; do
+        case " $names " in
+        *" ${log%.log} "*) ;;
+        *) [ -f "$log" ] && [ "$(head -c 4 -- "$log" 2>/dev/null | tr -d '\0')" = LLOG ] && others="$others $log" ;;
+        esac
+    done
+    [ -z "$others" ] || say "logs of another recording are in this folder:$others. Each recording wants a folder of its own"
+    [ -n "$logs" ] || return 0
+    [ "$(printf '%s\n' "$sum"; state_of "$logs")" != "$(cat "$note" 2>/dev/null)" ] || return 0
+    say "logs of another recording are here, which this one replaces:$logs. To keep such logs, copy them first, or record in a folder of its own"
 }
 
 after_recording() {
-    [ -n "$logs" ] && [ -z "$others" ] && [ "$before" != "$(sums_of "$logs")" ] || return 0
-    say "there were logs of another recording here, and they are written over:$logs. Each recording wants a folder of its own"
+    [ -n "$note" ] || return 0
+    logs=''
+    for name in $names; do
+        [ ! -f "$name.log" ] || logs="$logs $name.log"
+    done
+    { mkdir -p "$kept/recordings" && { printf '%s\n' "$sum"; state_of "$logs"; } > "$note"; } 2>/dev/null
 }

@@ -1,4 +1,7 @@
 """The sources of the program, and which program is of them as they are."""
+from __future__ import annotations
+
+import contextlib
 import hashlib
 import os
 import time
@@ -6,12 +9,24 @@ import time
 HERE = os.path.dirname(os.path.dirname(os.path.realpath(__file__)))
 CRATES = f"{HERE}/crates"
 FOLDER = f"{CRATES}/friday"
-# Relative to the top, as the file `current` has them.
+TOOLCHAIN = f"{HERE}/launcher/toolchain"
+# Relative to the top, as the file `current` has it.
 PROVED = "crates/friday/out/friday"
-UNPROVED = "out/unproved"
-OUT = f"{HERE}/out"
-CURRENT = f"{OUT}/current"
 PARTS = ("src", "specs", "proofs")
+# What is kept stands in the clone, or in the home of a user who cannot write that; the shell script `friday` looks there too.
+IN_CLONE = f"{HERE}/out"
+CACHE = (os.environ.get("XDG_CACHE_HOME") or os.environ.get("HOME", "") + "/.cache") + "/friday"
+OF_USER = CACHE + HERE
+
+
+def folder_to_keep_in():
+    """The first of these folders that can be written; it is made. None if none can."""
+    for folder in (IN_CLONE, OF_USER):
+        with contextlib.suppress(OSError):
+            os.makedirs(folder, exist_ok=True)
+            if os.access(folder, os.W_OK | os.X_OK):
+                return folder
+    return None
 
 
 def crates_below():
@@ -80,28 +95,39 @@ def is_proved():
     return all(os.stat(file).st_mtime <= built for file in all_sources())
 
 
+def name_without_proofs(sum_of_sources):
+    """How a program without proofs is called: by its sources, and by how it is compiled."""
+    whole = hashlib.sha256(sum_of_sources.encode())
+    for name in sorted(os.listdir(TOOLCHAIN)):
+        with open(f"{TOOLCHAIN}/{name}", "rb") as file:
+            whole.update(file.read())
+    return f"{sum_of_sources}-{whole.hexdigest()[:8]}"
+
+
 def kept_without_proofs(sum_of_sources):
     """The program that was built from these very sources, if it was kept."""
-    program = f"{UNPROVED}/{sum_of_sources}"
-    return program if os.access(f"{HERE}/{program}", os.X_OK) else None
+    name = name_without_proofs(sum_of_sources)
+    programs = (f"{folder}/unproved/{name}" for folder in (IN_CLONE, OF_USER))
+    return next((program for program in programs if os.access(program, os.X_OK)), None)
 
 
 def note_current(kind, program, read_at):
-    """Notes for the launcher which program answers, as long as no source is changed after this time."""
-    os.makedirs(OUT, exist_ok=True)
-    with open(f"{CURRENT}.{os.getpid()}", "w", encoding="ascii") as file:
+    """Notes for the launcher which program answers, as long as no source is changed after this time. Whether it could be."""
+    folder = folder_to_keep_in()
+    if folder is None:
+        return False
+    new = f"{folder}/current.{os.getpid()}"
+    with open(new, "w", encoding="utf-8", errors="surrogateescape") as file:
         file.write(f"{kind} {program}\n")
-    os.utime(file.name, (read_at, read_at))
-    os.replace(file.name, CURRENT)
+    os.utime(new, (read_at, read_at))
+    os.replace(new, f"{folder}/current")
+    return True
 
 
 def found():
     """Whether a program of these sources is there; it is noted then."""
     read_at = time.time()
     if is_proved():
-        note_current("proved", PROVED, read_at)
-        return True
+        return note_current("proved", PROVED, read_at)
     program = kept_without_proofs(checksum())
-    if program:
-        note_current("unproved", program, read_at)
-    return program is not None
+    return program is not None and note_current("unproved", program, read_at)

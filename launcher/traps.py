@@ -1,0 +1,81 @@
+"""Says what a trap means, where the text of `record` or `replay` tells of one: on a terminal by passing the text on, and of a file
+that has it by looking there.
+
+traps.py PROGRAM WORD ..   (the words of the call, whose text is passed on as it is)
+traps.py --told FILE       (a file that the text was written to)
+"""
+from __future__ import annotations
+
+import os
+import re
+import signal
+import subprocess
+import sys
+
+from looking import is_file
+from parents import end_with_parent
+from saying import say
+
+# So much of the text is kept: 16 lines of processes are less.
+MOST_KEPT = 65536
+MEANING = {
+    "unreachable": "it came to an instruction `unreachable`: in C __builtin_trap or code that cannot be reached, in Rust a panic",
+    "zero divisor": "it divided by 0, or took the rest of that",
+    "overflow": "it divided the least number by -1",
+    "memory range": "it read or wrote past the end of its memory, most often by a pointer or an index that is wrong, or a full stack",
+    "table range": "it called by an index past the end of its table: a function pointer that is wrong",
+    "empty element": "it called by an index at which its table is empty: a function pointer that is null",
+    "type differs": "it called a function of another type than the pointer to it has",
+    "exhausted": "its calls went more than 512 deep, or past 16,384 operands, locals and open blocks: a recursion without an end",
+    "spent": "it ran 10,000,000 instructions without a call of liblog: a loop without an end, or one that has to yield now and then",
+}
+ENDED = re.compile(r"^([a-z0-9_]{1,32}): (\d+) events, trapped (%s)(?:,|$)" % "|".join(MEANING), re.M)
+
+
+def tell(text):
+    for name, events, kind in ENDED.findall(text):
+        say("%s trapped after its event %s, %s: %s" % (name, events, kind, MEANING[kind]))
+    if ENDED.search(text):
+        say("`tools/events.py traps MODULE LOG ..` prints the lines of the debugger that go to the position before it")
+
+
+def passed_on(words):
+    """The status of the call, whose output is passed on, and the last of its text."""
+    run = subprocess.Popen(words, stdout=subprocess.PIPE, bufsize=0, preexec_fn=end_with_parent)
+    signal.signal(signal.SIGTERM, lambda number, _: (run.terminate(), sys.exit(128 + number)))
+    kept = b""
+    while True:
+        piece = os.read(run.stdout.fileno(), MOST_KEPT)
+        if not piece:
+            status = run.wait()
+            return (status if status >= 0 else 128 - status), kept
+        kept = (kept + piece)[-MOST_KEPT:]
+        try:
+            while piece:
+                piece = piece[os.write(1, piece) :]
+        except OSError:
+            run.stdout.close()
+            run.wait()
+            return 6, b""
+
+
+def main():
+    if sys.argv[1] == "--told":
+        path = sys.argv[2]
+        if is_file(path):
+            with open(path, "rb") as file:
+                file.seek(max(0, os.fstat(file.fileno()).st_size - MOST_KEPT))
+                tell(file.read(MOST_KEPT).decode("utf-8", "replace"))
+        return 0
+    end_with_parent(signal.SIGTERM)
+    status, text = passed_on(sys.argv[1:])
+    if status in (0, 1):
+        tell(text.decode("utf-8", "replace"))
+    return status
+
+
+if __name__ == "__main__":
+    try:
+        sys.exit(main())
+    except OSError:
+        sys.exit(0)
