@@ -141,6 +141,10 @@ class Engine:
     def index(self):
         return Index(self.names.paths, self.verdict.accepted)
 
+    def warnings(self):
+        """What is wrong with the logs, to be told before anything else."""
+        return self.verdict.lines(lambda: self.index)
+
     @property
     def last(self):
         return len(self.index)
