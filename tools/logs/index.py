@@ -151,6 +151,18 @@ class Index:
         part, number = self.parts[self.sources[position - 1]], self.number_at(position)
         return Event(position, number, part.log, part.entry(number))
 
+    def call_at(self, position):
+        """The name of the call of an event."""
+        return CALLS[self.parts[self.sources[position - 1]].kinds[self.number_at(position) - 1]].name
+
+    def brief(self):
+        """Each event's clock, process, thread and call, in the order of the positions."""
+        counts = [0] * len(self.parts)
+        for at in self.sources:
+            part, place = self.parts[at], counts[at]
+            counts[at] = place + 1
+            yield "%d %s %d %s" % (part.clocks[place], part.log.name, part.threads[place], CALLS[part.kinds[place]].name)
+
     def thread_at(self, position):
         """The process and the thread of the event that led to a position."""
         part = self.parts[self.sources[position - 1]]
@@ -202,10 +214,3 @@ class Index:
         receiver = self.names.get(event.entry.arguments[0]) if is_send(event.entry) else None
         taken = self.takers.get((event.log.process, event.entry.clock), ()) if receiver else ()
         return [position for position in taken if self.logs[self.sources[position - 1]].name == receiver]
-
-    def in_order(self):
-        """All entries with their logs, in the order of the positions."""
-        counts = [0] * len(self.parts)
-        for at in self.sources:
-            counts[at] += 1
-            yield self.parts[at].entry(counts[at]), self.parts[at].log

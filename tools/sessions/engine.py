@@ -12,7 +12,7 @@ from logs.index import Index
 from sessions.debugger import Debugger
 from sessions.names import Names, Refusal
 from sessions.places import Threads
-from sessions.points import Points
+from sessions.points import Points, ignored
 from sessions.values import Memory, value_at
 from sessions.verdict import Verdict
 
@@ -43,10 +43,6 @@ class LineRefused(Refusal):
     def __init__(self, answer):
         super().__init__(answer.lines[0][2:])
         self.answer = answer
-
-
-def ignored(line):
-    pass
 
 
 class Engine:
@@ -157,6 +153,10 @@ class Engine:
     def event_at(self, position):
         return self.index.event(position) if 0 < position <= self.last else None
 
+    def send_at(self, position):
+        """The event that led to a position, if it is a send."""
+        return self.index.event(position) if self.index.call_at(position) == "send" else None
+
     def line_at(self, position):
         """The event that led to a position, as the debugger lists it."""
         event = self.index.event(position)
@@ -197,14 +197,21 @@ class Engine:
             part = max(SLICE, min(4 * part, int(part / LOOKS / max(spent, 0.001))))
         return said, False
 
+    def fence(self, position):
+        """The number of a new point that fires at one position: there its process makes its event of this number."""
+        event = self.index.event(position)
+        answer = self.ask_each(["watch @%s.events >= %d" % (event.log.name, event.number)])[0]
+        if answer.startswith("?"):
+            raise Refusal("9 too many: a walk that ends at a position needs one of the 64 points; delete one")
+        return answer.split()[1]
+
     def walk_to(self, stop):
         """Goes on to a position at most: what points said, and whether one stopped it. A point that fires there ends it."""
-        event = self.index.event(stop)
-        fence = self.accepted("watch @%s.events >= %d" % (event.log.name, event.number)).lines[0].split()[1]
+        fence = self.fence(stop)
         try:
             lines = self.accepted("continue").lines[:-1]
         finally:
-            self.accepted("delete " + fence)
+            self.ask_each(["delete " + fence])
         own = [line for line in lines if not line.startswith("watch %s: " % fence) and line not in ("paused", "end")]
         return own, self.position < stop and "paused" not in lines or bool(self.points.stopped_by(own))
 

@@ -13,8 +13,14 @@ from sessions.names import STRING, Refusal
 from sessions.places import Place, meant, places
 
 SAID = re.compile(r"(watch|break) (\d+)(?=$|:)")
+# The way back is looked through in parts, of which the first has so many events, and each further one so many times as many.
+PART, GROWTH = 500, 4
 # A program that does nothing, for a point that is passed on the way back.
 NOTHING = "if 0 { stop }"
+
+
+def ignored(line):
+    pass
 
 
 @dataclass
@@ -192,36 +198,54 @@ class Points:
         numbers = [int(found[2]) for found in map(SAID.match, lines) if found]
         return [self.held[number] for number in numbers if number in self.held]
 
-    def back(self, told):
-        """Back to where a point fired last that may stop there. The debugger's own line looks at no program, so where there
-        are programs it is walks from the beginning that find it; what they say is told, and not done."""
+    def back(self, told=ignored, is_paused=None):
+        """Back to where a point fired last that may stop there; None where that is paused, and the position stays.
+
+        The debugger's own line looks at no program and cannot be paused. In place of it parts are walked forward, from the back,
+        in which programs are conditions; what they say is told, and not done."""
         with_program = [point for point in self if point.is_enabled and point.has_program]
-        if not with_program:
+        if not with_program and is_paused is None:
             return self.engine.ask("rcontinue", told)
         try:
             self.exchange(with_program, self.program_back)
-            fired, place = self.last_stop_before(self.engine.position)
+            found = self.last_stop_before(self.engine.position, is_paused or bool)
         finally:
             self.exchange(with_program, self.program)
+        if found is None:
+            self.engine.ask_each(["goto %d" % self.engine.position])
+            return None
+        fired, place = found
         for line in fired:
             told(line)
-        answer = self.engine.ask("goto %d" % place, told)
-        return answer.after(fired)
+        return self.engine.ask("goto %d" % place, told).after(fired)
 
     def exchange(self, points, program):
         for point in points:
             list(self.engine.debugger.ask(self.engine.names.line("do %d %s" % (point.own, program(point)))))
 
-    def last_stop_before(self, end):
-        """What points say at the last position before `end` at which one stops, and that position; or `start` and 0."""
-        found = ["start"], 0
-        list(self.engine.debugger.ask("goto 0"))
-        while True:
-            *fired, answer = self.engine.debugger.ask("continue")
+    def last_stop_before(self, end, is_paused):
+        """What points say at the last position before `end` at which one stops, and that position, or `start` and 0."""
+        stop, part = end - 1, PART
+        while stop > 0 and not is_paused():
+            start = max(0, stop - part)
+            found = self.last_stop_in(start, stop, is_paused)
+            if found:
+                return [self.told(line) for line in found[0]], found[1]
+            stop, part = start, part * GROWTH
+        return None if is_paused() else (["start"], 0)
+
+    def last_stop_in(self, start, stop, is_paused):
+        """The same of the positions after one and up to another."""
+        self.engine.ask_each(["goto %d" % start])
+        fence, found, place = self.engine.fence(stop), None, start
+        while place < stop and not is_paused():
+            *said, answer = self.engine.debugger.ask("continue")
             place = int(re.match(r"at (\d+)", answer)[1])
-            if place >= end or fired == ["end"]:
-                return found
-            found = [self.told(line) for line in fired], place
+            fired = [line for line in said if SAID.match(line) and not line.startswith("watch %s: " % fence)]
+            if fired:
+                found = fired, place
+        self.engine.ask_each(["delete " + fence])
+        return found
 
 
 def under(test, program):

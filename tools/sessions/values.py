@@ -2,6 +2,7 @@
 
 from __future__ import annotations
 
+import copy
 import re
 from dataclasses import dataclass, replace
 
@@ -13,6 +14,8 @@ from sessions.spelling import as_text, number, repeated
 MOST_SHOWN, MOST_NUMBERS, MOST_DEEP = 200, 5000, 40
 PAGE = 65536
 LONGEST_MEM = 256
+# Of a variable so many numbers can be watched, each by a point.
+MOST_WATCHED = 8
 # Bytes that are read in one go for a value.
 MOST_READ = 65536
 
@@ -143,6 +146,22 @@ class Value:
     def part(self, type_, offset, bits=None):
         return replace(self, type=type_, offset=self.offset + offset, bits=bits)
 
+    def count(self, most, depth=0):
+        """How many numbers it has, or one more than `most`."""
+        if depth > MOST_DEEP:
+            return most + 1
+        if self.array:
+            type_, length = self.array
+            return min(most + 1, length * self.part(type_, 0).count(most, depth + 1)) if length else 0
+        if not self.struct:
+            return 1
+        found = 0
+        for _, part in self.fields():
+            found += part.count(most, depth + 1)
+            if found > most:
+                return most + 1
+        return found
+
     def repeated(self, count):
         """So many of this in a row."""
         return replace(self, type="%s[%d]" % (self.type, count))
@@ -229,3 +248,26 @@ def value_at(engine, place):
     else:
         found = Value(place.table, place.type, InPieces(memory, place.variable), place.offset, place.bits)
     return found
+
+
+def loads(place, most=MOST_WATCHED):
+    """The expressions of the numbers of a variable, each by its own; refused where these are too many to be watched."""
+    found = []
+    gather(place, found, most, 0)
+    return found
+
+
+def gather(place, found, most, depth):
+    struct, array = place.table.structs.get(place.type), array_of(place.type)
+    if struct or array:
+        count = len(struct.fields) if struct else array[1]
+        if count > most or depth > MOST_DEEP:
+            raise Refusal("it has more than %d numbers: watch a part of it" % most)
+        for at in range(count):
+            inner = copy.copy(place)
+            inner.enter(struct.fields[at].name) if struct else inner.index(str(at))
+            gather(inner, found, most, depth + 1)
+        return
+    found.append(place.load())
+    if len(found) > most:
+        raise Refusal("it has more than %d numbers: watch a part of it" % most)
