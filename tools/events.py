@@ -18,7 +18,8 @@ import sys
 
 from asking.program import program_of
 from asking.report import Refused, replayed
-from logs.format import CALLS, BadLog, in_group_order, read_log
+from logs.format import CALLS, BadLog, in_group_order, printable
+from logs.group import NotOneGroup, read_logs
 from logs.wording import bytes_lines
 
 
@@ -59,7 +60,7 @@ def record(position, entry, log, names):
 
 def print_traps(program, pairs):
     results = replayed(program, pairs)
-    logs = [read_log(path) for path in pairs[1::2]]
+    logs = read_logs(pairs[1::2])
     order = in_group_order(logs)
     for log in logs:
         end = results[log.name].end
@@ -96,20 +97,18 @@ def main():
     chosen = arguments()
     try:
         if chosen.work == "list":
-            list_events([read_log(path) for path in chosen.logs], chosen)
+            list_events(read_logs(chosen.logs), chosen)
         else:
             print_traps(program_of(chosen.program), chosen.pairs)
         sys.stdout.flush()
-    except BadLog as error:
-        sys.exit("%s is no log" % error)
-    except Refused as error:
+    except (BadLog, NotOneGroup, Refused) as error:
         sys.exit(str(error))
     except BrokenPipeError:
         # Whoever reads has enough, as head does.
         os.dup2(os.open(os.devnull, os.O_WRONLY), sys.stdout.fileno())
         sys.exit(141)
     except OSError as error:
-        sys.exit("%s: %s" % (error.filename, error.strerror))
+        sys.exit("%s: %s" % (printable(str(error.filename)), error.strerror))
 
 
 if __name__ == "__main__":

@@ -10,7 +10,7 @@ import argparse
 import sys
 
 from asking.report import BUILT, Refused
-from logs.format import BadLog
+from logs.format import BadLog, printable
 from logs.group import NotOneGroup
 from pages.file import page
 from pages.packing import packed
@@ -54,12 +54,10 @@ def main():
     chosen = arguments()
     try:
         text = made(chosen)
-    except BadLog as error:
-        sys.exit("%s is no log" % error)
-    except (NotOneGroup, Refused) as error:
+    except (BadLog, NotOneGroup, Refused) as error:
         sys.exit(str(error))
     except OSError as error:
-        sys.exit("%s: %s" % (error.filename, error.strerror))
+        sys.exit("%s: %s" % (printable(str(error.filename)), error.strerror))
     write(text)
 
 

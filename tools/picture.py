@@ -11,7 +11,7 @@ import sys
 
 from asking.program import program_if_there
 from asking.report import Refused, replayed
-from logs.format import CALLS, BadLog
+from logs.format import CALLS, BadLog, printable
 from logs.group import NotOneGroup, read_group
 from logs.traffic import traffic_of
 from logs.vector_clocks import shiviz_text
@@ -103,12 +103,10 @@ def main():
     chosen = arguments()
     try:
         text = made(chosen)
-    except BadLog as error:
-        sys.exit("%s is no log" % error)
-    except (NotOneGroup, Refused) as error:
+    except (BadLog, NotOneGroup, Refused) as error:
         sys.exit(str(error))
     except OSError as error:
-        sys.exit("%s: %s" % (error.filename, error.strerror))
+        sys.exit("%s: %s" % (printable(str(error.filename)), error.strerror))
     write(text)
 
 

@@ -21,6 +21,7 @@ COMMANDS = {
     "condition": pointing.put_condition,
     "do": pointing.attach,
     "list": pointing.show_points,
+    "delete": pointing.delete,
     "set": pointing.set_variable,
     "rcontinue": pointing.go_back_to_point,
     "from_start": pointing.go_to_start,

@@ -2,7 +2,7 @@
 
 from by_hand.commands import COMMANDS
 
-LINES = ("goto", "step", "back", "continue", "mem", "events", "delete", "vars", "quit", "run")
+LINES = ("goto", "step", "back", "continue", "mem", "events", "vars", "quit", "run")
 HIDDEN = ("bytes_at", "from_start")
 WORDS = sorted([word for word in COMMANDS if word not in HIDDEN] + list(LINES))
 

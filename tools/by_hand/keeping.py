@@ -1,23 +1,26 @@
 """Lines that keep in a file what a session has, and take it up again."""
 
-from by_hand.names import Refusal
+from sessions.engine import setting
+from sessions.names import Refusal
 
 
 def save(session, rest, form):
     """Keeps points, programs and variables in a file."""
-    session.state.variables = list(session.debugger.ask("vars"))
-    write(session, rest, session.state.text())
+    lines = [setting(line) for line in session.engine.debugger.ask("vars")]
+    for point in session.engine.points:
+        lines += [point.told] + (["do . " + point.program] if point.program else [])
+    write(session, rest, "".join(line + "\n" for line in lines))
 
 
 def save_script(session, rest, form):
     """Keeps the lines that were sent, so that friday debug answers them again."""
-    write(session, rest, "".join(line + "\n" for line in session.sent) + "quit\n")
+    write(session, rest, "".join(line + "\n" for line in session.engine.sent) + "quit\n")
 
 
 def write(session, path, text):
     if not path:
         raise Refusal("a file's name is missing")
-    with open(path, "w", encoding="latin-1") as file:
+    with open(path, "w", encoding="latin-1", errors="replace") as file:
         file.write(text)
     session.print("%d lines in %s" % (text.count("\n"), path))
 

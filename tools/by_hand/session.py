@@ -1,58 +1,40 @@
 """What becomes of a line that is typed by hand."""
 
-import functools
-import os
 import re
 
 from by_hand.commands import COMMANDS
-from by_hand.debugger import Ended
-from by_hand.names import Refusal
-from by_hand.places import where_stands
-from by_hand.state import State
 from by_hand.words import expanded
-from logs.format import in_group_order, read_log
 from logs.wording import bytes_lines
+from sessions.debugger import Ended
+from sessions.engine import MOVES, LineRefused
+from sessions.names import Refusal
+from sessions.places import in_words
 
 EVENT = re.compile(r"(?:at )?(\d+): (.*)")
-# Lines that can go on for long, and whose programs may change variables.
-WALKS = ("continue", "rcontinue")
-TELLS_EVENTS = ("goto", "step", "back", "continue", "rcontinue", "events")
-MOVES = ("goto", "step", "back", "continue", "rcontinue")
-# Logs of more bytes than this take some seconds to read, so that is not done unasked.
-MUCH = 8_000_000
+TELLS_EVENTS = (*MOVES, "events")
 
 
 class Session:
-    def __init__(self, debugger, names, print_line):
-        self.debugger, self.names, self.print = debugger, names, print_line
-        self.state, self.last, self.over, self.refused = State(), "", False, 0
-        self.shows_sent, self.sent = False, []
-        self.shows_bytes = sum(map(os.path.getsize, names.paths)) <= MUCH
+    def __init__(self, engine, print_line):
+        self.engine, self.print = engine, print_line
+        self.last, self.over, self.refused = "", False, 0
+        self.shows_sent, self.shows_bytes = False, True
+        engine.on_line, engine.keeps_reads = self.hear, True
 
-    @functools.cached_property
-    def order(self):
-        """The events of all logs, in the order of the positions."""
-        return in_group_order([read_log(path) for path in self.names.paths])
+    @property
+    def names(self):
+        return self.engine.names
 
-    def event_at(self, position):
-        """The event that led to a position, as the debugger lists it; None where the logs have none."""
-        if not 0 < position <= len(self.order):
-            return None
-        entry, log = self.order[position - 1]
-        return "%d: %s" % (position, entry.text(log.name))
-
-    @functools.cached_property
-    def called(self):
-        return {log.process: log.name for _, log in self.order}
+    def hear(self, sent):
+        if self.shows_sent:
+            self.print("> " + sent)
 
     def greeting(self):
-        nodes = ", ".join(self.names.nodes)
-        if self.shows_bytes:
-            return "%d events of %s; help lists the words" % (len(self.order), nodes)
-        return "a long recording of %s; help lists the words, and `bytes on` shows the bytes of events" % nodes
+        count = sum(self.engine.verdict.accepted.values())
+        return "%d events of %s; help lists the words" % (count, ", ".join(self.names.nodes))
 
     def prompt(self):
-        return "(friday %d) " % self.state.position
+        return "(friday %d) " % self.engine.position
 
     def handle(self, typed):
         """Does what a line asks for; an empty one asks for the last once more."""
@@ -66,6 +48,9 @@ class Session:
                 COMMANDS[word](self, rest, form)
             else:
                 self.send(" ".join([word, rest]).strip(), typed)
+        except LineRefused as refusal:
+            self.refuse("? %s" % refusal)
+            self.explain(refusal.answer, typed)
         except Refusal as refusal:
             self.refuse("? %s" % refusal)
         except OSError as error:
@@ -77,74 +62,65 @@ class Session:
         self.refused += 1
         self.print(text)
 
-    def send(self, line, typed=None, behind=lambda answer: None):
-        """Sends a line with addresses in place of names, and prints the answer, with what is told after each of its lines;
-        whether it was accepted."""
-        sent = self.names.line(line)
-        verb = sent.split(" ", 1)[0]
-        if self.shows_sent:
-            self.print("> " + sent)
-        if verb in WALKS:
-            self.state.variables = list(self.debugger.ask("vars"))
+    def send(self, line, typed=None):
+        """Sends a line, and prints the answer with the bytes of events; whether it was accepted."""
+        verb = line.split(" ", 1)[0]
         if verb == "quit":
             self.over = True
             return True
-        answers = []
-        for answer in self.debugger.ask(sent):
-            answers.append(answer)
-            told = behind(answer)
-            self.print("%s %s" % (answer, told) if told else answer)
-            if verb in TELLS_EVENTS and self.shows_bytes:
-                self.print_bytes(answer)
-        if verb in MOVES:
-            self.print_line(answers)
-        refused = len(answers) == 1 and answers[0].startswith("? ")
-        if refused:
+        answer = self.engine.ask(line, self.print_event if verb in TELLS_EVENTS else self.print)
+        if answer.is_refused:
             self.refused += 1
-            self.explain(answers[0], sent, typed)
-        else:
-            self.sent.append(sent)
-            self.state.take(verb, line, sent, answers)
-        return not refused
+            self.explain(answer, typed)
+        elif verb in MOVES:
+            self.print_place(answer)
+        return not answer.is_refused
 
-    def print_bytes(self, answer):
-        """What the event of this line printed, sent or took."""
-        found = EVENT.fullmatch(answer)
-        if found and self.event_at(int(found[1])) == "%s: %s" % found.groups():
-            for line in bytes_lines(self.order[int(found[1]) - 1][0], self.called):
-                self.print("    " + line)
+    def print_event(self, line):
+        """A line of an answer, and what its event printed, sent or took."""
+        self.print(line)
+        found = EVENT.fullmatch(line) if self.shows_bytes else None
+        event = self.engine.event_at(int(found[1])) if found else None
+        if event and event.entry.text(event.log.name) == found[2]:
+            for told in bytes_lines(event.entry, self.names.called):
+                self.print("    " + told)
 
-    def print_line(self, answers):
+    def print_place(self, answer):
         """Where in its source the thread of the last event stands now, if its guest was built to keep that."""
-        found = EVENT.fullmatch(answers[-1]) if answers else None
-        told = where_stands(self, *found[2].split()[1:3]) if found else None
+        found = EVENT.fullmatch(answer.lines[-1]) if answer.lines else None
+        told = self.standing(*found[2].split()[1:3]) if found else None
         if told:
             self.print("    " + told)
 
-    def explain(self, answer, sent, typed):
-        """What helps beside the debugger's answer to a line that it refuses."""
-        column = re.fullmatch(r"\? 1 syntax at column (\d+)", answer)
-        if column and column[1] == "1":
-            self.print("    %s is no word here: help lists them, docs/gdb.md has gdb's" % (typed or sent).split()[0])
-        elif column:
-            self.print("    %s\n    %s^" % (sent, " " * (int(column[1]) - 1)))
-        elif answer.startswith("? 2"):
-            self.print("    the processes are %s" % ", ".join(self.names.nodes))
-        elif answer.startswith("? 7"):
-            self.print("    the logs have %d events" % len(self.order))
+    def standing(self, node, thread):
+        threads = self.engine.threads
+        if not threads.keeps_places(node):
+            return None
+        how = threads.standing(node)[1].get(int(thread), "ended")
+        if how in ("ended", "at begin"):
+            return "%s %s has ended" % (node, thread)
+        call = threads.call_of(node, int(thread))
+        return "%s %s stands %s %s" % (node, thread, " ".join(how.split()[:2]), in_words(call)) if call else None
 
-    def values(self, expressions):
-        """The values of expressions at the position, which no line of the session says."""
-        return self.debugger.ask_each(["print " + text for text in expressions])
+    def explain(self, answer, typed):
+        """What helps beside the debugger's answer to a line that it refuses."""
+        column = re.fullmatch(r"\? 1 syntax at column (\d+)", answer.lines[0])
+        if column and column[1] == "1":
+            self.print("    %s is no word here: help lists them, docs/gdb.md has gdb's" % (typed or answer.sent).split()[0])
+        elif column:
+            self.print("    %s\n    %s^" % (answer.sent, " " * (int(column[1]) - 1)))
+        elif answer.lines[0].startswith("? 2"):
+            self.print("    the processes are %s" % ", ".join(self.names.nodes))
+        elif answer.lines[0].startswith("? 7"):
+            self.print("    the logs have %d events" % self.engine.last)
 
     def give_up(self):
-        """Leaves a walk, by a new program that is brought to where the session was."""
-        self.print("given up; going back to position %d" % self.state.position)
-        self.debugger.restart()
-        for line in self.state.lines():
-            for answer in self.debugger.ask(line):
-                if answer.startswith("? "):
-                    self.print("%s: %s" % (line, answer))
+        """Leaves a walk, and goes on where the session was."""
+        self.print("given up; going back to position %d" % self.engine.position)
+        try:
+            self.engine.give_up()
+        except LineRefused as refusal:
+            self.print("%s: ? %s" % (refusal.answer.sent, refusal))
 
     def run(self, lines):
         """Handles lines until they end or the session does; its status."""
@@ -156,4 +132,4 @@ class Session:
         except Ended as ended:
             self.print("the program ended with status %s" % ended)
             return int(str(ended))
-        return self.debugger.end()
+        return self.engine.debugger.end()

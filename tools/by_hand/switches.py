@@ -1,6 +1,6 @@
 """Lines that have a session show more or less."""
 
-from by_hand.names import Refusal
+from sessions.names import Refusal
 
 
 def switch_bytes(session, rest, form):

@@ -45,6 +45,6 @@ def expanded(line):
 
 
 def condition_of(rest):
-    """What comes before `if`, and the condition after it; `if` is no word of an expression."""
+    """What comes before `if`, and the condition after it, or nothing; `if` is no word of an expression."""
     front, word, behind = rest.partition(" if ")
-    return front.strip(), behind.strip() if word else None
+    return front.strip(), behind.strip() if word else ""

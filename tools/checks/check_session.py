@@ -9,6 +9,7 @@ import argparse
 import os
 import re
 import signal
+import struct
 import subprocess
 import sys
 import tempfile
@@ -90,9 +91,11 @@ def check_kept(program, folder):
     answers = session(program, lines + "script %s\nsave %s\nq\n" % (script, points))
     with open(script) as file:
         alone = subprocess.run([program, "debug", *PAIRS], stdin=file, stdout=subprocess.PIPE, text=True, cwd=LOGS, timeout=300).stdout
-    assert "point 1\nend\nat 125: " in alone and alone.splitlines()[-3] in answers, (alone, answers)
+    seen, balances = alone.splitlines()[-2:]
+    assert "point 1\nend\nat 125: " in alone and "%s\n[75, 30]\n" % seen in answers, (alone, answers)
+    assert bytes.fromhex(balances) == struct.pack("<qq", 75, 30), alone
     again = session(program, "l\nvars\n", "--load", points)
-    assert again.startswith("point 1\n1 watch sum(") and "$seen %s\n" % alone.splitlines()[-3] in again, again
+    assert again.startswith("point 1\n1 watch sum(") and "$seen %s\n" % seen in again, again
 
 
 # Answers lines as the debugger would, and stays at its first `continue` for ever.

@@ -54,9 +54,12 @@ class Debugger:
 
     def restart(self):
         """Ends what the program is at, and begins again."""
+        self.stop()
+        self.first = self.begin()
+
+    def stop(self):
         self.program.kill()
         self.program.communicate()
-        self.first = self.begin()
 
     def end(self):
         """Ends the session, and returns the program's status."""

@@ -1,0 +1,1 @@
+"""The debugger in an editor, by the Debug Adapter Protocol."""

@@ -1,0 +1,162 @@
+"""The variables pane: scopes, and what is under a variable. Values are read where a client opens them."""
+
+from logs.wording import shown, source
+from sessions.names import Refusal
+from sessions.places import LAST_CALL
+from sessions.spelling import of_answer
+
+# A struct or array of more numbers is not spelled in the line of its name, and so many elements are told at once.
+MOST_SPELLED, MOST_CHILDREN = 40, 5000
+# Datagrams under way are looked for among so many events.
+MOST_LOOKED_AT, MOST_ON_THEIR_WAY = 20_000, 200
+READ_ONLY = {"attributes": ["readOnly"]}
+
+
+def plain(name, value):
+    return {"name": str(name), "value": str(value), "variablesReference": 0, "presentationHint": READ_ONLY}
+
+
+class Tree:
+    """What a client may open until the session moves, by the numbers that it was told."""
+
+    def __init__(self, engine, watches):
+        self.engine, self.watches, self.opened = engine, watches, []
+
+    def reference(self, open_):
+        self.opened.append(open_)
+        return len(self.opened)
+
+    def children(self, reference, form="", start=0, count=None):
+        if not isinstance(reference, int) or not 1 <= reference <= len(self.opened):
+            raise Refusal("this is of another position")
+        return self.opened[reference - 1](form, start, min(count or MOST_CHILDREN, MOST_CHILDREN))
+
+    # Scopes
+
+    def scopes(self, node):
+        """Of a frame: the event of the position, what is watched, its own process, the others, and what is on its way."""
+        made = [self.scope("Event %d" % self.engine.position, self.event, False)] if self.engine.position else []
+        if self.watches:
+            made.append(self.scope("Watched", self.watched, False))
+        made.append({**self.scope(node, self.process(node), False), "presentationHint": "locals"})
+        made += [self.scope(other, self.process(other), True) for other in self.engine.names.nodes if other != node]
+        return [*made, self.scope("On its way", self.on_its_way, True), self.scope("Session", self.session, True)]
+
+    def scope(self, name, open_, is_expensive):
+        return {"name": name, "variablesReference": self.reference(open_), "expensive": is_expensive}
+
+    def event(self, form, start, count):
+        event, called = self.engine.event, self.engine.names.called
+        entry = event.entry
+        made = [("process", event.log.name), ("thread", entry.thread), ("call", entry.call.name), ("clock", entry.clock)]
+        made += [("argument %d" % at, value) for at, value in enumerate(entry.arguments)]
+        made += [("reply", entry.reply)] if entry.call.result else []
+        made += [("signal", entry.signal)] if entry.signal else []
+        if entry.call.name == "send":
+            takers = ", ".join(map(str, self.engine.index.taken_at(event)))
+            made += [("to", called.get(entry.arguments[0], entry.arguments[0])), ("taken at", takers or "no position")]
+        if entry.call.has_tag and entry.reply >= 0:
+            sent = self.engine.index.sent_at(entry.tag, event.log.process) if entry.tag else None
+            made.append(("from", source(entry.tag, called) + (", position %d" % sent if sent else "")))
+        made += [("sent", shown(entry.sent))] if entry.call.sends_bytes else []
+        made += [("taken", shown(entry.taken))] if entry.call.takes_bytes and entry.reply >= 0 else []
+        return [plain(*pair) for pair in made]
+
+    def watched(self, form, start, count):
+        return [self.expression(name, text, form) for name, text in self.watches.items()]
+
+    def session(self, form, start, count):
+        return [plain(*line.split(" ", 1)) for line in self.engine.debugger.ask("vars")]
+
+    def on_its_way(self, form, start, count):
+        """Datagrams of the group that were sent by now, and that a process takes later or never."""
+        here, made = self.engine.position, []
+        for position in range(here, max(0, here - MOST_LOOKED_AT), -1):
+            event = self.engine.send_at(position)
+            if event is None:
+                continue
+            takers = self.engine.index.taken_at(event)
+            later = [taker for taker in takers if taker > here]
+            if later or not takers:
+                told = "taken at %s" % ", ".join(map(str, later)) if later else "taken at no position"
+                made.append(plain(self.engine.line_at(position), "%s: %s" % (told, shown(event.entry.sent))))
+            if len(made) == MOST_ON_THEIR_WAY:
+                break
+        return made[::-1]
+
+    def process(self, node):
+        def open_(form, start, count):
+            own = [self.expression(name, "@%s.%s" % (node, name), form) for name in ("events", "clock", "size")]
+            variables = [variable.name for variable in self.engine.names.variables(node) if not variable.name.endswith(LAST_CALL)]
+            found = [self.variable(name.rpartition("::")[2], "%s.%s" % (node, name), node, form) for name in variables]
+            return [plain("state", self.engine.threads.standing(node)[0]), *own, *found]
+
+        return open_
+
+    # Values
+
+    def variable(self, name, path, node, form):
+        try:
+            return self.shown(name, path, node, self.engine.value(path), form)
+        except Refusal as refusal:
+            return plain(name, "(%s)" % refusal)
+
+    def shown(self, name, path, node, value, form):
+        is_short = value.count(MOST_SPELLED) <= MOST_SPELLED
+        made = {**plain(name, value.text(form) if is_short else value.type), "type": value.type, "evaluateName": path}
+        address = address_of(value)
+        if address is not None:
+            made["memoryReference"] = "%s:%d" % (node, address)
+        return {**made, **self.under(value, path, node)}
+
+    def under(self, value, path, node):
+        """How the parts of a value are opened."""
+        if value.array:
+            def open_(form, start, count):
+                parts = value.elements(start, count)
+                return [self.shown(name, path + name, node, part, form) for name, part in parts]
+
+            return {"variablesReference": self.reference(open_), "indexedVariables": value.array[1]}
+        if value.struct:
+            def open_(form, start, count):
+                return [self.shown(name, "%s.%s" % (path, name), node, part, form) for name, part in value.fields()]
+
+            return {"variablesReference": self.reference(open_)}
+        if value.is_pointer and or_none(value.number):
+            def open_(form, start, count):
+                return [self.shown("[0]", path + "[0]", node, value.pointed(self.engine.memory(node)), form)]
+
+            return {"variablesReference": self.reference(open_)}
+        return {"variablesReference": 0}
+
+    def expression(self, name, text, form=""):
+        answer = self.engine.ask("print " + text).lines[0]
+        return {**plain(name, of_answer(answer, form)), "evaluateName": text}
+
+    def value(self, text, node, form):
+        """The variable or the expression of this text; names without a process are of this one."""
+        whole = self.engine.names.qualified(text, node)
+        place = self.engine.names.place(whole)
+        if place:
+            return self.shown(text, whole, place.node, self.engine.value(whole), form)
+        answer = self.engine.ask("print " + whole)
+        if answer.is_refused:
+            raise Refusal(self.why(text, node, answer.lines[0][2:]))
+        return {**plain(text, of_answer(answer.lines[0], form)), "evaluateName": whole}
+
+    def why(self, text, node, refusal):
+        """What helps beside a refusal: a name that is none of the process, as a local variable has."""
+        if text.strip().isidentifier():
+            return "%s is no variable of %s, and local variables are not told" % (text.strip(), node)
+        return refusal
+
+
+def or_none(read):
+    try:
+        return read()
+    except Refusal:
+        return None
+
+
+def address_of(value):
+    return or_none(lambda: value.bytes.start(value.offset))

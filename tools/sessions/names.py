@@ -1,0 +1,158 @@
+"""Names of variables in lines: NODE.PATH stands for what scripts spell @NODE.{PATH}, and PATH for that of a current process."""
+
+import os
+import re
+import sys
+
+from logs.format import BadLog, head_of, printable
+
+KIT = os.path.join(os.path.dirname(os.path.dirname(os.path.dirname(os.path.realpath(__file__)))), "guests")
+sys.path.append(KIT)
+
+from naming import NAME, REFERENCE, STEP, Script, end_of, place_of  # noqa: E402 (it lies in the kit's folder)
+from place_table import Refusal, read_table  # noqa: E402
+
+STRING = re.compile(r'"[^"]*"?')
+WORD = re.compile(r"[@$.]?\w+", re.ASCII)
+OWN_PLACES = ("u8", "u16", "u32", "i8", "i16", "i32", "i64", "global", "clock", "events", "size", "thread", "ended")
+# Words of programs, which no variable of a guest hides.
+KEPT_WORDS = ("set", "say", "stop", "if", "else")
+
+
+class Names:
+    """The variables of each process, by the file of places beside its module."""
+
+    def __init__(self, pairs, told):
+        self.nodes, self.paths, self.modules, self.called, tables = [], [], {}, {}, {}
+        for module, path in zip(pairs[::2], pairs[1::2]):
+            try:
+                log = head_of(path)
+            except (BadLog, OSError):
+                # The program says what is wrong with it.
+                continue
+            self.nodes.append(log.name)
+            self.paths.append(path)
+            self.modules[log.name], self.called[log.process] = module, log.name
+            try:
+                tables[log.name] = read_table(os.path.splitext(module)[0] + ".places")
+            except Refusal as refusal:
+                told("no names for %s: %s" % (log.name, printable(str(refusal))))
+        self.tables, self.script = tables, Script(tables)
+
+    def variables(self, node):
+        return self.tables[node].variables if node in self.tables else []
+
+    def reference(self, text, at):
+        """The node, the path and the end of a reference NODE.PATH that begins here, or None."""
+        word = WORD.match(text, at)
+        if word is None or word[0] not in self.nodes or text[word.end() : word.end() + 1] != ".":
+            return None
+        end = end_of_path(text, word.end() + 1)
+        return (word[0], text[word.end() + 1 : end], end) if end else None
+
+    def has(self, node, path):
+        """Whether the path begins with a variable of this process, and not with a word such as `clock`."""
+        name = NAME.match(path)[0]
+        return name not in OWN_PLACES or self.is_variable(node, name)
+
+    def is_variable(self, node, name):
+        return any(v.name == name or v.name.endswith("::" + name) for v in self.variables(node))
+
+    def qualified(self, text, node):
+        """The text with the process before each variable that has none and that this process has."""
+
+        def named(at):
+            if found := self.reference(text, at):
+                return text[at : found[2]], found[2]
+            name = NAME.match(text, at)
+            if name is None or name[0] in KEPT_WORDS or text[name.end() : name.end() + 1] == "(" or not self.is_variable(node, name[0]):
+                return None
+            end = end_of_path(text, at)
+            return "%s.%s" % (node, text[at:end]), end
+
+        return replaced(text, named)
+
+    def spelled(self, text):
+        """The text as a script spells it: @NODE.{PATH} for NODE.PATH, and @NODE.clock for NODE.clock."""
+
+        def named(at):
+            found = self.reference(text, at)
+            if found is None:
+                return None
+            node, path, end = found
+            return ("@%s.{%s}" % (node, self.indexed(node, path)), end) if self.has(node, path) else ("@" + node, at + len(node))
+
+        return replaced(text, named)
+
+    def indexed(self, node, path):
+        """A path with each variable in its indices in braces, as scripts have them."""
+        out, at = "", 0
+        while (start := path.find("[", at)) >= 0:
+            end = end_of(path, start + 1)
+            out += path[at : start + 1] + self.index(node, path[start + 1 : end]) + "]"
+            at = end + 1
+        return out + path[at:]
+
+    def index(self, node, text):
+        def named(at):
+            if text[at] == "{":
+                end = end_of(text, at + 1) + 1
+                return text[at:end], end
+            found = self.reference(text, at)
+            name = NAME.match(text, at)
+            if found and found[0] != node:
+                raise Refusal("an index is read from the process of its array, and not from %s" % found[0])
+            if found and self.has(node, found[1]):
+                return "{%s}" % self.indexed(node, found[1]), found[2]
+            if found is None and name and self.is_variable(node, name[0]):
+                end = end_of_path(text, at)
+                return "{%s}" % self.indexed(node, text[at:end]), end
+            return None
+
+        return replaced(text, named)
+
+    def line(self, text):
+        """The line that the program is sent."""
+        return self.script.line(self.spelled(text))
+
+    def place(self, text):
+        """The place of a text that is nothing but NODE.PATH or @NODE.{PATH}, or None."""
+        text = text.strip()
+        braced = re.fullmatch(r"@(\w+)\.\{(.*)\}", text)
+        if braced and braced[1] in self.tables:
+            return place_of(braced[1], self.tables[braced[1]], braced[2])
+        found = self.reference(text, 0)
+        if found is None or found[2] != len(text) or not self.has(*found[:2]) or found[0] not in self.tables:
+            return None
+        return place_of(found[0], self.tables[found[0]], self.indexed(found[0], found[1]))
+
+
+def replaced(text, named):
+    """The text with what `named` makes of the names in it; strings and what scripts have in braces stay as they are."""
+    out, at = "", 0
+    while at < len(text):
+        if string := STRING.match(text, at):
+            out, at = out + string[0], string.end()
+        elif braced := REFERENCE.match(text, at):
+            end = end_of(text, braced.end()) + 1
+            out, at = out + text[at:end], end
+        elif found := named(at):
+            out, at = out + found[0], found[1]
+        elif word := WORD.match(text, at):
+            out, at = out + word[0], word.end()
+        else:
+            out, at = out + text[at], at + 1
+    return out
+
+
+def end_of_path(text, at):
+    """Where a path ends that begins here, or 0."""
+    name = NAME.match(text, at)
+    if name is None:
+        return 0
+    at = name.end()
+    while step := STEP.match(text, at):
+        at = step.end()
+        if step[0] == "[":
+            at = end_of(text, at) + 1
+    return at
