@@ -18,9 +18,9 @@ MOST_BYTES, MOST_PAGES, MOST_ELEMENTS, MOST_LOCALS = 4_194_304, 256, 65_536, 4_0
 MOST_TOLD = 3
 WIDTHS = {"i": "i32", "l": "i64"}
 HELP = {
-    "float": "no flag helps: friday has no floats, so count in whole numbers, as thousandths in an int64_t",
-    "bulk-memory": "compile with -mcpu=mvp, or -mno-bulk-memory, and libraries too",
-    "reference-types": "compile and link with -mcpu=mvp, or -mno-reference-types",
+    "float": "guests/lower makes whole numbers of them, as guests/build does",
+    "bulk-memory": "guests/lower takes them out, if they copy or fill; or compile with -mcpu=mvp or -mno-bulk-memory, and libraries too",
+    "reference-types": "guests/lower takes calls at length out; or compile and link with -mcpu=mvp or -mno-reference-types",
     "multivalue": "compile with -mcpu=mvp, or -mno-multivalue",
     "tail-call": "compile with -mcpu=mvp, or -mno-tail-call",
     "simd128": "compile with -mcpu=mvp, or -mno-simd128",
@@ -28,9 +28,9 @@ HELP = {
 }
 
 
-def faults(data, path, size=None):
-    """The lines for each fault of the module's bytes; `path` is a file of them, for the debug information in it, without which
-    it may have another size."""
+def faults(data, path, size=None, origin=lambda at: at):
+    """The lines for each fault of the module's bytes. `path` is a file with its debug information, without which the module may
+    have another size; `origin` tells where in that file's code a place of the code is."""
     size = len(data) if size is None else size
     if size > MOST_BYTES:
         yield "TooLarge: it has %d bytes, and at most %d can be; build without debug information, or with -Os" % (size, MOST_BYTES)
@@ -39,7 +39,7 @@ def faults(data, path, size=None):
         return
     try:
         module = read_module(data)
-        yield from faults_of_code(module, path)
+        yield from faults_of_code(module, path, origin)
         yield from faults_of_form(module)
         yield from faults_of_imports(module)
         yield from faults_of_limits(module)
@@ -48,7 +48,7 @@ def faults(data, path, size=None):
         yield "1 Malformed: a section or a function ends before its time; is the file whole?"
 
 
-def faults_of_code(module, path):
+def faults_of_code(module, path, origin):
     """Instructions that 1.0 without floats has not, by their feature, with the functions and lines."""
     found = {}
     for function in module.functions:
@@ -56,15 +56,15 @@ def faults_of_code(module, path):
             found.setdefault(feature, []).append((function, at, name))
     for feature, places in found.items():
         reason = "2 HasFloat" if feature == "float" else "1 Malformed"
-        told = "; ".join(place_of(module, path, *place) for place in places[:MOST_TOLD])
+        told = "; ".join(place_of(module, path, origin, *place) for place in places[:MOST_TOLD])
         more = "; and %d more" % (len(places) - MOST_TOLD) if len(places) > MOST_TOLD else ""
         what = "floats" if feature == "float" else "the feature %s came after 1.0" % feature
         yield "%s: %s: %s%s; %s" % (reason, what, told, more, HELP[feature])
 
 
-def place_of(module, path, function, at, name):
+def place_of(module, path, origin, function, at, name):
     called = module.names.get(function.number, "number %d" % function.number)
-    return "%s in function %s%s" % (name, called, line_of(path, at))
+    return "%s in function %s%s" % (name, called, line_of(path, origin(at)))
 
 
 def line_of(path, at):

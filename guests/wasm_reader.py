@@ -3,15 +3,24 @@ from dataclasses import dataclass, field
 
 VALUE_TYPES = {0x7F: "i32", 0x7E: "i64", 0x7D: "f32", 0x7C: "f64", 0x7B: "v128", 0x70: "funcref", 0x6F: "externref"}
 
+# A number has at most 64 bits, 7 in each byte.
+LONGEST_NUMBER = 70
+
 
 def read_leb(data, at):
     value = shift = 0
     while True:
+        if shift >= LONGEST_NUMBER:
+            raise IndexError
         byte = data[at]
         value |= (byte & 0x7F) << shift
         at, shift = at + 1, shift + 7
         if byte < 0x80:
             return value, at
+
+
+def type_name(byte):
+    return VALUE_TYPES.get(byte, "type %#x" % byte)
 
 
 def sections_of(data):
@@ -51,26 +60,27 @@ class Reader:
         return flags, least, self.number() if flags & 1 else None
 
     def type(self):
-        byte = self.byte()
-        return VALUE_TYPES.get(byte, "type %#x" % byte)
-
-    def types(self):
-        return tuple(self.type() for _ in range(self.number()))
+        return type_name(self.byte())
 
 
 @dataclass
 class Function:
-    """A function of the module: its number, its locals in groups, where its code stands in the code section, and the code."""
+    """A function of the module: its number, its locals in groups of a count and the byte of a type, where its code stands in the code
+    section, and the code."""
 
     number: int
-    locals: list
+    groups: list
     start: int
     code: bytes
+
+    @property
+    def locals(self):
+        return [(count, type_name(byte)) for count, byte in self.groups]
 
 
 @dataclass
 class Module:
-    types: list = field(default_factory=list)
+    type_bytes: list = field(default_factory=list)
     imports: list = field(default_factory=list)
     kinds: list = field(default_factory=list)
     memories: list = field(default_factory=list)
@@ -82,12 +92,17 @@ class Module:
     sections: set = field(default_factory=set)
     segments: list = field(default_factory=list)
 
+    @property
+    def types(self):
+        """What each type takes and gives."""
+        return [tuple(tuple(type_name(byte) for byte in part) for part in type_) for type_ in self.type_bytes]
+
     def imported(self):
         """How many functions are imported: those of the module are numbered after them."""
         return sum(kind == 0 for _, _, kind, _ in self.imports)
 
     def type_of(self, number):
-        return self.types[self.kinds[number]]
+        return tuple(tuple(type_name(byte) for byte in part) for part in self.type_bytes[self.kinds[number]])
 
 
 def read_module(data):
@@ -104,7 +119,7 @@ def read_module(data):
 def read_types(module, reader):
     for _ in range(reader.number()):
         reader.byte()
-        module.types.append((reader.types(), reader.types()))
+        module.type_bytes.append((reader.bytes(reader.number()), reader.bytes(reader.number())))
 
 
 def read_imports(module, reader):
@@ -171,7 +186,7 @@ def read_code(module, reader):
         size = reader.number()
         end, groups = reader.at + size, []
         for _ in range(reader.number()):
-            groups.append((reader.number(), reader.type()))
+            groups.append((reader.number(), reader.byte()))
         start = reader.at
         module.functions.append(Function(module.imported() + place, groups, start, reader.bytes(end - start)))
 
