@@ -27,10 +27,10 @@ def is_cpp(path):
 def headers_of_libc(with_cpp):
     headers = os.path.join(LIBC, "include", "wasm32-wasi")
     if not os.path.exists(os.path.join(headers, "stdio.h")):
-        raise Refusal("there is no %s/stdio.h: Debian's package wasi-libc brings it" % headers)
+        raise Refusal("there is no %s/stdio.h: guests/install.sh installs it" % headers)
     cpp = os.path.join(headers, "c++", "v1")
     if with_cpp and not os.path.exists(cpp):
-        raise Refusal("there is no %s: Debian's package libc++-14-dev-wasm32 brings it" % cpp)
+        raise Refusal("there is no %s: guests/install.sh installs it" % cpp)
     # The kit's headers go first, and include those of the library.
     folders = ([cpp] if with_cpp else []) + [os.path.join(KIT, part, "include") for part in LIBC_FILES] + [headers]
     return [word for folder in folders for word in ("-isystem", folder)]

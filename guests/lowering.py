@@ -8,10 +8,9 @@ import bisect
 import os
 import tempfile
 
-from instructions import BLOCKS, LONG_OPERANDS, OPERANDS, pass_over
 from place_table import Refusal
 from toolchain import BARE_WORDS, CLANG, KIT, compiler_routines, run
-from wasm_reader import Reader, pass_over_constant, read_module, sections_of
+from wasm_reader import BLOCKS, BRANCH_TABLE, LONG_OPERANDS, OPERANDS, Reader, pass_over, pass_over_constant, read_module, sections_of
 
 COMPARISONS = "eq ne lt gt le ge".split()
 ARITHMETIC = "abs neg ceil floor trunc nearest sqrt add sub mul div min max copysign".split()
@@ -40,7 +39,7 @@ KIN = {0x2A: 0x28, 0x2B: 0x29, 0x38: 0x36, 0x39: 0x37}
 CONSTANTS = {0x43: (0x41, 4), 0x44: (0x42, 8)}
 REINTERPRETATIONS = range(0xBC, 0xC0)
 TYPES = {0x7D: 0x7F, 0x7C: 0x7E}
-CALL, CALL_INDIRECT, BRANCH_TABLE, TYPED_SELECT, SELECT, LONG = 0x10, 0x11, 0x0E, 0x1C, 0x1B, 0xFC
+CALL, CALL_INDIRECT, TYPED_SELECT, SELECT, LONG = 0x10, 0x11, 0x1C, 0x1B, 0xFC
 # Instructions of these begin a form that is not read here, and are refused in any case.
 UNREAD = {0xFD: "simd128", 0xFE: "atomics"}
 # What no function that is added to a module may have: globals, memory's size, calls through a table.
