@@ -15,7 +15,7 @@ START = '#include "liblog.h"\nstatic volatile int32_t number = 200;\n'
 # By own flags of clang: a name, the flags, the code after START, and parts of what is told.
 BY_CLANG = (
     ("good", "-mcpu=mvp", "void _start(void) {\n    liblog_note(number);\n}", ()),
-    ("half", "-mcpu=mvp", "void _start(void) {\n    liblog_note((int64_t)(number / 2.5f));\n}", ("2 HasFloat: ", "_start, half.c:4", "no flag helps")),
+    ("half", "-mcpu=mvp", "void _start(void) {\n    liblog_note((int64_t)(number / 2.5f));\n}", ("2 HasFloat: ", "_start, half.c:4", "guests/lower")),
     ("sign", "-mcpu=mvp -msign-ext", "void _start(void) {\n    liblog_note((int8_t)number);\n}", ()),
     ("bulk", "-mcpu=mvp -mbulk-memory",
      "static uint8_t a[4096], b[4096];\nvoid _start(void) {\n    __builtin_memcpy(a, b, 4096);\n    liblog_print(a, 9);\n}",
@@ -28,9 +28,9 @@ BY_CLANG = (
     ("none", "-mcpu=mvp -Wl,--export=other", "void other(void) {\n    liblog_note(number);\n}", ("6 NoStart: it exports no _start", "--export=_start")),
     ("main", "-mcpu=mvp", "int _start(int a) {\n    return a;\n}", ("6 NoStart: _start takes or gives something",)),
 )
-# By guests/build, whose flags leave floats and sizes alone.
+# By guests/build, which lowers floats and leaves sizes alone.
 BY_BUILD = (
-    ("floaty", "void _start(void) {\n    liblog_note((int64_t)(number * 0.5f));\n}", 1, ("2 HasFloat", "floaty.c:4")),
+    ("floaty", "void _start(void) {\n    liblog_note((int64_t)(number * 0.5f));\n}", 0, ()),
     ("large", "static uint8_t wide[20 << 20];\nvoid _start(void) {\n    wide[number] = 1;\n    liblog_print(wide, 9);\n}", 1, ("5 OverLimit",)),
     ("fine", "void _start(void) {\n    liblog_note(number);\n}", 0, ()),
 )
@@ -58,7 +58,7 @@ def check_clang(name, flags, code, parts):
 def check_build(name, code, wanted, parts):
     write(name, code)
     status, told = run([os.path.join(KIT, "build"), name + ".c"])
-    assert status == wanted and all(part in told for part in parts), (name, status, told)
+    assert status == wanted and all(part in told for part in parts) and bool(told) == bool(parts), (name, status, told)
     assert os.path.exists(name + ".wasm") and os.path.exists(name + ".places")
 
 

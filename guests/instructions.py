@@ -1,5 +1,5 @@
 """The instructions of a function, and of which feature after WebAssembly 1.0 each is, if it is of one that friday refuses."""
-from wasm_reader import Reader
+from wasm_reader import BLOCKS, LONG_OPERANDS, OPERANDS, Reader, pass_over
 
 # Those on floats, by their codes in 1.0.
 FLOATS = [0x2A, 0x2B, 0x38, 0x39, 0x43, 0x44, *range(0x5B, 0x67), *range(0x8B, 0xA7), *range(0xA8, 0xAC), *range(0xAE, 0xC0)]
@@ -9,14 +9,6 @@ FEATURES = {
     **{code: "reference-types" for code in (0x1C, 0x25, 0x26, 0xD0, 0xD1, 0xD2)},
     0x12: "tail-call", 0x13: "tail-call", 0xFD: "simd128", 0xFE: "atomics",
 }
-# What comes after a code: n for a number, b for a byte, and how many bytes of a constant.
-OPERANDS = {
-    0x0C: "n", 0x0D: "n", 0x10: "n", 0x11: "nn", 0x12: "n", 0x13: "nn", **{code: "n" for code in range(0x20, 0x27)},
-    **{code: "nn" for code in range(0x28, 0x3F)}, 0x3F: "b", 0x40: "b", 0x41: "n", 0x42: "n", 0x43: "4", 0x44: "8",
-    0xD0: "n", 0xD2: "n",
-}
-LONG_OPERANDS = {8: "nn", 9: "n", 10: "nn", 11: "n", 12: "nn", 13: "n", 14: "nn", 15: "n", 16: "n", 17: "n"}
-BLOCKS = (0x02, 0x03, 0x04)
 LONG_NAMES = {8: "memory.init", 9: "data.drop", 10: "memory.copy", 11: "memory.fill", 12: "table.init", 13: "elem.drop",
               14: "table.copy", 15: "table.grow", 16: "table.size", 17: "table.fill"}
 
@@ -62,11 +54,3 @@ def fault_of_operands(reader, at, code):
             yield at, "reference-types", "a call through a table that is told at length"
     else:
         pass_over(reader, OPERANDS.get(code, ""))
-
-
-def pass_over(reader, operands):
-    for kind in operands:
-        if kind == "n":
-            reader.number()
-        else:
-            reader.bytes(1 if kind == "b" else int(kind))

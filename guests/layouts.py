@@ -67,6 +67,12 @@ class Layouts:
         self.entries = read_entries(dump)
         self.table = table
         self.types = {}
+        # The structs that some unit defines, by their full names, and the names of those that the table has, by where they are written.
+        self.defined = {}
+        self.written = {}
+        for entry in self.entries.values():
+            if entry.tag in STRUCTS and entry.name() and "declaration" not in entry.attributes:
+                self.defined.setdefault(_scope_of(entry), []).append(entry)
 
     def fill(self):
         for entry in self.entries.values():
@@ -128,15 +134,28 @@ class Layouts:
         members = list(_members_of(entry))
         if SHELLS.match(entry.name()) and len(members) == 1:
             return self.type_of(members[0])
-        if entry.attributes.get("declaration") == "true":
-            return "bytes0"
-        name = self.free_name(word_of(entry.name()))
+        if "declaration" in entry.attributes:
+            return self.struct_elsewhere(entry)
+        # Each unit that includes a header describes its structs again.
+        place = (_scope_of(entry), size, entry.attributes.get("decl_file"), entry.attributes.get("decl_line"))
+        if place[-1] and place in self.written:
+            return self.written[place]
+        name = self.written[place] = self.free_name(word_of(entry.name()))
         struct = self.table.structs[name] = Struct(name, size)
         # A field may point to such a struct again.
         self.types[id(entry)] = name
         for member in members:
             struct.fields += self.fields_of(member)
         return name
+
+    def struct_elsewhere(self, entry):
+        """A struct that is only declared here, as another unit defines it, if all that do agree on its size."""
+        found = self.defined.get(_scope_of(entry), [])
+        if not found or len({other.number("byte_size") for other in found}) > 1:
+            return "bytes0"
+        if id(found[0]) not in self.types:
+            self.types[id(found[0])] = self.spell(found[0])
+        return self.types[id(found[0])]
 
     def free_name(self, word):
         is_taken = word in self.table.structs or re.fullmatch(r"[ui]\d+|bytes\d+", word)
@@ -153,6 +172,14 @@ class Layouts:
         # The fields of a tuple of Rust are __0, __1 and so on. What tells variants apart has no name.
         name = re.sub(r"^__(?=\d+$)", "", member.name() or "variant")
         return [Field(re.sub("[^0-9A-Za-z_]", "_", name), type_, offset, bits)]
+
+
+def _scope_of(entry):
+    """The name of a type with those of the namespaces and types that it stands in."""
+    words = [entry.name()]
+    while (entry := entry.parent) and entry.tag in {"namespace", *STRUCTS}:
+        words.append(entry.name())
+    return tuple(words)
 
 
 def _tags_around(entry):

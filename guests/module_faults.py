@@ -5,7 +5,9 @@ import subprocess
 import sys
 
 from instructions import faults_of
-from wasm_reader import read_module
+from strict_reader import Malformed, StrictModule
+from validation import Invalid, check_body, faults_of_parts, gather, has_floats_around, segments_that_end_past
+from wasm_reader import Module, read_module
 
 TOOLS = os.path.join(os.path.dirname(os.path.dirname(os.path.abspath(__file__))), "tools")
 sys.path.append(TOOLS)
@@ -18,37 +20,75 @@ MOST_BYTES, MOST_PAGES, MOST_ELEMENTS, MOST_LOCALS = 4_194_304, 256, 65_536, 4_0
 MOST_TOLD = 3
 WIDTHS = {"i": "i32", "l": "i64"}
 HELP = {
-    "float": "no flag helps: friday has no floats, so count in whole numbers, as thousandths in an int64_t",
-    "bulk-memory": "compile with -mcpu=mvp, or -mno-bulk-memory, and libraries too",
-    "reference-types": "compile and link with -mcpu=mvp, or -mno-reference-types",
+    "float": "guests/lower makes whole numbers of them, as guests/build does",
+    "bulk-memory": "guests/lower takes them out, if they copy or fill; or compile with -mcpu=mvp or -mno-bulk-memory, and libraries too",
+    "reference-types": "guests/lower takes calls at length out; or compile and link with -mcpu=mvp or -mno-reference-types",
     "multivalue": "compile with -mcpu=mvp, or -mno-multivalue",
     "tail-call": "compile with -mcpu=mvp, or -mno-tail-call",
     "simd128": "compile with -mcpu=mvp, or -mno-simd128",
+    "bytes": "it is cut short or changed, or not of this version: build it again",
+    "rules": "it was changed by hand, or by a program that is wrong: build it again without that",
+    "room": "give the memory or the table more at first, as wasm-ld --initial-memory does",
     "atomics": "compile with -mcpu=mvp, or -mno-atomics; threads of friday are those of liblog",
 }
 
 
-def faults(data, path, size=None):
-    """The lines for each fault of the module's bytes; `path` is a file of them, for the debug information in it, without which
-    it may have another size."""
+def faults(data, path, size=None, origin=lambda at: at):
+    """The lines for each fault of the module's bytes, those first that friday finds first. `path` is a file with its debug information,
+    without which the module may have another size; `origin` tells where in that file's code a place of the code is."""
     size = len(data) if size is None else size
     if size > MOST_BYTES:
         yield "TooLarge: it has %d bytes, and at most %d can be; build without debug information, or with -Os" % (size, MOST_BYTES)
     if data[:8] != b"\0asm\1\0\0\0":
         yield "1 Malformed: it is no WebAssembly module of version 1"
         return
+    found, module = [], Module()
     try:
         module = read_module(data)
-        yield from faults_of_code(module, path)
-        yield from faults_of_form(module)
-        yield from faults_of_imports(module)
-        yield from faults_of_limits(module)
-        yield from faults_of_start(module)
     except IndexError:
-        yield "1 Malformed: a section or a function ends before its time; is the file whole?"
+        # The bytes end before their time: the strict reader says where.
+        pass
+    for part in (faults_of_code(module, path, origin), faults_of_form(module), faults_of_imports(module), faults_of_limits(module), faults_of_start(module)):
+        try:
+            found += part
+        except IndexError:
+            # It names what is not there, which the rules below find.
+            pass
+    if not any(line.startswith("1 ") for line in found):
+        found += faults_by_rules(data, path, origin, module.names)
+    yield from sorted(found, key=lambda line: line[0])
 
 
-def faults_of_code(module, path):
+def faults_by_rules(data, path, origin, names):
+    """What WebAssembly 1.0 does not spell, or does not hold valid."""
+    try:
+        module = StrictModule(data)
+    except Malformed as fault:
+        yield "1 Malformed: at byte %d: %s; %s" % (fault.at, fault, HELP["bytes"])
+        return
+    gather(module, data)
+    if has_floats_around(module):
+        yield "2 HasFloat: a global, an import or a segment begins with floats; %s" % HELP["float"]
+    untyped = list(faults_of_parts(module))
+    if all(kind < len(module.types) for kind in module.all_kinds):
+        untyped += untyped_bodies(module, path, origin, names)
+    for what in untyped[:MOST_TOLD]:
+        yield "4 Untyped: %s; %s" % (what, HELP["rules"])
+    for kind, number, begin, end, room in segments_that_end_past(module) if not untyped else ():
+        yield "7 BadSegment: its %s segment %d goes from %d to %d, and there are %d; %s" % (kind, number, begin, end, room, HELP["room"])
+
+
+def untyped_bodies(module, path, origin, names):
+    for place in range(len(module.bodies)):
+        number = len(module.all_kinds) - len(module.kinds) + place
+        try:
+            check_body(module, place)
+        except Invalid as fault:
+            called = names.get(number, "number %d" % number)
+            yield "in function %s%s: %s" % (called, line_of(path, origin(fault.at - module.code_at)), fault)
+
+
+def faults_of_code(module, path, origin):
     """Instructions that 1.0 without floats has not, by their feature, with the functions and lines."""
     found = {}
     for function in module.functions:
@@ -56,15 +96,15 @@ def faults_of_code(module, path):
             found.setdefault(feature, []).append((function, at, name))
     for feature, places in found.items():
         reason = "2 HasFloat" if feature == "float" else "1 Malformed"
-        told = "; ".join(place_of(module, path, *place) for place in places[:MOST_TOLD])
+        told = "; ".join(place_of(module, path, origin, *place) for place in places[:MOST_TOLD])
         more = "; and %d more" % (len(places) - MOST_TOLD) if len(places) > MOST_TOLD else ""
         what = "floats" if feature == "float" else "the feature %s came after 1.0" % feature
         yield "%s: %s: %s%s; %s" % (reason, what, told, more, HELP[feature])
 
 
-def place_of(module, path, function, at, name):
+def place_of(module, path, origin, function, at, name):
     called = module.names.get(function.number, "number %d" % function.number)
-    return "%s in function %s%s" % (name, called, line_of(path, at))
+    return "%s in function %s%s" % (name, called, line_of(path, origin(at)))
 
 
 def line_of(path, at):
@@ -89,6 +129,8 @@ def faults_of_form(module):
             yield "2 HasFloat: a function takes or gives floats: (%s) -> (%s); %s" % (", ".join(taken), ", ".join(given), HELP["float"])
         if len(given) > 1:
             yield "1 Malformed: a function gives %d results; %s" % (len(given), HELP["multivalue"])
+    if 8 in module.sections and module.start is not None and module.start < module.imported():
+        yield "6 NoStart: its start section names an import; leave the start section out"
     if any(type_ in ("f32", "f64") for type_ in module.globals):
         yield "2 HasFloat: a global is a float; %s" % HELP["float"]
 
@@ -103,6 +145,8 @@ def faults_of_imports(module):
             yield "3 BadImport: it imports %s.%s; %s" % (place, name, hint)
         elif name not in calls:
             yield "3 BadImport: liblog has no call %s" % name
+        elif what >= len(module.types):
+            yield "3 BadImport: liblog.%s is of a type that is not there" % name
         elif module.types[what] != calls[name]:
             yield "3 BadImport: liblog.%s is declared with another type: (%s) -> (%s)" % (name, *map(", ".join, module.types[what]))
 

@@ -9,6 +9,8 @@ import re
 from dataclasses import dataclass, field
 
 POINTER_SIZE = 4
+# So many names are told of those that one may mean.
+MOST_TOLD = 12
 
 
 class Refusal(Exception):
@@ -75,6 +77,12 @@ def array_of(type_):
     return (found[1], int(found[2])) if found else None
 
 
+def told_of(variables):
+    """The names of some variables, of many the first ones."""
+    names = [variable.name for variable in variables]
+    return ", ".join(names[:MOST_TOLD]) + (" and %d more" % (len(names) - MOST_TOLD) if len(names) > MOST_TOLD else "")
+
+
 def digest_of(path):
     with open(path, "rb") as file:
         return hashlib.sha256(file.read()).hexdigest()
@@ -87,6 +95,11 @@ class PlaceTable:
         self.variables = []
         self.structs = {}
         self.calls = []
+
+    @property
+    def own(self):
+        """How the names of variables begin that are in the guest's own file."""
+        return re.sub("[^0-9A-Za-z_]+", "_", os.path.splitext(self.module)[0]).strip("_")
 
     def size_of(self, type_):
         if type_.endswith("*"):
@@ -102,14 +115,17 @@ class PlaceTable:
         return int(type_[1:]) // 8
 
     def variable(self, name):
-        """The variable of this name, or the one whose name ends in `::` and this."""
-        found = [v for v in self.variables if v.name == name] or [
-            v for v in self.variables if v.name.endswith("::" + name)
-        ]
+        """The variable of this name, or the one whose name ends in `::` and this. One in the file that the module has its name of
+        goes before those in others, and in that file one outside of functions before those in them."""
+        found = [v for v in self.variables if v.name == name or v.name.endswith("::" + name)]
         if not found:
             raise Refusal("%s has no variable %s" % (self.module, name))
+        for is_meant in (lambda v: v.name == name, lambda v: v.name == "%s::%s" % (self.own, name), lambda v: v.name.startswith(self.own + "::")):
+            meant = [v for v in found if is_meant(v)]
+            if len(meant) == 1:
+                return meant[0]
         if len(found) > 1:
-            raise Refusal("%s may be each of %s" % (name, ", ".join(v.name for v in found)))
+            raise Refusal("%s may be each of %s" % (name, told_of(found)))
         return found[0]
 
     def text(self):

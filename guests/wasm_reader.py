@@ -3,15 +3,34 @@ from dataclasses import dataclass, field
 
 VALUE_TYPES = {0x7F: "i32", 0x7E: "i64", 0x7D: "f32", 0x7C: "f64", 0x7B: "v128", 0x70: "funcref", 0x6F: "externref"}
 
+# A number has at most 64 bits, 7 in each byte.
+LONGEST_NUMBER = 70
+
+# What comes after a code: n for a number, b for a byte, and how many bytes of a constant.
+OPERANDS = {
+    0x0C: "n", 0x0D: "n", 0x10: "n", 0x11: "nn", 0x12: "n", 0x13: "nn", **{code: "n" for code in range(0x20, 0x27)},
+    **{code: "nn" for code in range(0x28, 0x3F)}, 0x3F: "b", 0x40: "b", 0x41: "n", 0x42: "n", 0x43: "4", 0x44: "8",
+    0xD0: "n", 0xD2: "n",
+}
+LONG_OPERANDS = {8: "nn", 9: "n", 10: "nn", 11: "n", 12: "nn", 13: "n", 14: "nn", 15: "n", 16: "n", 17: "n"}
+BLOCKS = (0x02, 0x03, 0x04)
+END, BRANCH_TABLE = 0x0B, 0x0E
+
 
 def read_leb(data, at):
     value = shift = 0
     while True:
+        if shift >= LONGEST_NUMBER:
+            raise IndexError
         byte = data[at]
         value |= (byte & 0x7F) << shift
         at, shift = at + 1, shift + 7
         if byte < 0x80:
             return value, at
+
+
+def type_name(byte):
+    return VALUE_TYPES.get(byte, "type %#x" % byte)
 
 
 def sections_of(data):
@@ -51,26 +70,27 @@ class Reader:
         return flags, least, self.number() if flags & 1 else None
 
     def type(self):
-        byte = self.byte()
-        return VALUE_TYPES.get(byte, "type %#x" % byte)
-
-    def types(self):
-        return tuple(self.type() for _ in range(self.number()))
+        return type_name(self.byte())
 
 
 @dataclass
 class Function:
-    """A function of the module: its number, its locals in groups, where its code stands in the code section, and the code."""
+    """A function of the module: its number, its locals in groups of a count and the byte of a type, where its code stands in the code
+    section, and the code."""
 
     number: int
-    locals: list
+    groups: list
     start: int
     code: bytes
+
+    @property
+    def locals(self):
+        return [(count, type_name(byte)) for count, byte in self.groups]
 
 
 @dataclass
 class Module:
-    types: list = field(default_factory=list)
+    type_bytes: list = field(default_factory=list)
     imports: list = field(default_factory=list)
     kinds: list = field(default_factory=list)
     memories: list = field(default_factory=list)
@@ -81,19 +101,25 @@ class Module:
     names: dict = field(default_factory=dict)
     sections: set = field(default_factory=set)
     segments: list = field(default_factory=list)
+    start: int = None
+
+    @property
+    def types(self):
+        """What each type takes and gives."""
+        return [tuple(tuple(type_name(byte) for byte in part) for part in type_) for type_ in self.type_bytes]
 
     def imported(self):
         """How many functions are imported: those of the module are numbered after them."""
         return sum(kind == 0 for _, _, kind, _ in self.imports)
 
     def type_of(self, number):
-        return self.types[self.kinds[number]]
+        return tuple(tuple(type_name(byte) for byte in part) for part in self.type_bytes[self.kinds[number]])
 
 
 def read_module(data):
     module = Module()
     readers = {1: read_types, 2: read_imports, 3: read_kinds, 4: read_tables, 5: read_memories, 6: read_globals,
-               7: read_exports, 9: read_elements, 10: read_code, 11: read_data, 0: read_names}
+               7: read_exports, 8: read_start, 9: read_elements, 10: read_code, 11: read_data, 0: read_names}
     for kind, _, contents in sections_of(data):
         module.sections.add(kind)
         if kind in readers:
@@ -104,7 +130,7 @@ def read_module(data):
 def read_types(module, reader):
     for _ in range(reader.number()):
         reader.byte()
-        module.types.append((reader.types(), reader.types()))
+        module.type_bytes.append((reader.bytes(reader.number()), reader.bytes(reader.number())))
 
 
 def read_imports(module, reader):
@@ -141,19 +167,34 @@ def read_globals(module, reader):
         pass_over_constant(reader)
 
 
-def pass_over_constant(reader):
-    """The expression with which a global begins."""
-    while (code := reader.byte()) != 0x0B:
-        if code in (0x43, 0x44):
-            reader.bytes(4 if code == 0x43 else 8)
-        elif code != 0xFD:
+def pass_over(reader, operands):
+    for kind in operands:
+        if kind == "n":
             reader.number()
+        else:
+            reader.bytes(1 if kind == "b" else int(kind))
+
+
+def pass_over_constant(reader):
+    """The expression with which a global or a segment begins: a constant, if the module is valid."""
+    depth = 1
+    while depth:
+        code = reader.byte()
+        if code == BRANCH_TABLE:
+            pass_over(reader, "n" * (reader.number() + 1))
+        else:
+            pass_over(reader, "n" if code in BLOCKS else OPERANDS.get(code, ""))
+        depth += (code in BLOCKS) - (code == END)
 
 
 def read_exports(module, reader):
     for _ in range(reader.number()):
         name = reader.name()
         module.exports[name] = reader.byte(), reader.number()
+
+
+def read_start(module, reader):
+    module.start = reader.number()
 
 
 def read_elements(module, reader):
@@ -171,7 +212,7 @@ def read_code(module, reader):
         size = reader.number()
         end, groups = reader.at + size, []
         for _ in range(reader.number()):
-            groups.append((reader.number(), reader.type()))
+            groups.append((reader.number(), reader.byte()))
         start = reader.at
         module.functions.append(Function(module.imported() + place, groups, start, reader.bytes(end - start)))
 
