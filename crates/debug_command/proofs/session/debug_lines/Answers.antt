@@ -13,7 +13,7 @@ returns-in-Ok g c =
     subst (λ (opening : List ℕ). Converses (talker_of opening state shell_answer) (terminal c.args.io.now) (terminal c.converse.new.io) c.converse.result) c.in-Ok.ensures.text
     (c.converse.ensures state c.in-Ok.ensures.session)
 
-pub returns : goal.returns
-returns g c =
+pub returns-in-Err : goal.returns-in-Err
+returns-in-Err g c =
     let terminal = terminal_at g.T.Sink.hearing g.T.Sink.taken g.T.Sink.faults in
     c.ends_unbegun.ensures (codes "at 0\n") (opening_session c.args.replayers.items) (terminal c.args.io.now)
