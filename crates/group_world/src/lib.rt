@@ -12,5 +12,5 @@ pub mod laws;
 mod surroundings;
 mod world;
 
-pub use lossy_net::Front;
+pub use lossy_net::{Front, SentBytes};
 pub use world::World;

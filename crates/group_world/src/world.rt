@@ -2,7 +2,7 @@
 ghost use Rattle.std.specs.Prelude.{◌≡◌, ◌↔◌, ℕ, ◌<◌, ◌≤◌, length, false, IsTrue, IfOk, OnOk, OnErr, is_some, option_map};
 ghost use Rattle.lib_calls.specs.Entry.{entry_of};
 ghost use Rattle.lib_calls.specs.Traffic.{drawn as drawn_of, is_sent as is_sent_of, is_taken as is_taken_of};
-ghost use Rattle.lossy_net.specs.Network.{first_waiting, mailbox_of, nth_of, sent_by};
+ghost use Rattle.lossy_net.specs.Network.{first_waiting, kept_sent, mailbox_of, nth_of, sent_by};
 ghost use Rattle.signal_points.specs.Signals.{most_signal};
 ghost use Rattle.group_world.specs.History.{Event, Deliver, Inject, Clock, Random, Signal, Kill, datagram as datagram_of};
 ghost use Rattle.group_world.specs.World.{has_pending, new_world, sent_if, process_count, surroundings_of, took_if, with_act};
@@ -11,7 +11,7 @@ use crate::surroundings::Surroundings;
 use fri_bytes::Bytes;
 use lamport_tag::{Tag, write_tag};
 use lib_calls::{EntryView, is_sent, is_taken};
-use lossy_net::{Front, Net};
+use lossy_net::{Front, Net, SentBytes};
 use std::alloc::{AllocError, Global};
 use std::marker::Model;
 
@@ -61,6 +61,14 @@ impl World {
         ensures { option_map (λ front. (front.tag, front.payload.now)) result ≡ first_waiting self.now.net p }
     {
         self.net.front(p)
+    }
+
+    /// The nth datagram that `p` sent, from 1, as it would be delivered.
+    pub fn sent(&self, p: u32, n: u64) -> Option<SentBytes<'_>>
+        requires { p < process_count self.now }
+        ensures { option_map kept_sent result ≡ nth_of (sent_by self.now.net p) n }
+    {
+        self.net.sent(p, n)
     }
 
     /// The random bytes that are left for `p`.

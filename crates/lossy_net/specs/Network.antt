@@ -4,11 +4,16 @@ use Rattle.std.specs.Prelude.{ℕ, suc, zero, List, [], ◌∷◌, ◌++◌, len
 use Rattle.std.specs.List.{slice_index_or, slice_get}
 use Rattle.lamport_tag.specs.declared.Tag.{Tag}
 use Rattle.lamport_tag.specs.Tag.{IsReadAs, read_datagram}
+use Rattle.lossy_net.specs.declared.net.SentBytes.{SentBytes}
 
 -- a datagram that a process sent into the group: the process that it is for, and all its bytes
 pub record Sent : Type 0 where
   pub to : ℕ
   pub bytes : List ℕ
+
+-- a datagram that was sent, as it is shown, is this one
+abbrev pub kept_sent : SentBytes → Sent
+kept_sent sent = record { to = sent.to; bytes = sent.bytes.now }
 
 -- what a process sent into the group, the first one first, and the datagrams that wait for it, the
 -- next one to be taken first

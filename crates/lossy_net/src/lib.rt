@@ -12,4 +12,4 @@ mod endpoint;
 mod net;
 mod shared;
 
-pub use net::{Front, Net};
+pub use net::{Front, Net, SentBytes};

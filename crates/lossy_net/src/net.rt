@@ -1,6 +1,6 @@
 // The network of a group.
 ghost use Rattle.std.specs.Prelude.{◌≡◌, ◌≢◌, ◌↔◌, ℕ, ◌<◌, ◌≤◌, [], length, replicate, IsTrue, IsNone, IfSome, IfOk, OnOk, OnErr, is_some, option_map};
-ghost use Rattle.lossy_net.specs.Network.{Traffic, no_traffic, sent_by, mailbox_of, nth_of, with_sent, with_waiting, with_delivered, without_front, first_waiting, IsFirstWaiting};
+ghost use Rattle.lossy_net.specs.Network.{Traffic, kept_sent, no_traffic, sent_by, mailbox_of, nth_of, with_sent, with_waiting, with_delivered, without_front, first_waiting, IsFirstWaiting};
 
 use crate::endpoint::Endpoint;
 use crate::shared::Shared;
@@ -14,6 +14,13 @@ use std::marker::Model;
 pub struct Front<'a> {
     pub tag: Option<Tag>,
     pub payload: &'a [u8],
+}
+
+/// A datagram that was sent into the group: for which process, and all its bytes, tag and payload.
+#[derive(Clone, Copy, Debug, PartialEq, Eq)]
+pub struct SentBytes<'a> {
+    pub to: u32,
+    pub bytes: &'a [u8],
 }
 
 /// What the processes of a group sent into the group, and the datagrams that wait for each of them.
@@ -66,6 +73,18 @@ impl Net {
     {
         let bytes = Shared::new(self.alloc, bytes)?;
         self.endpoints[p as usize].add_sent(to, bytes)
+    }
+
+    /// The nth datagram that `p` sent, from 1, as it would be delivered. The bytes are those that are kept.
+    pub fn sent(&self, p: u32, n: u64) -> Option<SentBytes<'_>>
+        requires { p < length self.now }
+        ensures { option_map kept_sent result ≡ nth_of (sent_by self.now p) n }
+    {
+        let datagram = self.endpoints[p as usize].nth_sent(n)?;
+        Some(SentBytes {
+            to: datagram.to,
+            bytes: datagram.bytes.as_slice(),
+        })
     }
 
     /// Puts the nth datagram that `p` sent, from 1, at the end of its receiver's mailbox. False where

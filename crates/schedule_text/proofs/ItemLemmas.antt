@@ -1,6 +1,6 @@
 -- Lines of a header, a process or an item: what is read is written so, and what is written so is read.
 use Rattle.std.proofs.Common.{◌≡◌, ℕ, ◌<◌, ◌≤◌, true, false, cond, ◌&&◌, List, [], ◌∷◌, Some, None, refl, sym, ap, subst, ◌∙◌, arith, inl, inr, ℤ}
-use Rattle.std.specs.Prelude.{codes}
+use Rattle.std.specs.Prelude.{◌↔◌, codes}
 use Rattle.std.specs.Result.{result_ok}
 use Rattle.std.specs.Str.{bytes_eq}
 use Rattle.std.proofs.lemmas.Bool.{cases_Bool, and_from, and_parts}
@@ -15,6 +15,7 @@ use Rattle.schedule_text.specs.declared.item.Item.TheVariants.{Run, Deliver, Inj
 use Rattle.schedule_text.specs.Limits.{most_thread, most_datagram}
 use Rattle.schedule_text.specs.declared.process.ProcessLine.{ProcessLine}
 use Rattle.schedule_text.specs.Fields.{field_at, last_field_of, is_comment}
+use Rattle.schedule_text.specs.ItemLine.{begin_item, is_item_word, item_of_fields}
 use Rattle.schedule_text.specs.Grammar.{IsNumber, IsSignedNumber, IsHeader, IsHex, IsProcessLine, IsRunItem, IsPair, IsItemLine}
 use Rattle.schedule_text.specs.Reading.{number_up_to, positive_of, process_number_of, times_of, is_header, process_line_of, run_item, pair_in, deliver_item, bytes_in, inject_item, clock_item, random_item, signal_item, kill_item, item_by_word}
 use Rattle.schedule_text.specs.Schedule.{IsInRange, IsProcess, is_module_name}
@@ -327,6 +328,44 @@ item_word word fields (Signal process number) line = rw (writes_pair (codes "sig
 item_word word [] (Kill process) line = absurd line
 item_word word (p ∷ []) (Kill process) line = rw line.0 (refl, refl)
 item_word word (p ∷ more ∷ fields) (Kill process) line = absurd line
+
+-- an item's first word is one of those of items
+item_begins : (word : List ℕ) (fields : List (List ℕ)) (item : Item) → IsItemLine (word ∷ fields) item → is_item_word word ≡ true
+item_begins word [] (Run process thread times) line = absurd line
+item_begins word (p ∷ []) (Run process thread times) line = absurd line
+item_begins word (p ∷ t ∷ []) (Run process thread times) line = rw line.0 refl
+item_begins word (p ∷ t ∷ n ∷ []) (Run process thread times) line = rw line.0 refl
+item_begins word (p ∷ t ∷ n ∷ m ∷ fields) (Run process thread times) line = absurd line
+item_begins word fields (Deliver process number) line = rw (writes_pair (codes "deliver") word fields process _ line).word_is refl
+item_begins word fields (Inject process bytes) line = rw (writes_pair (codes "inject") word fields process _ line).word_is refl
+item_begins word fields (Clock process value) line = rw (writes_pair (codes "clock") word fields process _ line).word_is refl
+item_begins word fields (Random process bytes) line = rw (writes_pair (codes "random") word fields process _ line).word_is refl
+item_begins word fields (Signal process signal) line = rw (writes_pair (codes "signal") word fields process _ line).word_is refl
+item_begins word [] (Kill process) line = absurd line
+item_begins word (p ∷ []) (Kill process) line = rw line.0 refl
+item_begins word (p ∷ more ∷ fields) (Kill process) line = absurd line
+
+-- ---- lines by themselves
+
+-- no item is written without fields
+no_fields : (item : Item) → IsItemLine [] item → ⊥
+no_fields (Run process thread times) line = line
+no_fields (Deliver process number) line = line
+no_fields (Inject process bytes) line = line
+no_fields (Clock process value) line = line
+no_fields (Random process bytes) line = line
+no_fields (Signal process signal) line = line
+no_fields (Kill process) line = line
+
+-- fields give the item that they write, where it is in range
+pub fields_give : (processes : ℕ) (fields : List (List ℕ)) (item : Item) → (item_of_fields processes fields ≡ Some item) ↔ (IsItemLine fields item × IsInRange processes item)
+fields_give processes [] item = (λ e. absurd cc, λ h. absurd (no_fields item h.0))
+fields_give processes (word ∷ fields) item = (item_takes processes word fields item, λ h. item_again processes word fields item h.0 h.1)
+
+-- and begin as those of an item
+pub fields_begin : (processes : ℕ) (fields : List (List ℕ)) (item : Item) → item_of_fields processes fields ≡ Some item → begin_item fields ≡ true
+fields_begin processes [] item e = absurd cc
+fields_begin processes (word ∷ fields) item e = item_begins word fields item (item_takes processes word fields item e).0
 
 -- ---- processes
 

@@ -1,9 +1,12 @@
 -- What holds of the grammar, and of the function that goes over the lines.
-use Rattle.std.specs.Prelude.{◌≡◌, ℕ, ◌<◌, ◌≤◌, ◌⊎◌, ◌↔◌, List, Ok, Err}
+use Rattle.std.specs.Prelude.{◌≡◌, ℕ, ◌+◌, ◌<◌, ◌≤◌, ◌⊎◌, ◌↔◌, List, [], ◌∷◌, ◌++◌, length, true, Some, Ok, Err}
+use Rattle.schedule_text.specs.declared.item.Item.{Item}
 use Rattle.schedule_text.specs.Limits.{most_runs}
-use Rattle.schedule_text.specs.Grammar.{SpellsSchedule, SpellsBadLineAt}
+use Rattle.schedule_text.specs.Fields.{fields_of}
+use Rattle.schedule_text.specs.Grammar.{IsItemLine, SpellsSchedule, SpellsBadLineAt}
+use Rattle.schedule_text.specs.ItemLine.{is_item_line, item_of_line}
 use Rattle.schedule_text.specs.Reading.{BadLineAt, TooManyRuns, schedule_of}
-use Rattle.schedule_text.specs.Schedule.{Schedule, IsWellFormed, IsSchedule, run_count}
+use Rattle.schedule_text.specs.Schedule.{Schedule, IsInRange, IsWellFormed, IsSchedule, run_count, tries}
 use Rattle.schedule_text.specs.Text.{text_of}
 
 -- bytes spell at most one schedule
@@ -41,3 +44,23 @@ TextSpells = (s : Schedule) → IsWellFormed s → SpellsSchedule (text_of s) s
 -- it is read back, where it has no more run items than the limit
 abbrev pub TextIsRead : Type 0
 TextIsRead = (s : Schedule) → IsSchedule s → schedule_of (text_of s) ≡ Ok s
+
+-- a line gives exactly the item that it writes and that is in range
+abbrev pub GivesItems : Type 0
+GivesItems = (processes : ℕ) (line : List ℕ) (item : Item) → (item_of_line processes line ≡ Some item) ↔ (IsItemLine (fields_of line) item × IsInRange processes item)
+
+-- such a line begins as that of an item
+abbrev pub BeginsAsItem : Type 0
+BeginsAsItem = (processes : ℕ) (line : List ℕ) (item : Item) → item_of_line processes line ≡ Some item → is_item_line line ≡ true
+
+-- the schedule with one more item
+abbrev pub with_item : Schedule → Item → Schedule
+with_item s item = record s { items = s.items ++ item ∷ [] }
+
+-- an item in range may follow those of a schedule
+abbrev pub TakesItem : Type 0
+TakesItem = (s : Schedule) (item : Item) → IsWellFormed s → IsInRange (length s.processes) item → IsWellFormed (with_item s item)
+
+-- and its tries come to theirs
+abbrev pub CountsItem : Type 0
+CountsItem = (s : Schedule) (item : Item) → run_count (with_item s item).items ≡ run_count s.items + tries item

@@ -1,6 +1,7 @@
 pub mod Drill
 pub mod Fields
 pub mod Grammar
+pub mod ItemLine
 pub mod Laws
 pub mod Limits
 pub mod Outcome

@@ -55,7 +55,7 @@ pub enum Item {
 
 impl Item {
     /// How often the item tries to run a thread.
-    pub(crate) fn tries(&self) -> u64
+    pub fn tries(&self) -> u64
         ensures { result ≡ item_tries self.now }
     {
         match self {

@@ -1,5 +1,5 @@
 // What holds of the grammar, whatever the bytes are. These calls do nothing.
-ghost use Rattle.schedule_text.specs.Laws.{SpellOne, SpellOrBad, NeverSpelledAndBad, OneBadLine, GivesSchedules, RefusesMoreRuns, NamesBadLine, TextSpells, TextIsRead};
+ghost use Rattle.schedule_text.specs.Laws.{SpellOne, SpellOrBad, NeverSpelledAndBad, OneBadLine, GivesSchedules, RefusesMoreRuns, NamesBadLine, TextSpells, TextIsRead, GivesItems, BeginsAsItem, TakesItem, CountsItem};
 
 /// Bytes spell at most one schedule.
 pub fn one_schedule()
@@ -28,3 +28,12 @@ pub fn written_is_read()
     fri_text::laws::words_read_back();
     fri_text::laws::exact_hex();
 }
+
+/// A line by itself gives the item that it would be in a schedule of so many processes, and such an item may follow
+/// those of any schedule with them.
+pub fn exact_item_lines()
+    ensures exact { GivesItems }
+    ensures word { BeginsAsItem }
+    ensures follows { TakesItem }
+    ensures counts { CountsItem }
+{}

@@ -11,13 +11,14 @@
 //! digits, with any zeros in front; a negative V has one minus. HEX is two hexadecimal digits of either case for each byte, or
 //! `-` for no bytes. `ProcessLine` says what NAME and MODULE may be.
 //!
-//! One schedule is made and not read: that of a group of four processes that hand a number round (`drill`).
+//! `read_item_line` reads a single line as an item, whatever stands before it. One schedule is made and not read: that of a group of four processes that hand a number round (`drill`).
 #![tactic(auto)]
 
 mod draft;
 mod error;
 mod fields;
 mod item;
+mod item_line;
 pub mod laws;
 mod limits;
 mod process;
@@ -29,6 +30,7 @@ mod write;
 
 pub use error::ScheduleError;
 pub use item::Item;
+pub use item_line::{is_item_line, read_item_line};
 pub use limits::{MOST_DATAGRAM, MOST_ROUNDS, MOST_RUNS, MOST_SCHEDULE, MOST_THREAD};
 pub use process::ProcessLine;
 pub use read::read_schedule;
