@@ -29,4 +29,5 @@ pub use event::GroupEvent;
 pub use group::Group;
 pub use image::{Image, image_of};
 pub use report::{Report, ReportLine, report_of};
+pub use view::signed_global;
 pub use work::Work;

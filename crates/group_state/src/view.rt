@@ -9,7 +9,8 @@ use page_watch::TouchView;
 use wasm_types::Value;
 use watch_expr::View;
 
-fn signed_global(value: Value) -> i64
+/// The value of a global, as a signed number.
+pub fn signed_global(value: Value) -> i64
     ensures { result ≡ signed_global value }
 {
     match value {

@@ -19,7 +19,7 @@ use Rattle.record_command.specs.Laws.{RecordingsAgree, RecordingsLeaveLogs}
 use Rattle.record_command.specs.Expected.{group_outcome, modules_of, record_outcome, schedule_in, schedule_or_refusal}
 use Rattle.schedule_text.specs.Limits.{most_schedule}
 use Rattle.command_run.specs.Outcome.{file_of, writes_of}
-use Rattle.record_command.specs.inside.Gathering.{GathersFromFolder}
+use Rattle.record_command.specs.Gathering.{GathersFromFolder}
 use Rattle.record_command.proofs.GatheredOutcome.{gathered}
 use Rattle.record_command.proofs.GroupOutcome.{group_writes}
 use Rattle.command_run.specs.Laws.{ReadsModules}

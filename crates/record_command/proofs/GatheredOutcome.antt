@@ -9,7 +9,7 @@ use Rattle.command_run.specs.declared.refusal.StopCause.{StopCause}
 use Rattle.record_command.specs.Expected.{group_outcome, modules_of, record_outcome, schedule_in}
 use Rattle.command_run.specs.Outcome.{CommandOutcome, CommandStop, and_then, writes_of}
 use Rattle.command_run.specs.Call.{MakesWorkFiles, StopsAsCause}
-use Rattle.record_command.specs.inside.Gathering.{GathersFromFolder}
+use Rattle.record_command.specs.Gathering.{GathersFromFolder}
 use Rattle.command_run.specs.OutcomeLaws.{outcome_when_told, stops_before_next}
 
 -- a schedule was refused

@@ -25,7 +25,7 @@ use Rattle.command_run.specs.Call.{MakesWorkFiles, TellsOutcome}
 use Rattle.record_command.specs.Expected.{group_outcome}
 use Rattle.command_run.specs.Outcome.{Refuses, no_work_done, writes_of}
 use Rattle.record_command.specs.Record.{outcome_by_room, recorded_work, run_outcome, summary_text, written_before}
-use Rattle.record_command.specs.inside.Gathering.{RefusesAs}
+use Rattle.record_command.specs.Gathering.{RefusesAs}
 use Rattle.record_command.proofs.FileFronts.{all_made}
 use Rattle.command_run.specs.FileLaws.{same_changes}
 use Rattle.record_command.proofs.GroupModules.{fails_within}

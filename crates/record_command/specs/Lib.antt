@@ -3,4 +3,4 @@ pub mod Expected
 pub mod Agreement
 pub mod Valid
 pub mod Laws
-pub mod inside
+pub mod Gathering

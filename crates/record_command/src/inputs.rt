@@ -1,15 +1,17 @@
 // Reads a schedule, and the modules of its processes.
-ghost use Rattle.std.specs.Prelude.{◌≡◌, All, length, map, IfOk, IfErr};
+ghost use Rattle.std.specs.Prelude.{◌≡◌, ◌<◌, ℕ, All, length, map, IfOk, IfErr};
 ghost use Rattle.fri_outside.specs.Outside.{WhenTold};
 ghost use Rattle.wasm_types.specs.Modules.{module_of as shown};
 ghost use Rattle.schedule_text.specs.Schedule.{IsProcess, IsSchedule};
-ghost use Rattle.command_run.specs.Call.{CountsFaults, RaisesCount, TellsResult};
+ghost use Rattle.command_run.specs.Call.{CountsFaults, RaisesCount, RefusesFile, TellsResult};
 ghost use Rattle.command_run.specs.Inputs.{module_in};
 ghost use Rattle.command_run.specs.Kept.{AreOfFiles};
-ghost use Rattle.record_command.specs.Expected.{modules_of, schedule_in};
+ghost use Rattle.record_command.specs.Expected.{module_name, modules_of, schedule_in};
+ghost use Rattle.record_command.specs.Gathering.{GathersInputs, RefusesAs};
 
 use command_run::{ModuleFiles, Reason, StopCause, take_file};
 use fri_outside::Files;
+use group_record::RecordError;
 use schedule_text::{MOST_SCHEDULE, ProcessLine, Schedule, ScheduleError, read_schedule};
 use shared_module::SharedModule;
 use std::alloc::Global;
@@ -75,4 +77,58 @@ pub fn take_schedule<F: Files>(
         Err(ScheduleError::TooMany) => Err(StopCause::refuse(alloc, name, Reason::TooMany)),
         Err(ScheduleError::NoMemory) => Err(StopCause::NoMemory),
     }
+}
+
+// Refuses the module of process p, with which it does not begin.
+fn refuse_module(alloc: Global, schedule: &Schedule, p: u32) -> StopCause
+    requires { p < length schedule.now.processes }
+    ensures { RefusesFile (module_name schedule.now p) Reason.BadSegment result }
+{
+    let module = &schedule.processes()[p as usize].module;
+    match String::from_utf8_lossy(alloc, module.as_slice()) {
+        Ok(file) => StopCause::Refused(file, Reason::BadSegment),
+        Err(_) => StopCause::NoMemory,
+    }
+}
+
+/// The outcome of a recording that was not done.
+pub fn refusal_of(
+    alloc: Global,
+    schedule_file: &str,
+    schedule: &Schedule,
+    error: RecordError,
+) -> StopCause
+    requires { (p : ℕ) → error ≡ RecordError.BadSegment p → p < length schedule.now.processes }
+    ensures { RefusesAs schedule_file.now schedule.now error result }
+{
+    match error {
+        RecordError::BadSegment(p) => refuse_module(alloc, schedule, p),
+        RecordError::LogFull(item) => StopCause::refuse(
+            alloc,
+            schedule_file,
+            Reason::LogFull(item),
+        ),
+        RecordError::WriteFault => StopCause::WriteFault,
+        RecordError::NoMemory => StopCause::NoMemory,
+    }
+}
+
+/// A schedule, and the module of each of its processes.
+#[derive(Drop)]
+pub struct Inputs {
+    pub schedule: Schedule,
+    pub modules: Vec<SharedModule>,
+}
+
+/// Reads what a recording needs. No file has changed.
+pub fn gather<F: Files>(alloc: Global, schedule_file: &str, files: &mut F) -> Result<Inputs, StopCause>
+    ensures answer { WhenTold (F.told files.old) (λ folder. GathersInputs folder schedule_file.now result) }
+    ensures count { IfOk result (λ inputs. length inputs.modules.items ≡ length inputs.schedule.processes) }
+    ensures same { F.told files.new ≡ F.told files.old }
+    ensures counts { CountsFaults (F.counts files.old) (F.counts files.new) result }
+    ensures cause { IfErr result (RaisesCount (F.counts files.old) (F.counts files.new)) }
+{
+    let schedule = take_schedule(alloc, schedule_file, files)?;
+    let modules = take_modules(alloc, schedule.processes(), files)?;
+    Ok(Inputs { schedule, modules })
 }

@@ -3,8 +3,8 @@
 //! `record` reads the schedule and the modules that it names, has `group_record` run them, and says what came of it.
 //! Contracts see the outcome over the files (`record_outcome` of `specs/Expected`): the text, the logs, the images, or the
 //! stop. Wherever a recording was stopped its logs are those of a moment of its run (`specs/Agreement`). The laws say that
-//! the logs agree with the run, and that valid files have work (`specs/Valid`). Inside is what was gathered of the files so
-//! far (`specs/inside/Gathering`).
+//! the logs agree with the run, and that valid files have work (`specs/Valid`). What is gathered
+//! of the files first is `specs/Gathering`; `play`, which records line by line, gathers the same.
 #![tactic(auto)]
 
 mod inputs;
@@ -12,4 +12,6 @@ pub mod laws;
 mod recording;
 mod summary;
 
+pub use inputs::{Inputs, gather, refusal_of};
 pub use recording::record;
+pub use summary::{push_items_line, push_process_line};

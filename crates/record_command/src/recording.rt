@@ -1,77 +1,22 @@
 // `record [--images] SCHEDULE`: runs a group as the schedule says, and writes the log of each
 // process, and the images where they are asked for.
-ghost use Rattle.std.specs.Prelude.{◌≡◌, ◌<◌, ℕ, false, length, map, option_map, IfErr, IfOk};
+ghost use Rattle.std.specs.Prelude.{◌≡◌, false, length, map, option_map, IfErr};
 ghost use Rattle.fri_outside.specs.Outside.{WhenTold};
 ghost use Rattle.wasm_types.specs.Modules.{module_of as shown};
 ghost use Rattle.group_record.specs.Answer.{StoppedWhereBegun, first_states};
 ghost use Rattle.command_run.specs.Outcome.{writes_of};
-ghost use Rattle.record_command.specs.Expected.{group_outcome, module_name, record_outcome};
+ghost use Rattle.record_command.specs.Expected.{group_outcome, record_outcome};
 ghost use Rattle.record_command.specs.Agreement.{LeavesMoment};
-ghost use Rattle.command_run.specs.Call.{CountsFaults, TellsOutcome, MakesWorkFiles, KeepsFolder, DivergesOnlyIf, RefusesFile, RaisesCount};
-ghost use Rattle.record_command.specs.inside.Gathering.{GathersInputs, RefusesAs};
+ghost use Rattle.command_run.specs.Call.{CountsFaults, TellsOutcome, MakesWorkFiles, KeepsFolder, DivergesOnlyIf, RaisesCount};
 
-use crate::inputs::{take_modules, take_schedule};
+use crate::inputs::{gather, refusal_of};
 use crate::summary::print_summary;
-use command_run::{Reason, StopCause, WorkText};
+use command_run::{StopCause, WorkText};
 use fri_outside::Files;
-use group_record::{RecordError, run_record};
+use group_record::run_record;
 use schedule_text::Schedule;
 use shared_module::SharedModule;
 use std::alloc::Global;
-
-// Refuses the module of process p, with which it does not begin.
-fn refuse_module(alloc: Global, schedule: &Schedule, p: u32) -> StopCause
-    requires { p < length schedule.now.processes }
-    ensures { RefusesFile (module_name schedule.now p) Reason.BadSegment result }
-{
-    let module = &schedule.processes()[p as usize].module;
-    match String::from_utf8_lossy(alloc, module.as_slice()) {
-        Ok(file) => StopCause::Refused(file, Reason::BadSegment),
-        Err(_) => StopCause::NoMemory,
-    }
-}
-
-// The outcome of a recording that was not done.
-fn refusal_of(
-    alloc: Global,
-    schedule_file: &str,
-    schedule: &Schedule,
-    error: RecordError,
-) -> StopCause
-    requires { (p : ℕ) → error ≡ RecordError.BadSegment p → p < length schedule.now.processes }
-    ensures { RefusesAs schedule_file.now schedule.now error result }
-{
-    match error {
-        RecordError::BadSegment(p) => refuse_module(alloc, schedule, p),
-        RecordError::LogFull(item) => StopCause::refuse(
-            alloc,
-            schedule_file,
-            Reason::LogFull(item),
-        ),
-        RecordError::WriteFault => StopCause::WriteFault,
-        RecordError::NoMemory => StopCause::NoMemory,
-    }
-}
-
-// A schedule, and the module of each of its processes.
-#[derive(Drop)]
-struct Inputs {
-    schedule: Schedule,
-    modules: Vec<SharedModule>,
-}
-
-// Reads what a recording needs. No file has changed.
-fn gather<F: Files>(alloc: Global, schedule_file: &str, files: &mut F) -> Result<Inputs, StopCause>
-    ensures answer { WhenTold (F.told files.old) (λ folder. GathersInputs folder schedule_file.now result) }
-    ensures count { IfOk result (λ inputs. length inputs.modules.items ≡ length inputs.schedule.processes) }
-    ensures same { F.told files.new ≡ F.told files.old }
-    ensures counts { CountsFaults (F.counts files.old) (F.counts files.new) result }
-    ensures cause { IfErr result (RaisesCount (F.counts files.old) (F.counts files.new)) }
-{
-    let schedule = take_schedule(alloc, schedule_file, files)?;
-    let modules = take_modules(alloc, schedule.processes(), files)?;
-    Ok(Inputs { schedule, modules })
-}
 
 // Records a group, and prints what came of it.
 fn record_group<F: Files>(

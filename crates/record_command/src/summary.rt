@@ -7,7 +7,12 @@ use fri_text::Text;
 use group_record::{Summary, SummaryLine};
 use std::alloc::{AllocError, Global};
 
-fn push_process(alloc: Global, text: &mut Text, line: &SummaryLine) -> Result<(), AllocError>
+/// The line of a process. After want of memory a part of it may be at the end of the text.
+pub fn push_process_line(
+    alloc: Global,
+    text: &mut Text,
+    line: &SummaryLine,
+) -> Result<(), AllocError>
     ensures { OnOk result (text.new ≡ text.old ++ process_line line.now) }
 {
     text.push_bytes(line.name.as_slice())?;
@@ -30,7 +35,8 @@ fn push_state(alloc: Global, text: &mut Text, line: &SummaryLine) -> Result<(), 
     }
 }
 
-fn push_items(text: &mut Text, acted: u64, idle: u64) -> Result<(), AllocError>
+/// The line of the counts of what acted and of what was idle. After want of memory a part of it may be at the end of the text.
+pub fn push_items_line(text: &mut Text, acted: u64, idle: u64) -> Result<(), AllocError>
     ensures { OnOk result (text.new ≡ text.old ++ items_line acted idle) }
 {
     text.push_str("items: ")?;
@@ -47,8 +53,8 @@ pub fn print_summary(alloc: Global, summary: &Summary) -> Result<Text, AllocErro
 {
     let mut text = Text::new(alloc);
     for line in &summary.lines {
-        push_process(alloc, &mut text, line)?;
+        push_process_line(alloc, &mut text, line)?;
     }
-    push_items(&mut text, summary.acted, summary.idle)?;
+    push_items_line(&mut text, summary.acted, summary.idle)?;
     Ok(text)
 }

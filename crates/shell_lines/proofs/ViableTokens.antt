@@ -11,7 +11,7 @@ use Rattle.watch_expr.specs.Laws.{ExactReading}
 use Rattle.watch_expr.specs.Lexing.{LexedLine, token_texts}
 use Rattle.watch_expr.specs.Expression.{Expression, expression_of}
 use Rattle.shell_lines.specs.Lines.{expression_from, expression_or_at}
-use Rattle.shell_lines.specs.inside.Reading.{ReadsAs}
+use Rattle.shell_lines.specs.Reads.{ReadsAs}
 
 tested : (b : Bool) → (b ≡ true) ⊎ (b ≡ false)
 tested true = inl refl

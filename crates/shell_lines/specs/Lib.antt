@@ -3,6 +3,7 @@ pub mod Lines
 pub mod Refusals
 pub mod Meaning
 pub mod Spelled
+pub mod Reads
 pub mod Grammar
 pub mod Laws
 pub mod inside

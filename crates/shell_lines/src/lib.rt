@@ -15,5 +15,6 @@ mod refusal;
 mod verbs;
 
 pub use command::{DebuggerCommand, WhichNodes};
-pub use line::{Line, read_line, trimmed};
+pub use line::{Line, is_silent, read_line, trimmed};
+pub use read::{read_expression, read_node, read_number};
 pub use refusal::{LineRefusal, refused};

@@ -60,8 +60,8 @@ fn spelled(alloc: Global, bytes: &[u8], names: &[Bytes]) -> Result<DebuggerComma
     read_command(alloc, &tokens, names)
 }
 
-// A line of blanks, or one whose first byte after blanks is `#`.
-fn is_silent(bytes: &[u8]) -> bool
+/// Whether it is a line of blanks, or one whose first byte after blanks is `#`.
+pub fn is_silent(bytes: &[u8]) -> bool
     ensures { result ≡ is_silent bytes.now }
 {
     match front(bytes) {

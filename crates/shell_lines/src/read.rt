@@ -2,7 +2,8 @@
 ghost use Rattle.std.specs.Prelude.{◌≡◌, ◌<◌, ◌^◌, bytes_eq, length, option_map, position};
 ghost use Rattle.call_table.specs.Table.{kind_named};
 ghost use Rattle.shell_lines.specs.Lines.{count_or, ends_at, expression_from, node_named, number_from, scope_named, token_at, variable_at};
-ghost use Rattle.shell_lines.specs.inside.Reading.{ReadsAs, ReadsCommand};
+ghost use Rattle.shell_lines.specs.Reads.{ReadsAs};
+ghost use Rattle.shell_lines.specs.inside.Reading.{ReadsCommand};
 ghost use Rattle.shell_lines.specs.Spelled.{command, scope};
 ghost use Rattle.watch_expr.specs.Lexing.{token_texts};
 ghost use Rattle.watch_expr.specs.Expression.{expression_of};
@@ -14,7 +15,7 @@ use std::alloc::Global;
 use watch_expr::{Expr, ExprError, Tokens, find_name, is_word, parse};
 
 /// The number that token n is, from the least to the most.
-pub(crate) fn read_number(
+pub fn read_number(
     tokens: &Tokens<'_>,
     n: usize,
     least: u64,
@@ -45,7 +46,7 @@ pub(crate) fn read_count(
 }
 
 /// The node that token n names, if it is a word.
-pub(crate) fn read_node(
+pub fn read_node(
     tokens: &Tokens<'_>,
     n: usize,
     names: &[Bytes],
@@ -120,7 +121,7 @@ pub(crate) fn read_variable(
 }
 
 /// The expression that all tokens from this one on are.
-pub(crate) fn read_expression(
+pub fn read_expression(
     alloc: Global,
     tokens: &Tokens<'_>,
     from: usize,

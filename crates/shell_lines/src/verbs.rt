@@ -2,7 +2,8 @@
 ghost use Rattle.std.specs.Prelude.{◌≡◌, ◌<◌, ◌^◌, length};
 ghost use Rattle.shell_lines.specs.Lines.{command_of_verb, command_spelled, token_at, verb_of};
 ghost use Rattle.shell_lines.specs.declared.command.Verb.TheVariants as verb;
-ghost use Rattle.shell_lines.specs.inside.Reading.{ReadsAs, ReadsCommand};
+ghost use Rattle.shell_lines.specs.Reads.{ReadsAs};
+ghost use Rattle.shell_lines.specs.inside.Reading.{ReadsCommand};
 ghost use Rattle.watch_expr.specs.Lexing.{token_texts};
 
 use crate::command::{DebuggerCommand, Verb};

@@ -11,15 +11,6 @@ use Rattle.shell_lines.specs.Lines.{LineCommand, has_nested, names_none}
 use Rattle.shell_lines.specs.Spelled.{command}
 use Rattle.shell_lines.specs.Meaning.{Refuses, by_cut, judged_command}
 
--- what was read of tokens: what there is to read, or the column of the token that is none such; or want of memory
-abbrev pub ReadsAs : {A B : Type 0} → (A → B) → LexedLine → Result B ℕ → Result A ExprError → Type 0
-ReadsAs shown line wanted (Ok a) = wanted ≡ Ok (shown a)
-ReadsAs shown line wanted (Err (Syntax column)) = (n : ℕ) × (wanted ≡ Err n) × (column ≡ column_of_token line n)
-ReadsAs shown line wanted (Err NoMemory) = Unit {0}
-ReadsAs shown line wanted (Err NoNode) = ⊥
-ReadsAs shown line wanted (Err TooDeep) = ⊥
-ReadsAs shown line wanted (Err Nested) = ⊥
-
 -- the command that was read of tokens, or why none was: the column of the token that none has there, or what is wrong with
 -- the one that they spell; or want of memory
 abbrev pub ReadsCommand : LexedLine → Result LineCommand ℕ → Result Spelled ExprError → Type 0

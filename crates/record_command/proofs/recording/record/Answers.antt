@@ -2,7 +2,7 @@ use Rattle.std.proofs.Common.{List, map, subst, sym}
 use Rattle.std.proofs.lemmas.Result.{err_from_is_err_and}
 use Rattle.wasm_types.specs.Modules.{module_of as shown}
 use Rattle.record_command.specs.Expected.{record_outcome}
-use Rattle.record_command.specs.inside.Gathering.{GathersFromFolder}
+use Rattle.record_command.specs.Gathering.{GathersFromFolder}
 use Rattle.record_command.proofs.GatheredOutcome.{group_makes}
 use Rattle.command_run.specs.OutcomeLaws.{refused_makes, refused_tells}
 use Rattle.record_command.proofs.FolderRecordings.{moment_before, moment_then}

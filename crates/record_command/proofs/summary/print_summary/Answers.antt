@@ -10,12 +10,12 @@ loop-line-init c = ap (λ (t : List ℕ). t ++ flat_map process_line c.deref-lin
 
 pub loop-line-preserved : goal.loop-line-preserved
 loop-line-preserved c =
-    ap (λ (t : List ℕ). t ++ flat_map process_line (drop (c.loop-line.line-index + 1) c.deref-line-items.result.now)) c.in_ok-push_process.ensures
+    ap (λ (t : List ℕ). t ++ flat_map process_line (drop (c.loop-line.line-index + 1) c.deref-line-items.result.now)) c.in_ok-push_process_line.ensures
     ∙ next_line_joins process_line c.loop-line.text (flat_map process_line c.deref-line-items.result.now) c.deref-line-items.result.now c.loop-line.line-index c.line-item.result _ c.loop-line-test.true c.line-item.is c.loop-line.invariant
 
 pub returns : goal.returns
 returns c =
-    c.in_ok-push_items.ensures
+    c.in_ok-push_items_line.ensures
     ∙ ap (λ (t : List ℕ). t ++ items_line c.args.summary.now.acted c.args.summary.now.idle)
     (all_lines process_line c.loop-line.text (flat_map process_line c.deref-line-items.result.now) c.deref-line-items.result.now c.loop-line.line-index c.loop-line-test.false c.loop-line.invariant
     ∙ ap (λ (lines : List SummaryLine). flat_map process_line lines) c.deref-line-items.ensures.value)

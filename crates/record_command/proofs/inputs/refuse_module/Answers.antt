@@ -1,6 +1,6 @@
 use Rattle.std.proofs.Common.{refl}
 use Rattle.record_command.proofs.ModuleNames.{named_by}
-use Rattle.record_command.proofs.recording.refuse_module.Goals as goal
+use Rattle.record_command.proofs.inputs.refuse_module.Goals as goal
 
 pub returns-in-Ok : goal.returns-in-Ok
 returns-in-Ok c = (

@@ -5,7 +5,7 @@ use Rattle.schedule_text.specs.declared.process.ProcessLine.{ProcessLine}
 use Rattle.command_run.specs.Call.{StopsAsCause}
 use Rattle.record_command.specs.Expected.{modules_of}
 use Rattle.record_command.proofs.GatheredOutcome.{modules_stop, schedule_stops}
-use Rattle.record_command.proofs.recording.gather.Goals as goal
+use Rattle.record_command.proofs.inputs.gather.Goals as goal
 
 pub returns-in_err-schedule-clause-answer : goal.returns-in_err-schedule-clause-answer
 returns-in_err-schedule-clause-answer g c = λ folder told.

@@ -9,7 +9,7 @@ use Rattle.command_run.specs.declared.refusal.Reason.TheVariants as reason
 use Rattle.command_run.specs.declared.refusal.StopCause.{StopCause}
 use Rattle.command_run.specs.declared.refusal.StopCause.TheVariants as refusal
 use Rattle.command_run.specs.Call.{RefusesFile, StopsAsCause}
-use Rattle.record_command.specs.declared.recording.Inputs.{Inputs}
+use Rattle.record_command.specs.declared.inputs.Inputs.{Inputs}
 use Rattle.record_command.specs.Expected.{module_name, modules_of, record_outcome, schedule_in}
 
 -- the schedule of a schedule file, and the modules of its processes

@@ -1,2 +1,0 @@
--- What no public contract cites.
-pub mod Gathering
