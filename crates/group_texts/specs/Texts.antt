@@ -63,13 +63,16 @@ abbrev pub node_name : List Replaying → ℕ → List ℕ
 node_name start node = slice_index_or (node_names start) node []
 
 -- the clock, the name of the process and the thread
-abbrev pub stamp_text : List Replaying → NodeEvent Entry → List ℕ
-stamp_text start e = decimal e.entry.clock ++ (codes " " ++ (node_name start e.node ++ (codes " " ++ decimal e.entry.thread)))
+abbrev pub stamp_text : List ℕ → Entry → List ℕ
+stamp_text name e = decimal e.clock ++ (codes " " ++ (name ++ (codes " " ++ decimal e.thread)))
 
 -- these and the call; then the reply and the signal
+abbrev pub named_event_text : List ℕ → Entry → List ℕ
+named_event_text name e = stamp_text name e ++ (codes " " ++ (call_text e.call ++ (reply_text e ++ signal_text e.signal)))
+
+-- an event of a node
 abbrev pub event_text : List Replaying → NodeEvent Entry → List ℕ
-event_text start e =
-    stamp_text start e ++ (codes " " ++ (call_text e.entry.call ++ (reply_text e.entry ++ signal_text e.entry.signal)))
+event_text start e = named_event_text (node_name start e.node) e.entry
 
 abbrev pub event_ending : List Replaying → Option (NodeEvent Entry) → List ℕ
 event_ending start None = codes "\n"

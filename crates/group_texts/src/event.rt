@@ -3,7 +3,7 @@ ghost use Rattle.std.specs.Prelude.{◌≡◌, ◌++◌, OnOk, decimal, true};
 ghost use Rattle.lib_calls.specs.Entry.{entry_of};
 ghost use Rattle.guest_process.specs.State.{is_running, thread_at};
 ghost use Rattle.group_state.specs.Moves.{event_of};
-ghost use Rattle.group_texts.specs.Texts.{arguments_text, call_text, event_line, event_text, node_name, position_line, process_lines, reply_text, signal_text, signed_text, stamp_text, standing_text, thread_lines, threads_text};
+ghost use Rattle.group_texts.specs.Texts.{arguments_text, call_text, event_line, event_text, named_event_text, node_name, position_line, process_lines, reply_text, signal_text, signed_text, stamp_text, standing_text, thread_lines, threads_text};
 
 use end_text::push_end;
 use fri_text::Text;
@@ -75,28 +75,35 @@ fn push_signal(text: &mut Text, signal: u8) -> Result<(), AllocError>
 }
 
 // The name of a node's process.
-fn push_name(text: &mut Text, group: &Group<'_, '_>, node: u32) -> Result<(), AllocError>
-    ensures { OnOk result (text.new ≡ text.old ++ node_name group.now.start node) }
+fn name_of<'a>(group: &Group<'_, 'a>, node: u32) -> &'a [u8]
+    ensures { result.now ≡ node_name group.now.start node }
 {
     match group.node_name(node) {
-        Some(name) => text.push_bytes(name),
-        None => Ok(()),
+        Some(name) => name,
+        None => b"",
     }
 }
 
 // When an event was made, and by whom.
-fn push_stamp(
-    text: &mut Text,
-    group: &Group<'_, '_>,
-    event: &GroupEvent<'_>,
-) -> Result<(), AllocError>
-    ensures { OnOk result (text.new ≡ text.old ++ stamp_text group.now.start (event_of event.now)) }
+fn push_stamp(text: &mut Text, name: &[u8], entry: &EntryView<'_>) -> Result<(), AllocError>
+    ensures { OnOk result (text.new ≡ text.old ++ stamp_text name.now (entry_of entry.now)) }
 {
-    text.push_u64(event.entry.clock)?;
+    text.push_u64(entry.clock)?;
     text.push_str(" ")?;
-    push_name(text, group, event.node)?;
+    text.push_bytes(name)?;
     text.push_str(" ")?;
-    text.push_u64(u64::from(event.entry.thread))
+    text.push_u64(u64::from(entry.thread))
+}
+
+/// An event of the process with this name. After want of memory a part of it may be at the end of the text.
+pub fn push_event_of(text: &mut Text, name: &[u8], entry: &EntryView<'_>) -> Result<(), AllocError>
+    ensures { OnOk result (text.new ≡ text.old ++ named_event_text name.now (entry_of entry.now)) }
+{
+    push_stamp(text, name, entry)?;
+    text.push_str(" ")?;
+    push_call(text, &entry.call)?;
+    push_reply(text, entry)?;
+    push_signal(text, entry.signal)
 }
 
 // An event of the group.
@@ -107,11 +114,7 @@ fn push_event(
 ) -> Result<(), AllocError>
     ensures { OnOk result (text.new ≡ text.old ++ event_text group.now.start (event_of event.now)) }
 {
-    push_stamp(text, group, event)?;
-    text.push_str(" ")?;
-    push_call(text, &event.entry.call)?;
-    push_reply(text, &event.entry)?;
-    push_signal(text, event.entry.signal)
+    push_event_of(text, name_of(group, event.node), &event.entry)
 }
 
 /// An event with its position. After want of memory a part of it may be at the end of the text.
@@ -193,7 +196,20 @@ pub fn push_process(
 ) -> Result<(), AllocError>
     ensures { OnOk result (text.new ≡ text.old ++ process_lines (node_name group.now.start node) process.now) }
 {
-    push_name(text, group, node)?;
+    push_process_named(alloc, text, name_of(group, node), process)
+}
+
+/// How a process with this name stands, and where it runs each of its threads. After want of memory a part of it may
+/// stand at the end of the text.
+pub fn push_process_named(
+    alloc: Global,
+    text: &mut Text,
+    name: &[u8],
+    process: &Process<'_>,
+) -> Result<(), AllocError>
+    ensures { OnOk result (text.new ≡ text.old ++ process_lines name.now process.now) }
+{
+    text.push_bytes(name)?;
     text.push_str(" ")?;
     push_end(alloc, text, process.end())?;
     text.push_str("\n")?;

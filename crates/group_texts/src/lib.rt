@@ -8,4 +8,4 @@
 
 mod event;
 
-pub use event::{push_event_line, push_position, push_process};
+pub use event::{push_event_line, push_event_of, push_position, push_process, push_process_named};
