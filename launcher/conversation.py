@@ -62,7 +62,7 @@ class Conversation:
             # The last line may have no end, and is answered at the end of the input.
             while self.wait([self.answers], []):
                 pass
-            self.told(number, self.held)
+            self.told(number + 1, self.held)
         except Broken:
             self.run.stdout.close()
             self.run.stdin.close()
@@ -82,7 +82,7 @@ class Conversation:
             if ready is None:
                 return
             if 0 in ready:
-                piece = os.read(0, PIECE)
+                piece = read_input()
                 if not piece:
                     self.pass_on(self.held)
                     return
@@ -179,6 +179,14 @@ class Conversation:
         if self.count is None:
             self.count = sum(told.events for told in self.again.report()) if self.again.can_be_asked() else 0
         return "the last position is %s, since there are so many events" % (self.count or "before that")
+
+
+def read_input():
+    """What standard input has, or nothing at its end, also where the terminal is gone."""
+    try:
+        return os.read(0, PIECE)
+    except OSError:
+        return b""
 
 
 def too_deep(line):

@@ -80,7 +80,7 @@ def of_schedule(again):
     many = first_too_many(data)
     if many:
         number, line, tries = many
-        told = "it makes %d tries, and line %d, `%s`, takes it past 1000000: tools/idle names lines that do nothing" % (tries, number, line)
+        told = "it makes %d tries, and line %d, `%s`, takes it past 1000000: make N of `run` smaller" % (tries, number, line)
         return path, "TooMany", [told]
     reasons = [(module, again.of_module(module)) for module in dict.fromkeys(modules_of(path))]
     first = [(module, reason) for module, reason in reasons if reason and not reason.startswith("7 ")]
@@ -119,7 +119,8 @@ def explained(again, path, reason):
     """The lines about a file and the reason that the program gave for it."""
     if reason == "TooLarge":
         kind = kind_in(again, path)
-        return ["%s has %d bytes, and a %s has at most %d" % (path, size_of(path), kind.lower(), MOST_OF[kind])]
+        smaller = "; guests/build leaves debug information out" if kind == "MODULE" else ""
+        return ["%s has %d bytes, and a %s has at most %d%s" % (path, size_of(path), kind.lower(), MOST_OF[kind], smaller)]
     word = reason.split()[-1]
     if word in OF_LOGS:
         return OF_LOGS[word](again, path)
@@ -145,7 +146,7 @@ def of_module(again, path):
     """What is wrong with a module by check-module, or what the file is instead."""
     kind = kind_of_bytes(path)
     if kind != "a module":
-        return exchanged(again, path) or ["%s is %s, where a module was wanted" % (path, kind)]
+        return exchanged(again, path) or ["%s is %s, where a module was wanted; guests/build makes one of C or Rust" % (path, kind)]
     try:
         words = [sys.executable, CHECK_MODULE, path]
         told = subprocess.run(words, stdout=subprocess.PIPE, stderr=subprocess.DEVNULL, timeout=20).stdout.decode("utf-8", "replace")
@@ -156,7 +157,7 @@ def of_module(again, path):
 
 
 def bad_head(again, path):
-    return exchanged(again, path) or ["%s is %s, where a log was wanted" % (path, kind_of_bytes(path))]
+    return exchanged(again, path) or ["%s is %s, where a log was wanted, which record makes" % (path, kind_of_bytes(path))]
 
 
 def pairs_before(again, path):

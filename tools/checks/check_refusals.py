@@ -1,24 +1,29 @@
 #!/usr/bin/env python3
 """Checks what ./friday says where something is refused: 76 calls, and 57 lines of the debugger, with what stands on standard
 output and on standard error, as refusals.txt has it. Then the launcher's own reading of schedules and of lines of the debugger
-is held against the program's, on some that are drawn at random. A program is given, so that nothing is built.
+is held against the program's, on some that are drawn at random, and a session is typed on a terminal. A program is given, so
+that nothing is built.
 
 check_refusals.py [PROGRAM]     (the program that answers ./friday, if none is given)
 check_refusals.py --write       (writes refusals.txt anew, to be read line by line)
 """
 
 import argparse
+import fcntl
 import os
+import pty
 import random
 import re
+import select
 import shutil
 import subprocess
 import sys
 import tempfile
+import termios
 
 from tools_path import TOP  # before the modules of the tools, which it lets be found
 from asking.program import program_of
-from refusal_cases import BAD_LINES, FILES, LINES, MANY, MODULES, PAIRS, WORDS, Case, cases_of_logs, contents_of
+from refusal_cases import BAD_LINES, FILES, LINES, MANY, MODULES, PAIRS, WORDS, Case, cases_of_logs, contents_of, module
 
 sys.path.append(os.path.join(TOP, "launcher"))
 
@@ -169,13 +174,66 @@ def check_lines(program, room):
     assert refused < len(lines), refused
 
 
+# ---- a terminal
+
+
+class Terminal:
+    """A call of the launcher with a terminal of its own for all three streams."""
+
+    def __init__(self, clone, folder, words):
+        self.at, place = pty.openpty()
+        self.run = subprocess.Popen([os.path.join(clone, "friday"), *words], cwd=folder, stdin=place, stdout=place, stderr=place, preexec_fn=begin_session)
+        os.close(place)
+        self.text = ""
+
+    def until(self, wanted):
+        while wanted not in self.text:
+            assert select.select([self.at], [], [], 120)[0], (wanted, self.text)
+            self.text += os.read(self.at, 65536).decode("utf-8", "replace").replace("\r", "")
+
+    def type(self, text):
+        os.write(self.at, text.encode())
+
+
+def begin_session():
+    """The terminal is the one whose Ctrl-C this process gets."""
+    os.setsid()
+    fcntl.ioctl(0, termios.TIOCSCTTY, 0)
+
+
+def check_terminal(program, room):
+    """Lines that are typed are answered one by one, each with what is said of it below; Ctrl-C and the end of the input end it."""
+    clone, folder = os.path.join(room, "clone"), os.path.join(room, "work")
+    make_clone(clone, program)
+    put(folder, {name: contents_of("examples", "pingpong", name) for name in ("ping.wasm", "pong.wasm", "schedule")})
+    subprocess.run([program, "record", "schedule"], cwd=folder, stdout=subprocess.DEVNULL, check=True)
+    for last, status in (("\x03", 130), ("\x04", 0), ("quit\n", 0)):
+        terminal = Terminal(clone, folder, ["debug", *PAIRS.split()])
+        terminal.until("at 0\n")
+        for line, wanted in (("goto 3", "at 3: "), ("mem ping 0 257", "^ LEN is 1 to 256, and not 257\n"), ("print 1 + 1", "\n2\n"), ("goto 99", "position is 18")):
+            terminal.type(line + "\n")
+            terminal.until(wanted)
+        terminal.type(last)
+        assert terminal.run.wait(120) == status, (last, terminal.run.returncode)
+        os.close(terminal.at)
+    write_trap(folder)
+    terminal = Terminal(clone, folder, ["record", "s"])
+    terminal.until("t trapped after its event 2, unreachable: ")
+    assert terminal.run.wait(120) == 0
+
+
+def write_trap(folder):
+    """A guest that asks for the time and then comes to an `unreachable`."""
+    put(folder, {"t.wasm": module(body=b"\x10\0\x1a\0"), "s": "friday 1\nprocess t t.wasm\nrun 0 0 3\n"})
+
+
 def main():
     parser = argparse.ArgumentParser(description=__doc__, formatter_class=argparse.RawDescriptionHelpFormatter, allow_abbrev=False)
     parser.add_argument("program", nargs="?", metavar="PROGRAM")
     parser.add_argument("--write", action="store_true")
     chosen = parser.parse_args()
     program = os.path.abspath(program_of(chosen.program))
-    for check in (check_schedules, check_lines):
+    for check in (check_schedules, check_lines, check_terminal):
         with tempfile.TemporaryDirectory() as room:
             check(program, room)
     with tempfile.TemporaryDirectory() as room:

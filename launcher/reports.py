@@ -1,8 +1,8 @@
-"""Says what a trap means, where the text of `record` or `replay` tells of one: on a terminal by passing the text on, and of a file
-that has it by looking there.
+"""Says what a trap means, and that logs of several recordings were mixed, where the text of `record` or `replay` tells of it: on a
+terminal by passing the text on, and of a file that has it by looking there.
 
-traps.py PROGRAM WORD ..   (the words of the call, whose text is passed on as it is)
-traps.py --told FILE       (a file that the text was written to)
+reports.py PROGRAM WORD ..        (the words of the call, whose text is passed on as it is)
+reports.py --told FILE WORD ..    (a file that the text was written to)
 """
 from __future__ import annotations
 
@@ -12,6 +12,8 @@ import signal
 import subprocess
 import sys
 
+from commands import COMMANDS, files_of
+from heads import head_of
 from looking import is_file
 from parents import end_with_parent
 from saying import say
@@ -32,11 +34,24 @@ MEANING = {
 ENDED = re.compile(r"^([a-z0-9_]{1,32}): (\d+) events, trapped (%s)(?:,|$)" % "|".join(MEANING), re.M)
 
 
-def tell(text):
+UNMATCHED = re.compile(r"^group: .*, ([1-9]\d*) unmatched,", re.M)
+
+
+def tell(text, words):
     for name, events, kind in ENDED.findall(text):
         say("%s trapped after its event %s, %s: %s" % (name, events, kind, MEANING[kind]))
     if ENDED.search(text):
         say("`tools/events.py traps MODULE LOG ..` prints the lines of the debugger that go to the position before it")
+    found = UNMATCHED.search(text)
+    if found and are_all_given(words):
+        say("%s receives took datagrams that no log here has sent, though all logs of the group are given: logs of several recordings are "
+            "mixed, or one lacks its end. Give the logs of one recording" % found[1])
+
+
+def are_all_given(words):
+    """Whether the log of each process of the group is given."""
+    heads = [head_of(path) for path in files_of(words)[1::2]] if COMMANDS[words[0]].takes_pairs else []
+    return bool(heads) and None not in heads and len(heads) == heads[0].processes
 
 
 def passed_on(words):
@@ -59,23 +74,26 @@ def passed_on(words):
             return 6, b""
 
 
+def tell_of_file(path, words):
+    """Of the end of a file, which has the text of this call last."""
+    data = b""
+    if is_file(path):
+        with open(path, "rb") as file:
+            file.seek(max(0, os.fstat(file.fileno()).st_size - MOST_KEPT))
+            data = file.read(MOST_KEPT)
+    tell(data.decode("utf-8", "replace"), words)
+
+
 def main():
     if sys.argv[1] == "--told":
-        path = sys.argv[2]
-        if is_file(path):
-            with open(path, "rb") as file:
-                file.seek(max(0, os.fstat(file.fileno()).st_size - MOST_KEPT))
-                tell(file.read(MOST_KEPT).decode("utf-8", "replace"))
+        tell_of_file(sys.argv[2], sys.argv[3:])
         return 0
     end_with_parent(signal.SIGTERM)
     status, text = passed_on(sys.argv[1:])
     if status in (0, 1):
-        tell(text.decode("utf-8", "replace"))
+        tell(text.decode("utf-8", "replace"), sys.argv[2:])
     return status
 
 
 if __name__ == "__main__":
-    try:
-        sys.exit(main())
-    except OSError:
-        sys.exit(0)
+    sys.exit(main())
