@@ -43,7 +43,10 @@ TYPED = (
     ("p north.balances[0] + north.events", r"\d+"),
     ("p nobody.x", r"\? 1 syntax at column 7\n    print nobody.x\n          \^"),
     ("p north.nothing", r"\? bank.wasm has no variable nothing"),
-    ("finish", r"\? 1 syntax at column 1\n    finish is no word here"),
+    ("finish", r"\? finish: a replay tells no frames.*\n"),
+    ("hbreak x", r"\? hbreak: `b` makes all points"),
+    ("info locals", r"\? info: local variables are not told"),
+    ("wibble", r"\? 1 syntax at column 1\n    wibble is no word here"),
     ("g 999", r"\? 7 no such position\n    the logs have 125 events"),
     ("threads nobody", r"\? 2 no node\n    the processes are north, south, east"),
     ("set $n = 7", ""),
@@ -58,13 +61,97 @@ TYPED = (
     ("info threads", "north running\n0 at .*"),
     ("names north balances", r"north.bank::balances  i64\[2\]"),
     ("help", "moving .*"),
+    ("help finish", "a replay tells no frames"),
+    ("help tbreak", "points .*tbreak does so once"),
+    ("help nothing", "nothing is no word here"),
+)
+# As a user of gdb types, in a session of its own; a part of what comes next.
+HABITS = (
+    ("process south", "names without a process are of south\n"),
+    ("p balances", r"\[100, 100\]"),
+    ("p me", "0"),
+    ("process", "names without a process are of north, the process of the last event"),
+    ("g 51", "at 51: 25 north 3 print"),
+    ("p balances[0]", "90"),
+    ("p/x balances[0]", "0x5a"),
+    ("p/t 5", "101"),
+    ("p/o 8", "010"),
+    ("p/c 65", "65 'A'"),
+    ("p/z 1", r"\? the forms are /x in hexadecimal"),
+    ("p 5 & 6 | 8", "12"),
+    ("p 1 << 3 ^ 1", "9"),
+    ("p ~0", "-1"),
+    ("p balances[0] > 80 ? 7 : 8", "7"),
+    ("p (balances[0] & 0xf) + 1", "11"),
+    ("p 1 << 64", "undef"),
+    ("p 1 &", r"\? an operand is missing"),
+    ("p &transfers", "0x14d0"),
+    ("p sizeof(transfers[0])", "24"),
+    ("p transfers[me].message.amount", r"\d+"),
+    ("p *transfers@2", r"\? "),
+    ("p transfers[0].message.kind@4", r"\[1, 0, 0, 10\]"),
+    ("p *(struct message *)5336", r"\{kind = 1, number = 0, account = 0, amount = 10\}"),
+    ("p ((struct message *)5336)->amount", "10"),
+    ("p (struct nothing *)5336", r"\? 1 syntax"),
+    ("whatis transfers", r"transfer\[6\]"),
+    ("ptype transfers[0]", r"struct transfer \{\n    u32 +to;  // at 0\n.*\n    message +message;  // at 8\n\}  // 24 bytes"),
+    ("ptype struct message", r"struct message \{\n    u32 +kind;"),
+    ("whatis 1 + 1", "i64"),
+    ("x/4xw 5336", r"  5336  0x1  0x0  0x0  0xa\n"),
+    ("x/2dg north 1152", r"  1152  90  100\n"),
+    ("cast send struct message", ""),
+    ("e 30", r"(?s).*\n    sent to south: \{kind = 1, number = 0, account = 0, amount = 10\}\n"),
+    ("cast send struct nothing", r"\? no process has a struct nothing"),
+    ("cast send off", ""),
+    ("display balances[0]", r"1: north.balances\[0\] = 90\n"),
+    ("rs", r"at 50: .*\n(    .*\n)*1: north.balances\[0\] = 129\n"),
+    ("undisplay 1", ""),
+    ("goto +1", "at 51: "),
+    ("goto -2", "at 49: "),
+    ("w north.balances", "point 1\npoint 2\n"),
+    ("l", r"1 watch @north.i64\[1152\]\n2 watch @north.i64\[1160\]"),
+    ("w north.transfers", r"\? it has more than 8 numbers"),
+    ("w balances[0] & 1", r"\? 1 syntax at column .*\n.*\n.*\n    & \| "),
+    ("d 1-2", "deleted 1\ndeleted 2\n"),
+    ("tbreak north lock", "point 3"),
+    ("run", "at 0"),
+    ("c", "break 3\nat .* north . lock"),
+    ("c", "end\nat 51"),
+    ("b north lock", "point 4"),
+    ("disable", ""),
+    ("l", r"4 break north lock\n    point 4 is disabled"),
+    ("run", "at 0"),
+    ("c", "end\nat 51"),
+    ("enable 4", ""),
+    ("run", "at 0"),
+    ("c 3", "break 4\nat .* north . lock"),
+    ("run", "at 0"),
+    ("ignore 4 2", ""),
+    ("c", "break 4\nat .* north . lock"),
+    ("ignore 4 0", ""),
+    ("commands 4", ""),
+    ("silent", ""),
+    ("p balances", ""),
+    ("c", ""),
+    ("end", ""),
+    ("run", "at 0"),
+    ("c", r"break 4\n(.*\n)+\[\d+, \d+\]\n(.*\n)+end\nat 51"),
+    ("info locals", r"\? info: local variables"),
+    ("list nowhere", r"\? list wants FILE:LINE"),
+    ("list bank.c:65", r"    60  .*\n(.*\n)+>   65      balances\[account\] = balance;\n"),
+    ("set var x = 3", r"\? no memory is ever written"),
+    ("delete", "deleted 4"),
+    ("delete 9", r"\? 6 no such point"),
+    ("b east recv", "point 5"),
+    ("", ""),
+    ("l", "5 break east recv\n$"),
 )
 
 
-def session(program, typed, *words, wanted=0):
+def session(program, typed, *words, wanted=0, pairs=PAIRS):
     run = subprocess.run(
-        [sys.executable, os.path.join(TOOLS, "session"), "--program", program, *words, *PAIRS],
-        input=typed, stdout=subprocess.PIPE, text=True, cwd=LOGS, timeout=300,
+        [sys.executable, os.path.join(TOOLS, "session"), "--program", program, *words, *pairs],
+        input=typed, stdout=subprocess.PIPE, text=True, cwd=LOGS, timeout=600,
     )
     assert run.returncode == wanted, run
     return run.stdout
@@ -76,6 +163,27 @@ def check_answers(program):
     answers = re.split(r"10000\d\d\n", session(program, typed, wanted=1))
     for (line, wanted), answer in zip(TYPED, answers):
         assert re.match(wanted, answer), (line, wanted, answer)
+
+
+def check_habits(program, folder):
+    """Over what the lost update needs. Each line is followed by a mark, but where lines are collected."""
+    subprocess.run([program, "cut", "0", "25", *(os.path.join(LOGS, word) for word in PAIRS)], cwd=folder, check=True, stdout=subprocess.DEVNULL)
+    pairs = [os.path.join(folder, word[:-3] + "cut") if word.endswith(".log") else word for word in PAIRS]
+    typed, collecting = [], False
+    for place, (line, _) in enumerate(HABITS):
+        collecting = (collecting or line.startswith("commands ")) and line != "end"
+        typed.append(line if collecting or line == "end" else "%s\nset $mark %d\np $mark + 1000000" % (line, place))
+    made = {name: os.path.join(folder, name) for name in ("cuts", "again", "page.html")}
+    typed += ["cut " + made["cuts"], "schedule " + made["again"], "page " + made["page.html"], "schedule ../bank/bank.wasm", "script " + pairs[1]]
+    told = session(program, "".join(line + "\n" for line in typed), wanted=1, pairs=pairs)
+    answers = {int(mark): answer for answer, mark in re.findall(r"(?s)((?:(?!10000\d\d\n).)*)10000(\d\d)\n", told)}
+    for place, (line, wanted) in enumerate(HABITS):
+        assert place not in answers or re.match(wanted, answers[place]), (line, wanted, answers[place])
+    rest = told[told.rindex("10000") :]
+    assert re.search(r"north: \d+ of 25 events\n.*\n.*\nnorth.cut and so on are in", rest) and os.path.exists(os.path.join(made["cuts"], "east.cut")), rest
+    with open(made["again"]) as file:
+        assert file.read().startswith("friday 1\nprocess north ../bank/bank.wasm\n")
+    assert rest.count("is a file of this recording") == 2 and "page.html#at=51" in rest and os.path.getsize(made["page.html"]) > 50_000, rest
 
 
 def check_repeat(program):
@@ -150,8 +258,9 @@ def main():
     program = os.path.abspath(program_of(parser.parse_args().program))
     check_answers(program)
     check_repeat(program)
-    with tempfile.TemporaryDirectory() as folder:
-        check_kept(program, folder)
+    for check in (check_kept, check_habits):
+        with tempfile.TemporaryDirectory() as folder:
+            check(program, folder)
     with tempfile.TemporaryDirectory() as folder:
         check_given_up(folder)
     print("session: as expected")
