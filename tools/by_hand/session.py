@@ -6,6 +6,7 @@ from by_hand.commands import COMMANDS
 from by_hand.completion import LINES
 from by_hand.words import REPEATED, expanded, instead_of
 from logs.wording import bytes_lines, shown
+from naming import LONGEST_LINE
 from sessions.arithmetic import has_own
 from sessions.casts import datagram, type_of
 from sessions.debugger import Ended
@@ -76,6 +77,8 @@ class Session:
         if not typed or typed.startswith("#"):
             return
         try:
+            if len(typed) > LONGEST_LINE:
+                raise Refusal("8 line too long")
             if word in COMMANDS:
                 COMMANDS[word](self, rest, form)
             elif word in LINES:
@@ -89,6 +92,9 @@ class Session:
             self.refuse("? %s" % refusal)
         except OSError as error:
             self.refuse("? %s: %s" % (error.filename, error.strerror))
+        except (ValueError, RecursionError) as error:
+            # A name of a file with a zero byte, or a path that no one types.
+            self.refuse("? %s" % error)
         except KeyboardInterrupt:
             self.give_up()
 

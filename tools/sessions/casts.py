@@ -20,14 +20,14 @@ def value_of(engine, text, node, depth=0):
     text = text.strip()
     if depth > DEEPEST:
         raise Refusal("3 too deep")
-    if text.startswith("*"):
-        found = value_of(engine, text[1:], node, depth + 1)
-        return pointed(engine, found, node) if found else None
     if row := re.fullmatch(r"([^@]+)@\s*(\d{1,9})", text):
         found = value_of(engine, row[1], node, depth + 1)
         if found and not 1 <= int(row[2]) <= MOST_IN_A_ROW:
             raise Refusal("1 to %d in a row are shown" % MOST_IN_A_ROW)
         return found.repeated(int(row[2])) if found else None
+    if text.startswith("*"):
+        found = value_of(engine, text[1:], node, depth + 1)
+        return pointed(engine, found, node) if found else None
     if text.startswith("(") and end_of(text, 1) < len(text) - 1 and (cast := CAST.fullmatch(text)):
         type_ = type_of(engine, node, cast[1])
         return cast_to(engine, type_ + "*" * len(cast[2]), cast[3], node) if type_ else None
