@@ -1,10 +1,11 @@
 #!/usr/bin/env python3
 """What the debugger has no answer for, read from the logs of a group.
 
-events.py list [--json|--brief] [--call CALL].. [--process NAME].. LOG..
+events.py list [--json|--brief] [--call CALL,..].. [--process NAME,..].. LOG..
                                              each event, numbered as the debugger's positions, with the bytes
                                              that it printed, sent or took; --brief has them in the same line, and
                                              --json is a record for each event, in a line of its own
+events.py chrome [--from K] [--to K] LOG..   the events as a trace for Perfetto and for Chrome's trace viewer
 events.py traps MODULE LOG [MODULE LOG]..    for each process that trapped, the debugger's lines that go to the
                                              position before the event in which it did
 
@@ -18,9 +19,13 @@ import sys
 
 from asking.program import program_of
 from asking.report import Refused, replayed
+from logs.chrome import trace
 from logs.format import CALLS, BadLog, in_group_order, printable
 from logs.group import NotOneGroup, read_logs
 from logs.wording import bytes_lines
+
+# A trace of more events takes a viewer long to open.
+MANY = 200_000
 
 
 def list_events(logs, chosen):
@@ -37,6 +42,17 @@ def list_events(logs, chosen):
             print("; ".join(["%d: %s" % (position, entry.text(log.name)), *bytes_lines(entry, names)]))
         else:
             print("\n    ".join(["%d: %s" % (position, entry.text(log.name)), *bytes_lines(entry, names)]))
+
+
+def print_trace(logs, first, last):
+    """The events from one position to another, or all."""
+    order = in_group_order(logs)
+    first, last = max(first or 1, 1), min(last or len(order), len(order))
+    if last - first >= MANY:
+        print("%d events make a large trace; --from and --to take a part" % (last - first + 1), file=sys.stderr)
+    names = {log.process: log.name for log in logs}
+    for piece in trace(enumerate(order[first - 1 : last], first), names):
+        sys.stdout.write(piece)
 
 
 def record(position, entry, log, names):
@@ -81,16 +97,27 @@ def arguments():
     form.add_argument("--json", action="store_true", help="a record of JSON for each event")
     form.add_argument("--brief", action="store_true", help="the bytes in the line of the event")
     calls = [call.name for call in CALLS]
-    listing.add_argument("--call", action="append", default=[], choices=calls, metavar="CALL", help="only the events of this call")
-    listing.add_argument("--process", action="append", default=[], metavar="NAME", help="only the events of this process")
+    listing.add_argument("--call", action="extend", type=listed, default=[], metavar="CALL,..", help="only the events of these calls")
+    listing.add_argument("--process", action="extend", type=listed, default=[], metavar="NAME,..", help="only the events of these processes")
     listing.add_argument("logs", nargs="+", metavar="LOG")
+    chrome = works.add_parser("chrome", allow_abbrev=False)
+    chrome.add_argument("--from", dest="first", type=int, metavar="K", help="the position of the first event")
+    chrome.add_argument("--to", dest="last", type=int, metavar="K", help="the position of the last event")
+    chrome.add_argument("logs", nargs="+", metavar="LOG")
     traps = works.add_parser("traps", allow_abbrev=False)
     traps.add_argument("--program", help="the program friday, if not the one that answers ./friday")
     traps.add_argument("pairs", nargs="+", metavar="MODULE LOG")
     chosen = parser.parse_args()
     if chosen.work == "traps" and len(chosen.pairs) % 2:
         parser.error("each module needs its log")
+    for name in chosen.call if chosen.work == "list" else ():
+        if name not in calls:
+            parser.error("argument --call: invalid choice: %r (choose from %s)" % (name, ", ".join(calls)))
     return chosen
+
+
+def listed(word):
+    return word.split(",")
 
 
 def main():
@@ -98,6 +125,8 @@ def main():
     try:
         if chosen.work == "list":
             list_events(read_logs(chosen.logs), chosen)
+        elif chosen.work == "chrome":
+            print_trace(read_logs(chosen.logs), chosen.first, chosen.last)
         else:
             print_traps(program_of(chosen.program), chosen.pairs)
         sys.stdout.flush()

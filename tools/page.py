@@ -15,7 +15,9 @@ from logs.group import NotOneGroup
 from pages.file import page
 from pages.packing import packed
 from pages.recording import read_recording
-from pictures.command_line import OneLineParser, write
+from pictures.command_line import OneLineParser, warn, write
+from sessions.names import Names, Refusal
+from sessions.verdict import Verdict
 
 
 def watch(word):
@@ -33,7 +35,7 @@ def arguments():
     )
     parser.add_argument("pairs", nargs="+", metavar="MODULE LOG", help="the log of each process after its module")
     parser.add_argument("--watch", dest="watches", nargs="+", action="extend", type=watch, default=[], metavar="NAME=EXPR",
-                        help="an expression of the debugger, and the name that the page gives it")
+                        help="an expression as a session takes it, with names of variables, and the name that the page gives it")
     parser.add_argument("--against", nargs="+", default=[], metavar="MODULE LOG", help="another recording of the group")
     parser.add_argument("--program", default=BUILT, help="the program friday, if not the one that ./friday builds")
     chosen = parser.parse_args()
@@ -42,8 +44,21 @@ def arguments():
     return chosen
 
 
+def with_addresses(pairs, watches):
+    """The watches with addresses in place of names of variables, as NAME.places beside the modules has them."""
+    names = Names(pairs, lambda line: None)
+    try:
+        return [(name, names.line(expression)) for name, expression in watches]
+    except Refusal as refusal:
+        raise NotOneGroup("a watch is refused: %s" % printable(str(refusal))) from None
+
+
 def made(chosen):
-    recordings = [read_recording(chosen.program, pairs, chosen.watches) for pairs in (chosen.pairs, chosen.against) if pairs]
+    recordings = []
+    for pairs in (chosen.pairs, chosen.against):
+        if pairs:
+            recordings.append(read_recording(chosen.program, pairs, with_addresses(pairs, chosen.watches)))
+            warn(Verdict(chosen.program, pairs))
     names = [[(process["number"], process["name"]) for process in data["processes"]] for data, _ in recordings]
     if names[0] != names[-1]:
         raise NotOneGroup("the recordings are not of the same processes")

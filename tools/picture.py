@@ -13,14 +13,16 @@ from asking.program import program_if_there
 from asking.report import Refused, replayed
 from logs.format import CALLS, BadLog, printable
 from logs.group import NotOneGroup, read_group
-from logs.traffic import traffic_of
+from logs.traffic import cut_processes, traffic_of
 from logs.vector_clocks import shiviz_text
 from pictures.captions import Captions
-from pictures.command_line import OneLineParser, write
+from pictures.command_line import OneLineParser, warn, write
 from pictures.drawing import Picture
 from pictures.standing import by_logs, by_replay, threads_at
+from sessions.verdict import Verdict
 
-MANY = 3000
+# More events than these make what is hard to read.
+MANY, MANY_OF_SHIVIZ = 3000, 20_000
 
 
 def arguments():
@@ -79,7 +81,9 @@ def ends_of(program, pairs, logs, traffic, last):
     drawn = {log.name: all(event.position <= last for event in traffic.events if event.log is log) for log in logs}
     if program is None:
         return {log.name: by_logs(log, drawn[log.name]) for log in logs}
-    results = replayed(program, pairs)
+    verdict = Verdict(program, pairs)
+    warn(verdict)
+    results = verdict.report.results if verdict.report else replayed(program, pairs)
     whole = all(results[log.name].accepted == len(log.entries) for log in logs)
     threads = threads_at(program, pairs, [log.name for log in logs], last) if whole else {}
     return {log.name: by_replay(log, drawn[log.name], results[log.name], threads.get(log.name, ())) for log in logs}
@@ -87,14 +91,15 @@ def ends_of(program, pairs, logs, traffic, last):
 
 def made(chosen):
     logs = read_group(chosen.pairs)
-    traffic = traffic_of(logs)
+    traffic = traffic_of(logs, cut_processes(logs, chosen.pairs[1::2]))
     captions = Captions(logs, traffic, chosen.bytes)
     drawn = drawn_logs(chosen, logs)
     first, last = span(chosen, len(traffic.events))
+    if last - first >= (MANY_OF_SHIVIZ if chosen.shiviz else MANY):
+        words = last - first + 1, "log for ShiViz" if chosen.shiviz else "picture"
+        print("%d events make a large %s; --from and --to take a part" % words, file=sys.stderr)
     if chosen.shiviz:
         return shiviz_text(traffic, captions.lines, first, last)
-    if last - first >= MANY:
-        print("%d events make a large picture; --from and --to draw a part" % (last - first + 1), file=sys.stderr)
     ends = ends_of(program_of(chosen), chosen.pairs, logs, traffic, last)
     return Picture(drawn, traffic, captions, ends, first, last, chosen.hide).svg()
 

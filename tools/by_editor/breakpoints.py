@@ -6,7 +6,7 @@ import re
 from by_hand.pointing import CALL_NAMES
 from sessions.names import Refusal
 from sessions.places import advice, calls_of, line_of
-from sessions.values import loads
+from sessions.values import numbers_of
 
 FILTERS = [
     {"filter": name, "label": name, "description": "stops at each event of this call", "supportsCondition": True}
@@ -146,7 +146,7 @@ class Breakpoints:
         text = breakpoint["dataId"]
         place, points = self.engine.names.place(text), []
         node = place.node if place else self.engine.current
-        for expression in loads(place) if place else [text]:
+        for expression in numbers_of(place, text) if place and not text.startswith("@") else [text]:
             points += self.engine.points.watch(expression, **self.more(breakpoint, node))
         return points, {}
 

@@ -3,11 +3,10 @@
 import os
 import subprocess
 
-from asking.program import TOP, program_of
+from asking.program import program_of
 from sessions.engine import Engine
 from sessions.names import Refusal
-
-KIT = "kit/"
+from sessions.sources import Sources
 
 
 class Launch:
@@ -18,7 +17,7 @@ class Launch:
         self.folder = os.path.abspath(self.text("cwd") or ".")
         self.program = self.path(self.text("program")) if self.text("program") else program_of(program)
         self.pairs = self.found_pairs()
-        self.folders = [os.path.dirname(module) for module in self.pairs[::2]] + [self.path(folder) for folder in self.texts("sources")]
+        self.sources = Sources(self.pairs[::2], map(self.path, self.texts("sources")))
 
     def text(self, name):
         value = self.settings.get(name)
@@ -87,9 +86,3 @@ class Launch:
             engine.close()
             raise Refusal(refusal)
         return engine
-
-    def source_of(self, file):
-        """The path of a file that a place names, if it is found: beside a module, in a folder of `sources`, or in the kit."""
-        folders = [os.path.join(TOP, "guests")] if file.startswith(KIT) else self.folders
-        name = file[len(KIT) :] if file.startswith(KIT) else file
-        return next((path for path in (os.path.join(folder, name) for folder in folders) if os.path.isfile(path)), None)

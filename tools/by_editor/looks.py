@@ -88,7 +88,7 @@ class Looks:
         how, last, found = threads.get(thread, state), self.engine.threads.last_event(node, thread), []
         call = self.engine.threads.call_of(node, thread)
         if call:
-            path = self.adapter.launch.source_of(call.file)
+            path = self.adapter.launch.sources.path(call.file)
             shown = {"source": {"name": os.path.basename(path), "path": path}} if path else {}
             found.append({"name": "%s, %s" % (call.function, how), "line": call.line if path else 0, **shown})
         if last:
@@ -159,7 +159,7 @@ class Looks:
     def on_loadedSources(self, **_):
         names = self.engine.names
         files = {call.file for node in names.nodes for call in calls_of(names, node)}
-        paths = sorted(filter(None, map(self.adapter.launch.source_of, files)))
+        paths = sorted(filter(None, map(self.adapter.launch.sources.path, files)))
         listed = [self.events.source] if self.events.is_there else []
         return {"sources": listed + [{"name": os.path.basename(path), "path": path} for path in paths]}
 

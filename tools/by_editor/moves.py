@@ -48,7 +48,7 @@ class Moves:
             self.adapter.tell("%d prints before these are not shown" % (last - first - MOST_OUTPUTS))
         for position in prints[max(first, last - MOST_OUTPUTS) : last]:
             event = self.engine.event_at(position)
-            text = "%d %s: %s" % (position, event.log.name, event.entry.sent.decode("utf-8", "replace").rstrip("\n"))
+            text = "%d %s: %s" % (position, event.log.name, as_lines(event.entry.sent))
             self.adapter.tell(text, "stdout", **({"source": looks.events.source, "line": position} if looks.events.is_there else {}))
 
     def stopped(self, reason, said=(), is_stopped=False):
@@ -150,6 +150,12 @@ class Moves:
 
     def positions_of(self, number):
         return self.engine.index.of_thread.get(self.thread(number), ())
+
+
+def as_lines(data):
+    """What was printed, without what a console would obey."""
+    text = data.decode("utf-8", "replace").rstrip("\n")
+    return "".join(letter if letter.isprintable() or letter in "\n\t" else "?" for letter in text)
 
 
 class Progress:

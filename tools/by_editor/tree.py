@@ -1,9 +1,11 @@
 """The variables pane: scopes, and what is under a variable. Values are read where a client opens them."""
 
 from logs.wording import shown, source
+from sessions.casts import value_of
+from sessions.engine import LineRefused
 from sessions.names import Refusal
 from sessions.places import LAST_CALL
-from sessions.spelling import of_answer
+from sessions.spelling import number, of_answer
 
 # A struct or array of more numbers is not spelled in the line of its name, and so many elements are told at once.
 MOST_SPELLED, MOST_CHILDREN = 40, 5000
@@ -136,19 +138,26 @@ class Tree:
     def value(self, text, node, form):
         """The variable or the expression of this text; names without a process are of this one."""
         whole = self.engine.names.qualified(text, node)
-        place = self.engine.names.place(whole)
-        if place:
-            return self.shown(text, whole, place.node, self.engine.value(whole), form)
-        answer = self.engine.ask("print " + whole)
-        if answer.is_refused:
-            raise Refusal(self.why(text, node, answer.lines[0][2:]))
-        return {**plain(text, of_answer(answer.lines[0], form)), "evaluateName": whole}
+        value = value_of(self.engine, text, node)
+        if value:
+            return self.shown(text, whole, node_in(self.engine, whole, node), value, form)
+        try:
+            found = self.engine.number_of(text, node)
+        except LineRefused as refusal:
+            raise Refusal(self.why(text, node, str(refusal))) from None
+        return {**plain(text, number(found, form)), "evaluateName": whole}
 
     def why(self, text, node, refusal):
         """What helps beside a refusal: a name that is none of the process, as a local variable has."""
         if text.strip().isidentifier():
             return "%s is no variable of %s, and local variables are not told" % (text.strip(), node)
         return refusal
+
+
+def node_in(engine, text, node):
+    """The process that a path names, or this one."""
+    found = engine.names.reference(text.lstrip("*& "), 0)
+    return found[0] if found else node
 
 
 def or_none(read):

@@ -2,9 +2,10 @@
 
 from by_hand.commands import COMMANDS
 
-LINES = ("goto", "step", "back", "continue", "mem", "events", "vars", "quit", "run")
-HIDDEN = ("bytes_at", "from_start")
-WORDS = sorted([word for word in COMMANDS if word not in HIDDEN] + list(LINES))
+# The debugger's own lines, which a session hands on.
+LINES = ("step", "back", "mem", "events", "vars", "quit")
+HIDDEN = ("bytes_at", "from_start", "list_here")
+WORDS = sorted([word for word in COMMANDS if word not in HIDDEN] + [*LINES, "run"])
 
 
 def offered(names, start):

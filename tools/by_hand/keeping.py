@@ -1,5 +1,6 @@
 """Lines that keep in a file what a session has, and take it up again."""
 
+from by_hand.making import checked
 from sessions.engine import setting
 from sessions.names import Refusal
 
@@ -8,8 +9,15 @@ def save(session, rest, form):
     """Keeps points, programs and variables in a file."""
     lines = [setting(line) for line in session.engine.debugger.ask("vars")]
     for point in session.engine.points:
-        lines += [point.told] + (["do . " + point.program] if point.program else [])
+        lines += lines_of(point)
     write(session, rest, "".join(line + "\n" for line in lines))
+
+
+def lines_of(point):
+    """The lines that make a point again; `.` is the one made last."""
+    lines = [("t" if point.is_temporary else "") + point.told]
+    lines += ["do . " + point.program] if point.program else []
+    return lines + (["commands", *point.commands, "end"] if point.commands else [])
 
 
 def save_script(session, rest, form):
@@ -18,9 +26,7 @@ def save_script(session, rest, form):
 
 
 def write(session, path, text):
-    if not path:
-        raise Refusal("a file's name is missing")
-    with open(path, "w", encoding="latin-1", errors="replace") as file:
+    with open(checked(session, path), "w", encoding="latin-1", errors="replace") as file:
         file.write(text)
     session.print("%d lines in %s" % (text.count("\n"), path))
 

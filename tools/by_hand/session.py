@@ -3,12 +3,17 @@
 import re
 
 from by_hand.commands import COMMANDS
-from by_hand.words import expanded
-from logs.wording import bytes_lines
+from by_hand.completion import LINES
+from by_hand.words import REPEATED, expanded, instead_of
+from logs.wording import bytes_lines, shown
+from naming import LONGEST_LINE
+from sessions.arithmetic import has_own
+from sessions.casts import datagram, type_of
 from sessions.debugger import Ended
 from sessions.engine import MOVES, LineRefused
 from sessions.names import Refusal
 from sessions.places import in_words
+from sessions.sources import Sources
 
 EVENT = re.compile(r"(?:at )?(\d+): (.*)")
 TELLS_EVENTS = (*MOVES, "events")
@@ -19,11 +24,26 @@ class Session:
         self.engine, self.print = engine, print_line
         self.last, self.over, self.refused = "", False, 0
         self.shows_sent, self.shows_bytes = False, True
+        # The process that was chosen, expressions that are shown at each stop, and structs of datagrams by their calls.
+        self.chosen, self.displays, self.casts = None, {}, {}
+        # Where lines go until `end`, and how many displays were made.
+        self.collect, self.made_displays = None, 0
+        self.sources = Sources(engine.names.modules.values())
         engine.on_line, engine.keeps_reads = self.hear, True
 
     @property
     def names(self):
         return self.engine.names
+
+    @property
+    def current(self):
+        """The process whose variables names without one are."""
+        return self.chosen or self.engine.current
+
+    def node_of(self, text):
+        """The process that a variable's path names, or the current one."""
+        found = self.names.reference(text.lstrip("*& "), 0)
+        return found[0] if found else self.current
 
     def hear(self, sent):
         if self.shows_sent:
@@ -38,16 +58,33 @@ class Session:
 
     def handle(self, typed):
         """Does what a line asks for; an empty one asks for the last once more."""
-        typed = typed.strip() or self.last
-        self.last = typed
+        typed = typed.strip()
+        if self.collect is not None:
+            if typed == "end":
+                self.collect = None
+            elif typed:
+                self.collect.append(typed)
+            return
+        typed = typed or self.last
+        self.last = typed if expanded(typed)[0] in REPEATED else ""
+        before = self.engine.position
+        self.handle_line(typed)
+        if self.engine.position != before:
+            self.print_displays()
+
+    def handle_line(self, typed):
         word, form, rest = expanded(typed)
         if not typed or typed.startswith("#"):
             return
         try:
+            if len(typed) > LONGEST_LINE:
+                raise Refusal("8 line too long")
             if word in COMMANDS:
                 COMMANDS[word](self, rest, form)
-            else:
+            elif word in LINES:
                 self.send(" ".join([word, rest]).strip(), typed)
+            else:
+                self.refuse_word(typed, word, rest)
         except LineRefused as refusal:
             self.refuse("? %s" % refusal)
             self.explain(refusal.answer, typed)
@@ -55,12 +92,54 @@ class Session:
             self.refuse("? %s" % refusal)
         except OSError as error:
             self.refuse("? %s: %s" % (error.filename, error.strerror))
+        except (ValueError, RecursionError) as error:
+            # A name of a file with a zero byte, or a path that no one types.
+            self.refuse("? %s" % error)
         except KeyboardInterrupt:
             self.give_up()
 
     def refuse(self, text):
         self.refused += 1
         self.print(text)
+
+    def refuse_word(self, typed, word, rest):
+        """Says what to do in place of a word of gdb's; of others that they are none."""
+        advice = instead_of(word, rest)
+        if advice:
+            self.refuse("? %s: %s" % (typed.split()[0], advice))
+        else:
+            self.refuse("? 1 syntax at column 1")
+            self.print("    %s is no word here: help lists them, docs/gdb.md has gdb's" % typed.split()[0])
+
+    def walk(self):
+        """Goes on to where a point stops it, and tells where that is."""
+        answer = self.engine.ask("continue", self.print_event)
+        self.print_place(answer)
+        return answer
+
+    def add_display(self, text, form):
+        self.made_displays += 1
+        self.displays[self.made_displays] = "print%s %s" % (form, self.names.qualified(text, self.current))
+        self.print_display(self.made_displays)
+
+    def print_displays(self):
+        for number in list(self.displays):
+            self.print_display(number)
+
+    def print_display(self, number):
+        """One expression with its value; what is refused is no display any more."""
+        line, lines, refused = self.displays[number], [], self.refused
+        told, self.print = self.print, lines.append
+        try:
+            self.handle_line(line)
+        finally:
+            self.print = told
+        if self.refused > refused:
+            del self.displays[number]
+        else:
+            lines = ["%d: %s = %s" % (number, line.split(" ", 1)[1], lines[-1])]
+        for each in lines:
+            self.print(each)
 
     def send(self, line, typed=None):
         """Sends a line, and prints the answer with the bytes of events; whether it was accepted."""
@@ -82,8 +161,15 @@ class Session:
         found = EVENT.fullmatch(line) if self.shows_bytes else None
         event = self.engine.event_at(int(found[1])) if found else None
         if event and event.entry.text(event.log.name) == found[2]:
-            for told in bytes_lines(event.entry, self.names.called):
+            for told in bytes_lines(event.entry, self.names.called, self.in_words(event)):
                 self.print("    " + told)
+
+    def in_words(self, event):
+        """How the bytes of an event are told: as the struct that its call was cast to."""
+        type_ = type_of(self.engine, event.log.name, self.casts.get(event.entry.call.name, ""))
+        if type_ is None:
+            return shown
+        return lambda data: datagram(self.engine, event.log.name, type_, data).text()
 
     def print_place(self, answer):
         """Where in its source the thread of the last event stands now, if its guest was built to keep that."""
@@ -109,6 +195,8 @@ class Session:
             self.print("    %s is no word here: help lists them, docs/gdb.md has gdb's" % (typed or answer.sent).split()[0])
         elif column:
             self.print("    %s\n    %s^" % (answer.sent, " " * (int(column[1]) - 1)))
+            if has_own(answer.sent):
+                self.print("    & | ^ ~ << >> ?: are computed by p alone: in points write x / 4 % 2 for the bit 4 of x, x * 4 for x << 2")
         elif answer.lines[0].startswith("? 2"):
             self.print("    the processes are %s" % ", ".join(self.names.nodes))
         elif answer.lines[0].startswith("? 7"):

@@ -8,6 +8,7 @@ check_session.py [PROGRAM]   (the program that answers ./friday, if none is give
 import argparse
 import os
 import re
+import shutil
 import signal
 import struct
 import subprocess
@@ -17,6 +18,8 @@ import time
 
 from tools_path import TOOLS, TOP  # before the modules of the tools, which it lets be found
 from asking.program import program_of
+import sessions  # before the modules of the kit, which it lets be found
+from place_table import digest_of
 
 LOGS = os.path.join(TOP, "examples", "lost_update")
 PAIRS = [word for name in ("north", "south", "east") for word in ("../bank/bank.wasm", name + ".log")]
@@ -43,7 +46,10 @@ TYPED = (
     ("p north.balances[0] + north.events", r"\d+"),
     ("p nobody.x", r"\? 1 syntax at column 7\n    print nobody.x\n          \^"),
     ("p north.nothing", r"\? bank.wasm has no variable nothing"),
-    ("finish", r"\? 1 syntax at column 1\n    finish is no word here"),
+    ("finish", r"\? finish: a replay tells no frames.*\n"),
+    ("hbreak x", r"\? hbreak: `b` makes all points"),
+    ("info locals", r"\? info: local variables are not told"),
+    ("wibble", r"\? 1 syntax at column 1\n    wibble is no word here"),
     ("g 999", r"\? 7 no such position\n    the logs have 125 events"),
     ("threads nobody", r"\? 2 no node\n    the processes are north, south, east"),
     ("set $n = 7", ""),
@@ -58,13 +64,99 @@ TYPED = (
     ("info threads", "north running\n0 at .*"),
     ("names north balances", r"north.bank::balances  i64\[2\]"),
     ("help", "moving .*"),
+    ("help finish", "a replay tells no frames"),
+    ("help tbreak", "points .*tbreak does so once"),
+    ("help nothing", "nothing is no word here"),
+)
+# As a user of gdb types, in a session of its own; a part of what comes next.
+HABITS = (
+    ("process south", "names without a process are of south\n"),
+    ("p balances", r"\[100, 100\]"),
+    ("p me", "0"),
+    ("process", "names without a process are of north, the process of the last event"),
+    ("g 51", "at 51: 25 north 3 print"),
+    ("p balances[0]", "90"),
+    ("p/x balances[0]", "0x5a"),
+    ("p/t 5", "101"),
+    ("p/o 8", "010"),
+    ("p/c 65", "65 'A'"),
+    ("p/z 1", r"\? the forms are /x in hexadecimal"),
+    ("p 5 & 6 | 8", "12"),
+    ("p 1 << 3 ^ 1", "9"),
+    ("p ~0", "-1"),
+    ("p balances[0] > 80 ? 7 : 8", "7"),
+    ("p (balances[0] & 0xf) + 1", "11"),
+    ("p 1 << 64", "undef"),
+    ("p 1 &", r"\? an operand is missing"),
+    ("p &transfers", "0x14d0"),
+    ("p sizeof(transfers[0])", "24"),
+    ("p transfers[me].message.amount", r"\d+"),
+    ("p *transfers@2", r"\[\{to = 0, on_its_way = 0.*\}, \{to = 0.*\}\]\n"),
+    ("process south", "names without a process are of south\n"),
+    ("p transfers[3].message.kind@4", r"\[1, 3, 0, 19\]"),
+    ("p *(struct message *)5408", r"\{kind = 1, number = 3, account = 0, amount = 19\}"),
+    ("p ((struct message *)5408)->amount", "19"),
+    ("p (struct nothing *)5336", r"\? 1 syntax"),
+    ("whatis transfers", r"transfer\[6\]"),
+    ("ptype transfers[0]", r"struct transfer \{\n    u32 +to;  // at 0\n.*\n    message +message;  // at 8\n\}  // 24 bytes"),
+    ("ptype struct message", r"struct message \{\n    u32 +kind;"),
+    ("whatis 1 + 1", "i64"),
+    ("x/4xw 5408", r"  5408  0x1  0x3  0x0  0x13\n"),
+    ("process north", "names without a process are of north\n"),
+    ("x/2dg north 1152", r"  1152  90  100\n"),
+    ("cast send struct message", ""),
+    ("e 30", r"(?s).*\n    sent to north: \{kind = 1, number = 3, account = 0, amount = 19\}\n"),
+    ("cast send struct nothing", r"\? no process has a struct nothing"),
+    ("cast send off", ""),
+    ("display balances[0]", r"1: north.balances\[0\] = 90\n"),
+    ("rs", r"at 50: .*\n(    .*\n)*1: north.balances\[0\] = 129\n"),
+    ("undisplay 1", ""),
+    ("goto +1", "at 51: "),
+    ("goto -2", "at 49: "),
+    ("w north.balances", "point 1\npoint 2\n"),
+    ("l", r"1 watch @north.i64\[1152\]\n2 watch @north.i64\[1160\]"),
+    ("w north.transfers", r"\? it has more than 8 numbers"),
+    ("w balances[0] & 1", r"\? 1 syntax at column .*\n.*\n.*\n    & \| "),
+    ("d 1-2", "deleted 1\ndeleted 2\n"),
+    ("tbreak north lock", "point 3"),
+    ("run", "at 0"),
+    ("c", "break 3\nat .* north . lock"),
+    ("c", "end\nat 51"),
+    ("b north lock", "point 4"),
+    ("disable", ""),
+    ("l", r"4 break north lock\n    point 4 is disabled"),
+    ("run", "at 0"),
+    ("c", "end\nat 51"),
+    ("enable 4", ""),
+    ("run", "at 0"),
+    ("c 3", "break 4\nat .* north . lock"),
+    ("run", "at 0"),
+    ("ignore 4 2", ""),
+    ("c", "break 4\nat .* north . lock"),
+    ("ignore 4 0", ""),
+    ("commands 4", ""),
+    ("silent", ""),
+    ("p balances", ""),
+    ("c", ""),
+    ("end", ""),
+    ("run", "at 0"),
+    ("c", r"break 4\n(.*\n)+\[\d+, \d+\]\n(.*\n)+end\nat 51"),
+    ("info locals", r"\? info: local variables"),
+    ("list nowhere", r"\? list wants FILE:LINE"),
+    ("list bank.c:60", r"    55  .*\n(.*\n)+>   60      balances\[account\] = balance;\n"),
+    ("set var x = 3", r"\? no memory is ever written"),
+    ("delete", "deleted 4"),
+    ("delete 9", r"\? 6 no such point"),
+    ("b east recv", "point 5"),
+    ("", ""),
+    ("l", "5 break east recv\n$"),
 )
 
 
-def session(program, typed, *words, wanted=0):
+def session(program, typed, *words, wanted=0, pairs=PAIRS):
     run = subprocess.run(
-        [sys.executable, os.path.join(TOOLS, "session"), "--program", program, *words, *PAIRS],
-        input=typed, stdout=subprocess.PIPE, text=True, cwd=LOGS, timeout=300,
+        [sys.executable, os.path.join(TOOLS, "session"), "--program", program, *words, *pairs],
+        input=typed, stdout=subprocess.PIPE, text=True, cwd=LOGS, timeout=600,
     )
     assert run.returncode == wanted, run
     return run.stdout
@@ -76,6 +168,54 @@ def check_answers(program):
     answers = re.split(r"10000\d\d\n", session(program, typed, wanted=1))
     for (line, wanted), answer in zip(TYPED, answers):
         assert re.match(wanted, answer), (line, wanted, answer)
+
+
+def check_habits(program, folder):
+    """Over what the lost update needs. Each line is followed by a mark, but where lines are collected."""
+    subprocess.run([program, "cut", "0", "25", *(os.path.join(LOGS, word) for word in PAIRS)], cwd=folder, check=True, stdout=subprocess.DEVNULL)
+    pairs = [os.path.join(folder, word[:-3] + "cut") if word.endswith(".log") else word for word in PAIRS]
+    typed, collecting = [], False
+    for place, (line, _) in enumerate(HABITS):
+        collecting = (collecting or line.startswith("commands ")) and line != "end"
+        typed.append(line if collecting or line == "end" else "%s\nset $mark %d\np $mark + 1000000" % (line, place))
+    made = {name: os.path.join(folder, name) for name in ("cuts", "again", "page.html")}
+    typed += ["cut " + made["cuts"], "schedule " + made["again"], "page " + made["page.html"], "schedule ../bank/bank.wasm", "script " + pairs[1]]
+    told = session(program, "".join(line + "\n" for line in typed), wanted=1, pairs=pairs)
+    answers = {int(mark): answer for answer, mark in re.findall(r"(?s)((?:(?!1000\d\d\d\n).)*)1000(\d\d\d)\n", told)}
+    for place, (line, wanted) in enumerate(HABITS):
+        assert place not in answers or re.match(wanted, answers[place]), (line, wanted, answers[place])
+    rest = told[told.rindex("1000%03d" % (len(HABITS) - 1)) :]
+    assert re.search(r"north: \d+ of 25 events\n.*\n.*\nnorth.cut and so on are in", rest) and os.path.exists(os.path.join(made["cuts"], "east.cut")), rest
+    with open(made["again"]) as file:
+        assert file.read().startswith("friday 1\nprocess north ../bank/bank.wasm\n")
+    assert rest.count("is a file of this recording") == 2 and "page.html#at=51" in rest and os.path.getsize(made["page.html"]) > 50_000, rest
+
+
+# What no one types by chance; each has to have an answer.
+HOSTILE = (
+    b"p deep", b"p deep.f.f.f.f.f.f", b"ptype deep", b"whatis deep", b"w deep", b"x deep", b"p own", b"w own", b"p *own", b"p row", b"p row@99999", b"display deep", b"names", b"info variables",
+    b"\xff\xfe\x00p \x1b[31m", b"p " + b"(" * 4000, b"p " + b"(" * 100_000, b"p " + b"~" * 4000, b"p " + b"1|" * 2000 + b"1", b"p " + b"*" * 3000 + b"deep", b"p 1" + b"?1:1" * 900, b"p deep" + b".f" * 2000,
+    b"p ((struct s0 *)0)" + b"->f" * 900, b"p (struct s0 *)", b"p deep@", b"p @", b"x/999999999999xw 0", b"x a 99999999999999999999999", b"cast send struct s0", b"goto -99999999999999999999", b"goto +", b"c 0",
+    b"c 99999999999999999999", b"commands", b"ignore 1 99999999999999999999", b"d 1-999999999", b"list " + b"a" * 3000 + b":1", b"list ../../../../etc/passwd:1", b"save /", b"load /", b"load \x00", b"cut /dev/null/x", b"page", b"schedule a.wasm",
+    b"set $x", b"set " + b"$" * 4000, b"do . " + b"{" * 3000, b"b a." + b"x" * 3000, b"undisplay 7", b"help " + b"x" * 3000, b"info " + b"\x1b" * 30, b"print/" + b"x" * 3000 + b" 1", b"condition 1 " + b"!" * 3000, b"p 9" * 1300,
+)
+
+
+def check_hostile(program, folder):
+    """Over places that nest 100,000 deep, hold themselves and have names that a terminal would obey."""
+    for name in ("a.wasm", "a.log"):
+        shutil.copy(os.path.join(TOP, "examples", "first", name), folder)
+    lines = ["module a.wasm %s" % digest_of(os.path.join(folder, "a.wasm")), "variable x::deep s0 1024", "variable x::own own 1024", "variable x::row u8[9][9][9][9][9][9][9] 0"]
+    lines += ["variable x::\x1b[31mred u32 0", "struct own 4", "field own own 0", "field next own* 0"]
+    for depth in range(100_000):
+        lines += ["struct s%d 4" % depth, "field f %s 0" % ("s%d" % (depth + 1) if depth < 99_999 else "u32")]
+    with open(os.path.join(folder, "a.places"), "w") as file:
+        file.write("\n".join(lines) + "\n")
+    words = [sys.executable, os.path.join(TOOLS, "session"), "--program", program, "a.wasm", "a.log"]
+    typed = b"step 3\n" + b"".join(line + b"\np 1000000\n" for line in HOSTILE)
+    run = subprocess.run(words, cwd=folder, input=typed, stdout=subprocess.PIPE, stderr=subprocess.PIPE, timeout=600)
+    assert run.returncode == 1 and run.stderr == b"" and b"\x1b" not in run.stdout, (run.stderr, run.stdout[-3000:])
+    assert run.stdout.count(b"1000000\n") == len(HOSTILE), run.stdout
 
 
 def check_repeat(program):
@@ -150,8 +290,9 @@ def main():
     program = os.path.abspath(program_of(parser.parse_args().program))
     check_answers(program)
     check_repeat(program)
-    with tempfile.TemporaryDirectory() as folder:
-        check_kept(program, folder)
+    for check in (check_kept, check_habits, check_hostile):
+        with tempfile.TemporaryDirectory() as folder:
+            check(program, folder)
     with tempfile.TemporaryDirectory() as folder:
         check_given_up(folder)
     print("session: as expected")

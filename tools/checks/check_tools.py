@@ -38,6 +38,12 @@ def check_events():
     assert took and all(record["from"] in ("north", "south", "east") and bytes.fromhex(record["taken"]) for record in took)
     north = run("events.py", "list", "--brief", "--process", "north", "--call", "send", *LOGS).splitlines()
     assert north and all(" north " in line and "; sent to " in line for line in north)
+    several = run("events.py", "list", "--brief", "--call", "print,send", "--process", "north,south", *LOGS).splitlines()
+    assert {line.split()[4].rstrip(";") for line in several} == {"print", "send"} and not any(" east " in line.split("; ")[0] for line in several)
+    made = json.loads(run("events.py", "chrome", *LOGS))["traceEvents"]
+    assert [len([piece for piece in made if piece["ph"] == kind]) for kind in "XsfM"] == [125, len(took), len(took), 4], made
+    part = json.loads(run("events.py", "chrome", "--from", "31", "--to", "54", *LOGS))["traceEvents"]
+    assert [piece["ts"] for piece in part if piece["ph"] == "X"] == [10 * position for position in range(31, 55)]
     assert "invalid choice: 'snd'" in run("events.py", "list", "--call", "snd", *LOGS, wanted=2)
     assert "no log is of west" in run("events.py", "list", "--process", "west", *LOGS, wanted=1)
 
@@ -48,6 +54,21 @@ def check_picture():
     assert ">east<" not in part and ">north<" in part and "send to east 0200" in part and ">3: lock 1<" not in part
     assert "no call is named snd" in run("picture.py", "--hide", "snd", *PAIRS, wanted=2)
     assert "no log is of west" in run("picture.py", "--process", "west", *PAIRS, wanted=1)
+
+
+def check_told(program):
+    """Logs that do not go with their modules are told before a picture or a page is made; names of variables may be watched."""
+    other = os.path.join(EXAMPLES, "election", "election.wasm")
+    told = "election.wasm is not the module of this log, or was built anew: north diverges at its event 3, another call"
+    for tool in ("picture.py", "page.py"):
+        done = subprocess.run([os.path.join(TOOLS, tool), "--program", program, other, LOGS[0]], stdout=subprocess.PIPE, stderr=subprocess.PIPE, text=True, timeout=600)
+        assert done.returncode == 0 and done.stderr == told + "\n", done
+    run("page.py", "--program", program, *PAIRS, "--watch", "all=sum(@_.{balances[0]})", "one=north.balances[1]")
+    assert "bank.wasm has no variable nothing" in run("page.py", "--program", program, *PAIRS, "--watch", "x=north.nothing", wanted=1)
+    subprocess.run([program, "cut", "0", "25", *PAIRS], check=True, stdout=subprocess.DEVNULL)
+    cuts = [word if word.endswith(".wasm") else os.path.basename(word).replace(".log", ".cut") for word in PAIRS]
+    part = run("picture.py", "--program", program, *cuts)
+    assert 'class="cross"' not in part.split("the process ended")[1] and ">cut</text>" in part, part
 
 
 def check_schedules(program):
@@ -97,6 +118,7 @@ def main():
     check_picture()
     with tempfile.TemporaryDirectory() as folder:
         os.chdir(folder)
+        check_told(program)
         check_schedules(program)
         check_idle(program)
         os.chdir("/")

@@ -11,9 +11,9 @@ import dataclasses
 from asking.debugger import courses, threads_at
 from asking.report import replayed
 from logs.group import NotOneGroup, read_group
-from logs.traffic import Fate, traffic_of
+from logs.traffic import Fate, cut_processes, traffic_of
 
-FATES = {Fate.NOT_TAKEN: 0, Fate.NO_LOG: 1, Fate.LEFT_GROUP: 2}
+FATES = {Fate.NOT_TAKEN: 0, Fate.NO_LOG: 1, Fate.LEFT_GROUP: 2, Fate.CUT: 3}
 
 
 class Table:
@@ -33,7 +33,7 @@ def read_recording(program, pairs, watches):
     if set(results) != {log.name for log in logs}:
         raise NotOneGroup("the replay tells of other processes than the logs")
     logs = [dataclasses.replace(log, entries=log.entries[: results[log.name].accepted]) for log in logs]
-    traffic = traffic_of(logs)
+    traffic = traffic_of(logs, cut_processes(logs, pairs[1::2]))
     data, pieces = columns(logs, traffic.events)
     data["files"] = list(pairs[1::2])
     data["processes"] = processes(program, pairs, logs, results, traffic.events)

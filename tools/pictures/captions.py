@@ -30,6 +30,8 @@ class Captions:
             yield "taken at %s" % ", and again at ".join(str(taken.receive.position) for taken in takers)
         elif fate is Fate.NOT_TAKEN:
             yield "no event took it: it was lost, or still waits"
+        elif fate is Fate.CUT:
+            yield "no event that the cut kept took it: it was taken later, was lost, or still waits"
         elif fate is Fate.NO_LOG:
             yield "the log of its receiver is not given"
         elif fate is Fate.LEFT_GROUP:
@@ -75,6 +77,6 @@ def words(entry):
     if name == "random" and entry.reply >= 0:
         return [name, "%d bytes" % entry.reply]
     told = [name] + ([str(entry.arguments[0])] if name in FIRST_ARGUMENT else [])
-    if name in ("now", "me", "thread", "spawn") or (entry.call.result == "i" and entry.reply < 0):
+    if name in ("now", "sleep_until", "me", "thread", "spawn") or (entry.call.result == "i" and entry.reply < 0):
         told.append("= %d" % entry.reply)
     return told

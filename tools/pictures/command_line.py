@@ -4,12 +4,20 @@ import argparse
 import os
 import sys
 
+from logs.index import Index
+
 
 class OneLineParser(argparse.ArgumentParser):
     """Says what is wrong with the words in one line."""
 
     def error(self, message):
         self.exit(2, "%s: %s\n" % (self.prog, message))
+
+
+def warn(verdict):
+    """Tells what is wrong with logs that something is made of."""
+    for line in verdict.lines(lambda: Index(verdict.pairs[1::2], verdict.accepted)):
+        print(line, file=sys.stderr)
 
 
 def write(text):

@@ -1,7 +1,7 @@
 """The space-time picture of a group: a line down for each process, and an arrow from each send to its receive."""
 
 from logs.traffic import Fate, Origin
-from pictures.layout import LEFT, NAME_EVERY, ROW, Layout
+from pictures.layout import LEFT, LETTER, NAME_EVERY, ROW, Layout
 from pictures.legend import STYLE, heads, legend
 from pictures.svg import element, line, number, text, told
 
@@ -126,7 +126,9 @@ class Picture:
             kind += " refused"
         word = self.clipped(self.captions.word(event))
         signal = element("tspan", "signal %d" % event.entry.signal, kind="signal", dx=6) if event.entry.signal else ""
-        caption = text(word, x + 9, y + 3.5, "word").replace("</text>", signal + "</text>")
+        # An arrow goes on behind the words of its event.
+        behind = element("rect", x=number(x + 7), y=number(y - 5), width=number(LETTER * len(word) + 4), height=11, kind="behind") if word else ""
+        caption = behind + text(word, x + 9, y + 3.5, "word").replace("</text>", signal + "</text>")
         return told(self.captions.lines(event), element("circle", cx=number(x), cy=number(y), r=DOT, kind=kind), caption)
 
 
@@ -148,7 +150,7 @@ def shorter(start, end):
 
 def sent_nowhere(fate, start, end, lines):
     x, y = end
-    mark = {Fate.NOT_TAKEN: "x", Fate.NO_LOG: "?", Fate.LEFT_GROUP: "out"}[fate]
+    mark = {Fate.NOT_TAKEN: "x", Fate.NO_LOG: "?", Fate.LEFT_GROUP: "out", Fate.CUT: "cut"}[fate]
     kind = "stub lost" if fate is Fate.NOT_TAKEN else "stub"
     return told(lines, line(start, end, kind), mark_at(mark, x, y))
 

@@ -19,6 +19,7 @@ text { font-family: monospace; font-size: 10px; fill: #333333 }
 line.end { stroke: #222222; stroke-width: 3 }
 line.end.bad { stroke: #b3001b }
 text.bad { fill: #b3001b; font-weight: bold }
+.behind { fill: white }
 .dot { stroke: white; stroke-width: 1; fill: #8a8a8a }
 .dot.traffic { fill: #2f6fab }
 .dot.print, .dot.note { fill: #d99a00 }
@@ -68,6 +69,7 @@ SAMPLES = (
     (cross_sample, "no event took it: lost, or still waiting"),
     (mark_sample("in"), "taken from outside the group"),
     (mark_sample("out"), "sent out of the group"),
+    (mark_sample("cut"), "the cut kept no event that took it"),
     (mark_sample("?"), "the logs given lack its send, or its receiver"),
     (lambda x, y: dot_sample(x, y, "traffic"), "sent or took a datagram"),
     (lambda x, y: dot_sample(x, y, "print"), "print or note"),
@@ -82,6 +84,6 @@ SAMPLES = (
 def legend(title):
     parts = [text(title, 16, 24, "title")]
     for place, (sample, words) in enumerate(SAMPLES):
-        x, y = 16 + 400 * (place // 7), 44 + 15 * (place % 7)
+        x, y = 16 + 400 * (place // 8), 44 + 15 * (place % 8)
         parts += [sample(x, y), text(words, x + 54, y + 3, "said")]
     return "".join(parts)

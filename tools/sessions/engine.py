@@ -9,6 +9,7 @@ import time
 from dataclasses import dataclass
 
 from logs.index import Index
+from sessions.arithmetic import evaluate, has_own
 from sessions.debugger import Debugger
 from sessions.names import Names, Refusal
 from sessions.places import Threads
@@ -125,6 +126,16 @@ class Engine:
         """The number that an expression is here, or None."""
         answer = self.ask_each(["print " + expression])[0]
         return None if answer == "undef" or answer.startswith("?") else int(answer)
+
+    def number_of(self, text, node):
+        """The number of what was typed, with names of a process and C's operators on bits, or None."""
+        text = self.names.qualified(text, node)
+        return evaluate(text, self.known) if has_own(text) else self.known(text)
+
+    def known(self, text):
+        """The number of an expression that the debugger knows."""
+        answer = self.accepted("print " + text).lines[0]
+        return None if answer == "undef" else int(answer)
 
     def value(self, text):
         """The value of a text that is nothing but a variable's path, or None."""

@@ -2,15 +2,10 @@
 
 import os
 import re
-import sys
 
 from logs.format import BadLog, head_of, printable
-
-KIT = os.path.join(os.path.dirname(os.path.dirname(os.path.dirname(os.path.realpath(__file__)))), "guests")
-sys.path.append(KIT)
-
-from naming import NAME, REFERENCE, STEP, Script, end_of, place_of  # noqa: E402 (it lies in the kit's folder)
-from place_table import Refusal, read_table  # noqa: E402
+from naming import NAME, REFERENCE, STEP, Script, end_of, place_of
+from place_table import Refusal, read_table
 
 STRING = re.compile(r'"[^"]*"?')
 WORD = re.compile(r"[@$.]?\w+", re.ASCII)

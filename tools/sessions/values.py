@@ -250,24 +250,29 @@ def value_at(engine, place):
     return found
 
 
-def loads(place, most=MOST_WATCHED):
-    """The expressions of the numbers of a variable, each by its own; refused where these are too many to be watched."""
+def numbers_of(place, path, most=MOST_WATCHED):
+    """The paths of the numbers of a variable; refused where these are too many to be watched."""
     found = []
-    gather(place, found, most, 0)
+    gather(place, path, found, most, 0)
     return found
 
 
-def gather(place, found, most, depth):
+def gather(place, path, found, most, depth):
     struct, array = place.table.structs.get(place.type), array_of(place.type)
-    if struct or array:
-        count = len(struct.fields) if struct else array[1]
-        if count > most or depth > MOST_DEEP:
-            raise Refusal("it has more than %d numbers: watch a part of it" % most)
-        for at in range(count):
-            inner = copy.copy(place)
-            inner.enter(struct.fields[at].name) if struct else inner.index(str(at))
-            gather(inner, found, most, depth + 1)
-        return
-    found.append(place.load())
-    if len(found) > most:
+    if not struct and not array:
+        found.append(path)
+    elif depth > MOST_DEEP or (len(struct.fields) if struct else array[1]) + len(found) > most:
         raise Refusal("it has more than %d numbers: watch a part of it" % most)
+    elif struct:
+        for field in struct.fields:
+            gather(inner(place, lambda at: at.enter(field.name)), "%s.%s" % (path, field.name), found, most, depth + 1)
+    else:
+        for number in range(array[1]):
+            gather(inner(place, lambda at: at.index(str(number))), "%s[%d]" % (path, number), found, most, depth + 1)
+
+
+def inner(place, go):
+    """Another place, to which a step leads."""
+    made = copy.copy(place)
+    go(made)
+    return made

@@ -24,6 +24,7 @@ const FATES = [
   "no event took it: it was lost, or still waits",
   "the log of its receiver is not given",
   "the group has no such process",
+  "no event that the cut kept took it: it was taken later, was lost, or still waits",
 ];
 const BEGINNING = "the beginning";
 
