@@ -34,7 +34,7 @@ static int depth(int n) {
 LONG = "#include <stdio.h>\nint main(void) {\n    unsigned n = 1;\n    for (int i = 0; i < 3000000; i++)\n        n = n * 1664525 + (n >> i % 7);\n    printf(\"%u\\n\", n);\n}\n"
 TIME = "#include <stdio.h>\n#include <time.h>\n#include <unistd.h>\nint main(void) {\n    usleep(2500);\n    printf(\"%ld %d\\n\", (long)time(NULL), (int)getpid());\n    return 0;\n}\n"
 PART = "#include <assert.h>\n#include \"part.h\"\nstruct part { int first, second; };\nstatic struct part own = {1, 2};\nstruct part *part_of(int n) {\n    assert(n < 100 && FACTOR);\n    own.second += n * FACTOR;\n    return &own;\n}\n"
-WHOLE = "#include <stdio.h>\n#include \"part.h\"\nstruct part *kept;\nint own = 5;\nint main(void) {\n    kept = part_of(7);\n    printf(\"%s\\n\", __FILE__);\n    return 0;\n}\n"
+WHOLE = "#include <stdio.h>\n#include \"part.h\"\nstruct part *kept;\nint own = 5;\nint main(void) {\n    kept = part_of(7);\n    printf(\"%s %d\\n\", __FILE__, own);\n    return 0;\n}\n"
 MAKEFILE = """
 CFLAGS = -O1 -g -Wall -fPIC -pthread -DFACTOR=3 -I$(CURDIR)/lib
 whole: whole.o libpart.a
@@ -169,7 +169,7 @@ class Checks:
             modules.append((read(folder + "/whole"), read(folder + "/whole.wasm"), read(folder + "/whole.places")))
         assert modules[0] == modules[1] and os.getcwd().encode() not in b"".join(modules[0])
         ends = self.record(["one/whole", "one/whole.wasm"], ["run 0 0 9", "run 1 0 9"])
-        assert ends == ["exited 0"] * 2 and lines_of("p0") == ["whole.c"], (ends, lines_of("p0"))
+        assert ends == ["exited 0"] * 2 and lines_of("p0") == ["whole.c 5"], (ends, lines_of("p0"))
         named = self.named("@a.{kept->second}", "@a.{own}")
         assert re.fullmatch(r"@a\.i32\[@a\.u32\[\d+\]\+4\]\n@a\.i32\[\d+\]", named), named
         print("whole.c and lib/part.c: the same bytes from folder to folder, by build and by make")

@@ -20,10 +20,10 @@ BARE_WORDS = ["--target=wasm32", "-std=c11", "-ffreestanding", "-fno-builtin", *
 WARNINGS = ["-Wall", "-Wextra"]
 
 
-def run(words, folder=None):
-    """What a program prints; what it says on the way is shown."""
+def run(words, more=None):
+    """What a program prints, with more in its environment; what it says on the way is shown."""
     try:
-        done = subprocess.run(words, stdout=subprocess.PIPE, text=True, errors="replace", cwd=folder)
+        done = subprocess.run(words, stdout=subprocess.PIPE, text=True, errors="replace", env={**os.environ, **(more or {})})
     except FileNotFoundError:
         raise Refusal("there is no program %s: guests/install.sh installs it" % words[0]) from None
     if done.returncode != 0:

@@ -9,7 +9,7 @@ static ANSWERED: Shared<u32> = Shared::new(0);
 fn double(message: &mut [u8; 8]) {
     let number = i32::from_le_bytes([message[4], message[5], message[6], message[7]]);
     message[4..].copy_from_slice(&number.wrapping_mul(2).to_le_bytes());
-    ANSWERED.with(|count| *count += 1);
+    ANSWERED.with(|count| *count += 1).unwrap();
 }
 
 #[no_mangle]

@@ -46,7 +46,7 @@ pub extern "C" fn _start() {
         exit(1);
     }
     for round in 1..=ROUNDS {
-        STATE.with(|state| state.0 = round);
+        STATE.with(|state| state.0 = round).unwrap();
         ask();
         RETRY.set(TRIES);
         let answer = answer_of(round);

@@ -7,7 +7,7 @@ use liblog::*;
 static HEARD: Shared<i32> = Shared::new(0);
 
 extern "C" fn hear(signal: i32) {
-    HEARD.with(|heard| *heard = 10 * *heard + signal);
+    HEARD.with(|heard| *heard = 10 * *heard + signal).unwrap();
 }
 
 fn note_datagram(datagram: Option<Datagram>) {

@@ -93,5 +93,6 @@ pub extern "C" fn _start() {
         note(server.peer.name.as_bytes()[4] as i64); // FAR.name.data_ptr[4]
         note(NEAR.distance as i64); // places::NEAR.distance
         note(NEAR.ports.1 as i64); // NEAR.ports.1
-    });
+    })
+    .unwrap();
 }

@@ -22,7 +22,10 @@ impl<T> Shared<T> {
         }
     }
 
-    /// What `act` makes of the value, or None where it is being used: by this thread, or by one that `act` let run.
+    /// What `act` makes of the value. It is None, and `act` was not called, if the value is being used: by this thread further out,
+    /// or by another one that made a call within its own `act`. A guest in which that cannot be says `.unwrap()`, which traps if it
+    /// is wrong; values that are kept over calls are better behind a `Mutex`.
+    #[must_use = "it is None, and nothing was done, if the value is being used elsewhere"]
     pub fn with<R>(&self, act: impl FnOnce(&mut T) -> R) -> Option<R> {
         if self.is_taken.replace(true) {
             return None;
