@@ -8,6 +8,7 @@ pub mod RecorderSteps
 pub mod RecorderCounts
 pub mod FirstRecorder
 pub mod RecorderLoops
+pub mod LiveGroups
 pub mod SummaryLines
 pub mod RecordAnswer
 pub mod SharedLemmas

@@ -35,6 +35,7 @@ use Rattle.group_record.specs.declared.member.Member.{Member}
 use Rattle.group_record.specs.declared.recorder.Recorder.{Recorder}
 use Rattle.group_record.specs.Run.{GroupStart, RunProgress, RunStep, Had, Did, with_step, with_step_if, after_item, world_around, attempt, can_be_killed, done_by_item, entries_of_steps, entry_bytes, event_of_try, with_full_log, had_event, has_sent, head_of_log, history_of_steps, idled_item, log_of, is_running_process, processes_in_group, process_after, unless_log_full}
 use Rattle.group_record.specs.RunLaws.{after_had}
+use Rattle.group_record.specs.Live.{IsNoRun}
 use Rattle.group_record.specs.Logs.{logs_of_steps}
 use Rattle.group_record.specs.Files.{IsStoppedRecording, Between, InEntry, change}
 use Rattle.group_record.specs.inside.Around.{env_of}
@@ -66,15 +67,19 @@ live_now counting group done r p thread S keeps within =
 pub unless_none : (done next : RunProgress) → done.full ≡ None → unless_log_full done next ≡ next
 unless_none done next none = ap (λ o. cond (is_some o) done next) none
 
+-- the event of a try
+pub try_is : Counting → (group : GroupStart) (done : RunProgress) (r : Recorder) (p thread : ℕ) (S : State) → KeepsUpWithRun group done r → p < processes_in_group group → process_after group done.steps p ≡ Some S
+    → event_of_try group done.steps p thread ≡ live S thread (env_of r.world p)
+try_is counting group done r p thread S keeps within here =
+    ap (λ o. option_and_then (λ S. live S thread (world_around (processes_in_group group) done.steps p)) o) here
+    ∙ sym (live_now counting group done r p thread S keeps within)
+
 -- the result of a try
 pub attempt_is : Counting → (group : GroupStart) (done : RunProgress) (r : Recorder) (number p thread : ℕ) (S : State) → KeepsUpWithRun group done r → p < processes_in_group group → process_after group done.steps p ≡ Some S
     → attempt group number p thread done ≡ had_event group number p (live S thread (env_of r.world p)) done
 attempt_is counting group done r number p thread S keeps within here =
-    let found : event_of_try group done.steps p thread ≡ live S thread (env_of r.world p) =
-    ap (λ o. option_and_then (λ S. live S thread (world_around (processes_in_group group) done.steps p)) o) here
-    ∙ sym (live_now counting group done r p thread S keeps within) in
     unless_none done (had_event group number p (event_of_try group done.steps p thread) done) keeps.room
-    ∙ ap (λ o. had_event group number p o done) found
+    ∙ ap (λ o. had_event group number p o done) (try_is counting group done r p thread S keeps within here)
 
 -- ---- a try that is idle, or an item that is
 
@@ -153,7 +158,7 @@ other_member group steps p q e m apart k =
 spelled_here : (group : GroupStart) (steps : List RunStep) (p : ℕ) (m : Member) (entry : Entry) (e : Event) → IsMember group steps p m → entry ≡ e.entry → spelled_entry m entry ≡ spelled_next steps p e.entry
 spelled_here group steps p m entry e k same = ap (λ last. encoding Two last entry) k.last ∙ ap (λ x. spelled_next steps p x) same
 
-log_size : (group : GroupStart) (steps : List RunStep) (p : ℕ) (m : Member) (entry : Entry) (e : Event) → IsMember group steps p m → entry ≡ e.entry → m.size + length (spelled_entry m entry) ≡ length (log_of group (Had p e ∷ steps) p)
+pub log_size : (group : GroupStart) (steps : List RunStep) (p : ℕ) (m : Member) (entry : Entry) (e : Event) → IsMember group steps p m → entry ≡ e.entry → m.size + length (spelled_entry m entry) ≡ length (log_of group (Had p e ∷ steps) p)
 log_size group steps p m entry e k same =
     ap (λ n. n + length (spelled_entry m entry)) k.size ∙ ap (λ bytes. length (log_of group steps p) + length bytes) (spelled_here group steps p m entry e k same) ∙ sym (log_longer group steps p e)
 
@@ -215,10 +220,10 @@ try_idle counting group done before now old new number p thread m keeps files wi
     subst (λ d. RecorderComes group d (Ok tt) new (change before now)) (sym next) (idle_keeps group done old new keeps is, files)
 
 -- it has an event, for which the log has room or not
-room_test : (n limit : ℕ) → n ≤ limit → nat_le n limit ≡ true
+pub room_test : (n limit : ℕ) → n ≤ limit → nat_le n limit ≡ true
 room_test n limit fits = grind (arith, nat_tests)
 
-full_test : (n limit : ℕ) → limit < n → nat_le n limit ≡ false
+pub full_test : (n limit : ℕ) → limit < n → nat_le n limit ≡ false
 full_test n limit over = grind (arith, nat_tests)
 
 has_event : Counting → (group : GroupStart) (done : RunProgress) (old : Recorder) (number p thread : ℕ) (m : Member) (entry : Entry) → KeepsUpWithRun group done old → p < processes_in_group group
@@ -247,7 +252,7 @@ entry_written files_keep group done before now after old p m entry e keeps files
 pub memory_stops : (group : GroupStart) (done next : RunProgress) (r : Recorder) (before now : Option Folder) → LeadsTo done next → FilesOf group done before now → RecorderComes group next (Err errors.NoMemory) r (change before now)
 memory_stops group done next r before now leads files = Between done.steps leads.front files
 
-short_of : (many n : ℕ) → nat_le many n ≡ false → n < many
+pub short_of : (many n : ℕ) → nat_le many n ≡ false → n < many
 short_of many n is = grind (arith, nat_tests)
 
 -- all of the entry was written, or a part of it
@@ -295,11 +300,15 @@ try_event counting files_keep group done before now after old (Err errors.NoMemo
 
 -- ---- what a try may ask
 
-pub few_events : (group : GroupStart) (steps : List RunStep) (p : ℕ) (m : Member) → (k : IsMember group steps p m) → k.state.events < 2 ^ 61
-few_events group steps p m k =
+-- a log has room for its events
+pub events_within : (group : GroupStart) (steps : List RunStep) (p : ℕ) (m : Member) → (k : IsMember group steps p m) → k.state.events ≤ m.size
+events_within group steps p m k =
     let few : length (entries_of_steps steps p) ≤ length (encodings Two 0 (entries_of_steps steps p)) = entries_few Two 0 (entries_of_steps steps p) in
     let whole : length (log_of group steps p) ≡ length (head_bytes (head_of_log group p)) + length (encodings Two 0 (entries_of_steps steps p)) = length-append (head_bytes (head_of_log group p)) (encodings Two 0 (entries_of_steps steps p)) in
-    omega (arith, few, whole, k.events, k.size, k.room)
+    omega (arith, few, whole, k.events, k.size)
+
+pub few_events : (group : GroupStart) (steps : List RunStep) (p : ℕ) (m : Member) → (k : IsMember group steps p m) → k.state.events < 2 ^ 61
+few_events group steps p m k = omega (arith, events_within group steps p m k, k.room)
 
 -- the member at a place, which can keep an entry that tells an event
 pub can_keep : (group : GroupStart) (steps : List RunStep) (p thread : ℕ) (env : Env) (m : Member) (entry : Entry) → (k : IsMember group steps p m) → IsLiveEntry k.state thread env entry → CanKeepEntry m entry
@@ -362,7 +371,7 @@ some_there (x ∷ xs) zero within = (x, refl)
 some_there (x ∷ xs) (suc p) within = some_there xs p (omega (arith, within))
 
 -- whether a process can be killed
-kill_same : Counting → (group : GroupStart) (done : RunProgress) (r : Recorder) (p : ℕ) → KeepsUpWithRun group done r → p < processes_in_group group → is_not_killed r.members.items r.world p ≡ can_be_killed group done.steps p
+pub kill_same : Counting → (group : GroupStart) (done : RunProgress) (r : Recorder) (p : ℕ) → KeepsUpWithRun group done r → p < processes_in_group group → is_not_killed r.members.items r.world p ≡ can_be_killed group done.steps p
 kill_same counting group done r p keeps within =
     let m = some_there r.members.items p (omega (arith, within, keeps.count)) in
     let k = keeps.members p m.0 m.1 in
@@ -384,13 +393,8 @@ delivery_is : Counting → (group : GroupStart) (done : RunProgress) (old new : 
 delivery_is counting group done old new p n true keeps within found is = delivers counting group done old new p n keeps within found is
 delivery_is counting group done old new p n false keeps within found is = delivers_none counting group done old new p n keeps within found is
 
--- an item that is not `run`
-abbrev pub IsOther : Item → Type 0
-IsOther (item.Run p thread times) = ⊥
-IsOther _ = Unit {0}
-
--- it counts as one
-pub is_other : (i : Item) → ((p thread times : ℕ) → i ≡ item.Run p thread times → ⊥) → IsOther i × (counted_tries_of i ≡ 1)
+-- an item that is not `run` counts as one
+pub is_other : (i : Item) → ((p thread times : ℕ) → i ≡ item.Run p thread times → ⊥) → IsNoRun i × (counted_tries_of i ≡ 1)
 is_other (item.Run p thread times) h = absurd (h p thread times refl)
 is_other (item.Deliver p n) h = (tt, refl)
 is_other (item.Inject p bytes) h = (tt, refl)
@@ -399,11 +403,11 @@ is_other (item.Random p bytes) h = (tt, refl)
 is_other (item.Signal p s) h = (tt, refl)
 is_other (item.Kill p) h = (tt, refl)
 
-around_too : Counting → (group : GroupStart) (done : RunProgress) (r : Recorder) (p : ℕ) → KeepsUpWithRun group done r → p < length r.members.items → p < length r.world.net
+pub around_too : Counting → (group : GroupStart) (done : RunProgress) (r : Recorder) (p : ℕ) → KeepsUpWithRun group done r → p < length r.members.items → p < length r.world.net
 around_too counting group done r p keeps within = omega (arith, within, keeps.count, world_size counting group done r keeps)
 
 -- what comes of such an item
-pub item_keeps : Counting → (group : GroupStart) (done : RunProgress) (old new : Recorder) (number : ℕ) (i : Item) → KeepsUpWithRun group done old → IsInRange (length old.members.items) i → IsOther i
+pub item_keeps : Counting → (group : GroupStart) (done : RunProgress) (old new : Recorder) (number : ℕ) (i : Item) → KeepsUpWithRun group done old → IsInRange (length old.members.items) i → IsNoRun i
     → new ≡ recorder_acted_on (item_acts old.members.items old.world i) (after_act old.members.items old.world i) old → KeepsUpWithRun group (done_by_item group number i done) new
 item_keeps counting group done old new number (item.Run p thread times) keeps fits other is = absurd other
 item_keeps counting group done old new number (item.Deliver p n) keeps fits other is =
@@ -438,7 +442,7 @@ acted_logs group done acts (world.Signal p s) item = same_logs group done acts (
 acted_logs group done true (world.Kill p) item = refl
 acted_logs group done false (world.Kill p) item = refl
 
-does_logs : (group : GroupStart) (number : ℕ) (i : Item) (done : RunProgress) → IsOther i → logs_of_steps group (done_by_item group number i done).steps ≡ logs_of_steps group done.steps
+does_logs : (group : GroupStart) (number : ℕ) (i : Item) (done : RunProgress) → IsNoRun i → logs_of_steps group (done_by_item group number i done).steps ≡ logs_of_steps group done.steps
 does_logs group number (item.Run p thread times) done other = absurd other
 does_logs group number (item.Deliver p n) done other = acted_logs group done (has_sent (processes_in_group group) done.steps p n) (world.Deliver p n) tt
 does_logs group number (item.Inject p bytes) done other = refl
@@ -448,7 +452,7 @@ does_logs group number (item.Signal p s) done other = refl
 does_logs group number (item.Kill p) done other = acted_logs group done (can_be_killed group done.steps p) (world.Kill p) tt
 
 pub item_comes : Counting → (group : GroupStart) (done : RunProgress) (before now : Option Folder) (old new : Recorder) (number : ℕ) (i : Item) → KeepsUpWithRun group done old → FilesOf group done before now
-    → IsInRange (length old.members.items) i → IsOther i → new ≡ recorder_acted_on (item_acts old.members.items old.world i) (after_act old.members.items old.world i) old
+    → IsInRange (length old.members.items) i → IsNoRun i → new ≡ recorder_acted_on (item_acts old.members.items old.world i) (after_act old.members.items old.world i) old
     → RecorderComes group (after_item group number i done) (Ok tt) new (change before now)
 item_comes counting group done before now old new number i keeps files fits other is =
     subst (λ d. RecorderComes group d (Ok tt) new (change before now)) (sym (unless_none done (done_by_item group number i done) keeps.room)) (

@@ -4,6 +4,7 @@ pub mod Logs
 pub mod Images
 pub mod Files
 pub mod Answer
+pub mod Live
 pub mod Laws
 pub mod Standing
 pub mod RunLaws

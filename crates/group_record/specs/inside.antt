@@ -2,4 +2,5 @@
 pub mod Around
 pub mod Begun
 pub mod Members
+pub mod Parts
 pub mod Recorded

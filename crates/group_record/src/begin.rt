@@ -38,8 +38,8 @@ pub(crate) fn begin<'m, F: Files>(
     Ok(recorder)
 }
 
-// Begins all processes, in their order.
-fn begin_members<'m>(
+/// Begins all processes, in their order.
+pub(crate) fn begin_members<'m>(
     alloc: Global,
     lines: &[ProcessLine],
     modules: &'m [SharedModule],

@@ -1,5 +1,5 @@
 // The items of a schedule that make no event.
-ghost use Rattle.std.specs.Prelude.{◌≡◌, ◌<◌, ◌&&◌, not, IfOk, OnOk, length, if◌then◌else◌};
+ghost use Rattle.std.specs.Prelude.{◌≡◌, ◌<◌, ◌≤◌, ◌&&◌, not, IfOk, OnOk, length, if◌then◌else◌};
 ghost use Rattle.schedule_text.specs.Schedule.{IsInRange};
 ghost use Rattle.group_world.specs.History.{Kill};
 ghost use Rattle.group_world.specs.World.{process_count, surroundings_of, with_act};
@@ -18,10 +18,11 @@ pub(crate) fn act(
     members: &[Member<'_>],
     world: &mut World,
 ) -> Result<bool, AllocError>
-    requires around { process_count world.old ≡ length members.now }
+    requires around { length members.now ≤ process_count world.old }
     requires in_range { IsInRange (length members.now) item.now }
     ensures acts { IfOk result (λ acted. acted ≡ item_acts members.now world.old item.now) }
     ensures world { OnOk result (world.new ≡ after_act members.now world.old item.now) }
+    ensures size { process_count world.new ≡ process_count world.old }
 {
     match item {
         Item::Run { .. } => Ok(false),
@@ -52,6 +53,7 @@ fn kill(p: u32, members: &[Member<'_>], world: &mut World) -> bool
     requires process { p < length members.now }
     ensures acts { result ≡ is_not_killed members.now world.old p }
     ensures world { world.new ≡ (if is_not_killed members.now world.old p then with_act world.old (Kill p) else world.old) }
+    ensures size { process_count world.new ≡ process_count world.old }
 {
     if runs(&members[p as usize]) && !world.is_killed(p) {
         world.kill(p);

@@ -1,5 +1,6 @@
 // What holds of each recording, as calls that do nothing.
 ghost use Rattle.group_record.specs.Laws.{Agreement, Beginning, CutAgreement, Delivery, TakesDrawn, TakesWaiting};
+ghost use Rattle.group_record.specs.Live.{LiveStates, LiveSummary};
 ghost use Rattle.group_record.specs.Standing.{Standing};
 
 /// A group of a schedule and valid modules, whose processes have begun, is one that the two laws are about.
@@ -58,3 +59,10 @@ pub fn taking()
     guest_process::laws::rises();
     guest_process::laws::counting();
 }
+
+/// A group that goes on try by try has the processes of the run that it is at, in their states, and these tell what is
+/// said of each process.
+pub fn live_groups()
+    ensures states { LiveStates }
+    ensures summary { LiveSummary }
+{}

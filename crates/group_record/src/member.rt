@@ -1,5 +1,5 @@
 // A process of a group that is recorded, and the file of its log.
-ghost use Rattle.std.specs.Prelude.{◌≡◌, ◌+◌, ◌<◌, ◌≤◌, length, option_map, IfOk, OnOk, IsTrue};
+ghost use Rattle.std.specs.Prelude.{◌≡◌, ◌+◌, ◌<◌, ◌≤◌, nat_le, length, option_map, IfOk, OnOk, IsTrue};
 ghost use Rattle.lamport_tag.specs.Limits.{most_processes};
 ghost use Rattle.call_log.specs.Head.{head_bytes};
 ghost use Rattle.call_log.specs.Limits.{most_log};
@@ -11,7 +11,7 @@ ghost use Rattle.guest_process.specs.Next.{next};
 ghost use Rattle.guest_process.specs.Start.{start as start_of};
 ghost use Rattle.wasm_types.specs.Modules.{module_of};
 ghost use Rattle.group_record.specs.Answer.{after_writes};
-ghost use Rattle.group_record.specs.inside.Members.{CanKeepEntry, StartsMember, WritesToLog, member_after, spelled_entry};
+ghost use Rattle.group_record.specs.inside.Members.{CanKeepEntry, LogHasRoom, StartsMember, WritesToLog, member_after, spelled_entry};
 ghost use Rattle.group_record.specs.Files.{change};
 
 use crate::error::RecordError;
@@ -81,32 +81,57 @@ impl<'m> Member<'m> {
         ensures ok { OnOk result (self.new ≡ member_after self.old (entry_of entry.now)) }
         ensures counted { F.counts files.new ≡ after_writes (F.counts files.old) result }
     {
-        bytes.clear();
-        put_entry(bytes, Version::Two, self.last, entry)?;
+        self.spell(entry, bytes)?;
         self.write(number, bytes, files)?;
-        self.last = entry.clock;
-        self.advance(entry)?;
+        self.make_event(entry, bytes.len())?;
         Ok(())
     }
 
+    /// Spells the entry of the next event.
+    pub(crate) fn spell(&self, entry: &EntryView<'_>, bytes: &mut Vec<u8>) -> Result<(), AllocError>
+        requires { IsShaped (entry_of entry.now) }
+        ensures { OnOk result (bytes.new.items ≡ spelled_entry self.now (entry_of entry.now)) }
+    {
+        bytes.clear();
+        put_entry(bytes, Version::Two, self.last, entry)
+    }
+
+    /// Whether the log has room for these bytes.
+    pub(crate) fn has_room(&self, bytes: &[u8]) -> bool
+        requires { self.now.size ≤ most_log }
+        ensures { result ≡ nat_le (self.now.size + length bytes.now) most_log }
+    {
+        bytes.len() <= MOST_LOG - self.size
+    }
+
     // Writes bytes at the end of the log, where it has room.
-    fn write<F: Files>(
-        &mut self,
-        number: u64,
-        bytes: &[u8],
-        files: &mut F,
-    ) -> Result<(), RecordError>
-        requires { self.old.size ≤ most_log }
-        ensures writes { WritesToLog self.old number bytes.now result (change (F.told files.old) (F.told files.new)) }
-        ensures ok { OnOk result (self.new ≡ record self.old { size = self.old.size + length bytes.now }) }
+    #[tactic(auto, using(std::proofs::lemmas::Bool::Decides::nat_tests))]
+    fn write<F: Files>(&self, number: u64, bytes: &[u8], files: &mut F) -> Result<(), RecordError>
+        requires { self.now.size ≤ most_log }
+        ensures writes { WritesToLog self.now number bytes.now result (change (F.told files.old) (F.told files.new)) }
         ensures counted { F.counts files.new ≡ after_writes (F.counts files.old) result }
     {
-        if bytes.len() > MOST_LOG - self.size {
+        if !self.has_room(bytes) {
             return Err(RecordError::LogFull(number));
         }
         files.append(&self.log, bytes)?;
-        self.size += bytes.len();
         Ok(())
+    }
+
+    /// Makes the event of an entry that was spelled in so many bytes.
+    pub(crate) fn make_event(
+        &mut self,
+        entry: &EntryView<'_>,
+        size: usize,
+    ) -> Result<(), AllocError>
+        requires event { CanKeepEntry self.old (entry_of entry.now) }
+        requires size { size ≡ length (spelled_entry self.old (entry_of entry.now)) }
+        requires room { LogHasRoom self.old (spelled_entry self.old (entry_of entry.now)) }
+        ensures { OnOk result (self.new ≡ member_after self.old (entry_of entry.now)) }
+    {
+        self.size += size;
+        self.last = entry.clock;
+        self.advance(entry)
     }
 
     // Makes the event of a legal entry.

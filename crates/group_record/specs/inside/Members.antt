@@ -14,6 +14,7 @@ use Rattle.group_record.specs.declared.error.RecordError.TheVariants as errors
 use Rattle.group_record.specs.declared.member.Member.{Member}
 use Rattle.group_record.specs.Files.{FolderChange}
 use Rattle.group_record.specs.Logs.{log_name}
+use Rattle.group_record.specs.Live.{LiveMember}
 
 -- a member that has begun in this state as process p of a group of `count` and has had no event
 pub record IsFreshMember (state : State) (name : List ℕ) (p count : ℕ) (m : Member) : Type 0 where
@@ -65,3 +66,7 @@ WritesToLog m number bytes (Err (errors.LogFull item)) folder = (item ≡ number
 WritesToLog m number bytes (Err errors.WriteFault) folder = LogHasRoom m bytes × IsAppendedInPart (string_bytes m.log) bytes folder.before folder.after
 WritesToLog m number bytes (Err errors.NoMemory) folder =
     (folder.after ≡ folder.before) ⊎ (LogHasRoom m bytes × (folder.after ≡ with_piece_in_folder (string_bytes m.log) bytes folder.before))
+
+-- a member as contracts see it
+abbrev pub live_member : Member → LiveMember
+live_member m = record { log = string_bytes m.log; size = m.size; last = m.last; process = m.process }

@@ -1,13 +1,11 @@
 -- What a recorder has done so far, and what it says of what it does next.
-use Rattle.std.specs.Prelude.{◌≡◌, ◌≢◌, ℕ, ◌+◌, ◌++◌, ◌<◌, ◌≤◌, ◌^◌, [], ⊤, Bool, true, false, ◌&&◌, not, is_some, option_and_then, if◌then◌else◌, IsTrue, All, AllPairs, List, length, map, Option, Some, None, Result, Ok, Err, slice_get, slice_set, string_bytes}
+use Rattle.std.specs.Prelude.{◌≡◌, ◌≢◌, ℕ, ◌+◌, ◌++◌, ◌<◌, ◌≤◌, ◌^◌, [], ⊤, Bool, true, false, ◌&&◌, not, is_some, option_and_then, if◌then◌else◌, IsTrue, AllPairs, List, length, map, Option, Some, None, Result, Ok, Err, slice_get, slice_set}
 use Rattle.std.specs.List.{slice_index_or}
 use Rattle.fri_outside.specs.Outside.{Folder}
 use Rattle.fri_outside.specs.Several.{with_files}
 use Rattle.lib_calls.specs.declared.entry.Entry.{Entry}
 use Rattle.lib_calls.specs.Traffic.{drawn, is_taken, printed, prints}
 use Rattle.lib_calls.specs.Entry.{IsShaped}
-use Rattle.call_log.specs.Entry.{clock_after}
-use Rattle.call_log.specs.Limits.{most_log}
 use Rattle.schedule_text.specs.declared.process.ProcessLine.{ProcessLine}
 use Rattle.guest_process.specs.Live.{Env, Event, live}
 use Rattle.guest_process.specs.OneEvent.{AgreesWithEvent as IsTold}
@@ -25,12 +23,13 @@ use Rattle.group_record.specs.declared.member.Member.{Member}
 use Rattle.group_record.specs.declared.recorder.Recorder.{Recorder}
 use Rattle.group_record.specs.declared.summary.Summary.{Summary}
 use Rattle.group_record.specs.declared.summary.SummaryLine.{SummaryLine}
-use Rattle.group_record.specs.Run.{GroupStart, RunProgress, RunStep, entries_of_steps, history_of_steps, is_running_process, log_of, name_of_process, process_after, processes_in_group}
-use Rattle.group_record.specs.Logs.{log_name, logs_of_steps}
+use Rattle.group_record.specs.Run.{GroupStart, RunProgress, RunStep, entries_of_steps, history_of_steps, is_running_process, processes_in_group}
+use Rattle.group_record.specs.Logs.{logs_of_steps}
 use Rattle.group_record.specs.Files.{FolderChange, IsStoppedRecording, change}
 use Rattle.group_record.specs.Images.{images_of}
 use Rattle.process_files.specs.Parts.{AreMadeInPart}
-use Rattle.group_record.specs.inside.Members.{member_after}
+use Rattle.group_record.specs.Live.{IsMemberAfter}
+use Rattle.group_record.specs.inside.Members.{live_member, member_after}
 use Rattle.group_record.specs.Answer.{IsSummary}
 
 -- ---- the counts
@@ -113,17 +112,8 @@ recorder_acted_on false w r = record r { world = w; idle = r.idle + 1 }
 -- ---- how far a recorder has come
 
 -- a member is process p of the group after these steps
-pub record IsMember (group : GroupStart) (steps : List RunStep) (p : ℕ) (m : Member) : Type 0 where
-  pub state : State
-  pub process : m.process ≡ Some state
-  pub after : process_after group steps p ≡ Some state
-  pub events : state.events ≡ length (entries_of_steps steps p)
-  pub count : state.count ≡ processes_in_group group
-  pub log : string_bytes m.log ≡ log_name (name_of_process group p)
-  pub size : m.size ≡ length (log_of group steps p)
-  pub room : m.size ≤ most_log
-  pub last : m.last ≡ clock_after 0 (entries_of_steps steps p)
-  pub logged : All IsShaped (entries_of_steps steps p)
+abbrev pub IsMember : GroupStart → List RunStep → ℕ → Member → Type 0
+IsMember group steps p m = IsMemberAfter group steps p (live_member m)
 
 -- a recorder has come as far as this. Where it keeps what a process prints, it has all of that
 pub record KeepsUpWithRun (group : GroupStart) (done : RunProgress) (recorder : Recorder) : Type 0 where

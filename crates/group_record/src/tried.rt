@@ -1,0 +1,13 @@
+// What comes of a try.
+use lib_calls::Entry;
+
+/// What a try of a thread gave.
+#[derive(Debug, Drop)]
+pub enum Tried {
+    /// Nothing: the thread waits, or is none that runs.
+    Idle,
+    /// The event of this entry.
+    Had(Entry),
+    /// An event for which the process's log would have no room. It was not made.
+    Full,
+}
