@@ -121,7 +121,11 @@ pub struct Inputs {
 }
 
 /// Reads what a recording needs. No file has changed.
-pub fn gather<F: Files>(alloc: Global, schedule_file: &str, files: &mut F) -> Result<Inputs, StopCause>
+pub fn gather<F: Files>(
+    alloc: Global,
+    schedule_file: &str,
+    files: &mut F,
+) -> Result<Inputs, StopCause>
     ensures answer { WhenTold (F.told files.old) (λ folder. GathersInputs folder schedule_file.now result) }
     ensures count { IfOk result (λ inputs. length inputs.modules.items ≡ length inputs.schedule.processes) }
     ensures same { F.told files.new ≡ F.told files.old }

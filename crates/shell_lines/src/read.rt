@@ -15,12 +15,7 @@ use std::alloc::Global;
 use watch_expr::{Expr, ExprError, Tokens, find_name, is_word, parse};
 
 /// The number that token n is, from the least to the most.
-pub fn read_number(
-    tokens: &Tokens<'_>,
-    n: usize,
-    least: u64,
-    most: u64,
-) -> Result<u64, ExprError>
+pub fn read_number(tokens: &Tokens<'_>, n: usize, least: u64, most: u64) -> Result<u64, ExprError>
     ensures { ReadsAs (λ v. v) tokens.now (token_at (number_from least most) (token_texts tokens.now) n) result }
 {
     match tokens.number(n) {
@@ -46,11 +41,7 @@ pub(crate) fn read_count(
 }
 
 /// The node that token n names, if it is a word.
-pub fn read_node(
-    tokens: &Tokens<'_>,
-    n: usize,
-    names: &[Bytes],
-) -> Result<Option<u32>, ExprError>
+pub fn read_node(tokens: &Tokens<'_>, n: usize, names: &[Bytes]) -> Result<Option<u32>, ExprError>
     requires { length names.now < 2 ^ 32 }
     ensures { ReadsAs (λ v. v) tokens.now (token_at (node_named names.now) (token_texts tokens.now) n) result }
 {
