@@ -6,13 +6,13 @@ from __future__ import annotations
 
 import os
 import shutil
-import signal
 import subprocess
 import sys
 
 from commands import COMMANDS, OWN
 from ended import hint
 from help_texts import page, page_of
+from parents import end_by_signals
 from proving import prove_all
 from saying import printed, say
 from sources import HERE, IN_CLONE, PROVED, checksum, folder_to_keep_in, is_proved, kept_without_proofs
@@ -98,12 +98,9 @@ def main(words):
 
 
 if __name__ == "__main__":
-    signal.signal(signal.SIGTERM, lambda number, _: sys.exit(128 + number))
+    end_by_signals(lambda: say("stopped; what was proved is kept, and ./friday --prove goes on there") if sys.argv[1:] == ["--prove"] else None)
     try:
         sys.exit(main(sys.argv[1:]))
-    except KeyboardInterrupt:
-        say("stopped; what was proved is kept, and ./friday --prove goes on there")
-        sys.exit(130)
     except OSError as error:
         say("%s: %s" % (error.filename or "out/", error.strerror))
         sys.exit(8)

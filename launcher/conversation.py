@@ -18,7 +18,7 @@ import subprocess
 import sys
 
 from again import Again
-from parents import end_with_parent
+from parents import end_by_signals, end_with_parent
 from saying import say
 from shell_lines import MOST_LINE, MOST_OPEN, MOST_TOKENS, TOKEN, nodes_in, why_syntax
 from words import names_of
@@ -215,11 +215,10 @@ def too_many(line):
 
 
 def main():
-    # A stop of the launcher ends the program too, and nothing is said of it.
     end_with_parent(signal.SIGTERM)
     if os.fstat(0).st_size > MOST_FILE:
         os.execv(sys.argv[1], sys.argv[1:])
-    signal.signal(signal.SIGTERM, lambda number, _: sys.exit(128 + number))
+    end_by_signals()
     call = Conversation(sys.argv[1], sys.argv[2:])
     try:
         return call.status()

@@ -136,7 +136,7 @@ _friday "$@"
 
 
 def bash(has_launcher=True):
-    cases = ["    help) words='%s' ;;" % " ".join(COMMANDS)] if has_launcher else []
+    cases = ["    help) mapfile -t COMPREPLY < <(compgen -W '%s' -- \"$word\") ;;" % " ".join(COMMANDS)] if has_launcher else []
     for command in COMMANDS.values():
         ending = files_wanted(command)
         files = "*.@(%s)" % ending if ending else "*" if "SCHEDULE" in command.wanted else ""

@@ -9,7 +9,7 @@ import signal
 import sys
 
 from ended import hint
-from parents import end_with_parent
+from parents import end_by_signals, end_with_parent
 from saying import printed, say
 from sources import found
 from unproved import build, run_once
@@ -39,12 +39,9 @@ def prepare(words):
 
 if __name__ == "__main__":
     end_with_parent(signal.SIGTERM)
-    signal.signal(signal.SIGTERM, lambda number, _: sys.exit(128 + number))
+    end_by_signals()
     try:
         sys.exit(prepare(sys.argv[1:]))
     except OSError as error:
         say("%s: %s; no program was built" % (error.filename, error.strerror))
         sys.exit(NO_PROGRAM)
-    except KeyboardInterrupt:
-        say("stopped; no program was built")
-        sys.exit(130)

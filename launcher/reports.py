@@ -15,7 +15,7 @@ import sys
 from commands import COMMANDS, files_of
 from heads import head_of
 from looking import is_file
-from parents import end_with_parent
+from parents import end_by_signals, end_with_parent
 from saying import say
 
 # So much of the text is kept: 16 lines of processes are less.
@@ -57,7 +57,7 @@ def are_all_given(words):
 def passed_on(words):
     """The status of the call, whose output is passed on, and the last of its text."""
     run = subprocess.Popen(words, stdout=subprocess.PIPE, bufsize=0, preexec_fn=end_with_parent)
-    signal.signal(signal.SIGTERM, lambda number, _: (run.terminate(), sys.exit(128 + number)))
+    end_by_signals(run.terminate)
     kept = b""
     while True:
         piece = os.read(run.stdout.fileno(), MOST_KEPT)

@@ -6,7 +6,7 @@ _friday() {
         return
     fi
     case ${COMP_WORDS[1]} in
-    help) words='record replay debug schedule cut streams migrate drill' ;;
+    help) mapfile -t COMPREPLY < <(compgen -W 'record replay debug schedule cut streams migrate drill' -- "$word") ;;
     record) words='--images --help' files='*' ;;
     replay) words='--images --help' files='*.@(wasm|log|cut)' ;;
     debug) words='--help' files='*.@(wasm|log|cut)' ;;
