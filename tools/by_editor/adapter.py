@@ -119,6 +119,7 @@ class Adapter:
         self.breakpoints.begin()
         for line in engine.warnings():
             self.tell(line, "important")
+        self.tell("%d events of %s" % (engine.last, ", ".join(engine.names.nodes)))
 
     def on_configurationDone(self, **_):
         self.after = [self.moves.enter]

@@ -147,8 +147,7 @@ HABITS = (
     ("set var x = 3", r"\? no memory is ever written"),
     ("delete", "deleted 4"),
     ("delete 9", r"\? 6 no such point"),
-    ("b east recv", "point 5"),
-    ("", ""),
+    ("b east recv\n", "point 5\n$"),
     ("l", "5 break east recv\n$"),
 )
 

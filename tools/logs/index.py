@@ -127,7 +127,7 @@ class Index:
             name = read_head(Cursor(bytes_of(path)), path).name
             self.parts.append(LogIndex(path, accepted.get(name) if accepted else None))
         self.parts.sort(key=lambda part: part.log.process)
-        self.logs = [part.log for part in self.parts]
+        self.logs, self.taken = [part.log for part in self.parts], {}
         self.names = {log.process: log.name for log in self.logs}
         keys = sorted(clock << PROCESS_BITS | at for at, part in enumerate(self.parts) for clock in part.clocks)
         self.sources = bytearray(key & 15 for key in keys)
@@ -197,20 +197,24 @@ class Index:
         entry = part.entry(at + 1)
         return self.of_process[part.log.name][at] if is_send(entry) and entry.arguments[0] == receiver else None
 
-    @functools.cached_property
-    def takers(self):
-        """Of each pair of a sender and a clock that a tag names, the positions of the events that took such a datagram."""
-        found = {}
-        for part in self.parts:
-            positions = self.of_process[part.log.name]
+    def takers_in(self, part):
+        """Of each pair of a sender and a clock that tags name, the positions of the events of a process that took it."""
+        if part.log.name not in self.taken:
+            found, positions, data = {}, self.of_process[part.log.name], part.data
             for at, kind in enumerate(part.kinds):
-                tag = part.tag(at + 1) if kind in RECEIVES else None
-                if tag:
-                    found.setdefault(tag, []).append(positions[at])
-        return {tag: sorted(positions) for tag, positions in found.items()}
+                if kind in RECEIVES and (part.log.version == 1 or data[part.starts[at + 1] - 1]):
+                    tag = part.tag(at + 1)
+                    if tag:
+                        found.setdefault(tag, []).append(positions[at])
+            self.taken[part.log.name] = found
+        return self.taken[part.log.name]
+
+    def tags(self):
+        """Each tag that an event took, and the position of the event, in the order of the processes."""
+        return ((tag, position) for part in self.parts for tag, positions in self.takers_in(part).items() for position in positions)
 
     def taken_at(self, event):
         """The positions at which what an event sent was taken, in their order."""
-        receiver = self.names.get(event.entry.arguments[0]) if is_send(event.entry) else None
-        taken = self.takers.get((event.log.process, event.entry.clock), ()) if receiver else ()
-        return [position for position in taken if self.logs[self.sources[position - 1]].name == receiver]
+        receiver = event.entry.arguments[0] if is_send(event.entry) else None
+        part = next((part for part in self.parts if part.log.process == receiver), None)
+        return self.takers_in(part).get((event.log.process, event.entry.clock), []) if part else []

@@ -57,9 +57,8 @@ class Verdict:
     def foreign(self, index):
         """The first receive of which the logs have the sender's, and no such send."""
         missing = [
-            (position, sender, clock)
-            for (sender, clock), positions in index.takers.items() if sender in index.names
-            for position in positions if index.sent_at((sender, clock), index.event(position).log.process) is None
+            (position, *tag) for tag, position in index.tags()
+            if tag[0] in index.names and index.sent_at(tag, index.event(position).log.process) is None
         ]
         if not missing:
             return []
