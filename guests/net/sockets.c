@@ -223,7 +223,7 @@ int connect(int file, const struct sockaddr *address, socklen_t length) {
     return 0;
 }
 
-// There are no streams: see "TCP" in docs/guests.md.
+// There are no streams.
 int listen(int file, int backlog) {
     (void)backlog;
     if (socket_of(file) != NULL)

@@ -6,6 +6,7 @@ use std::rc::Rc;
 
 use liblog::{tell_panics, Output, Shared};
 
+#[used]
 static SERVED: Shared<u32> = Shared::new(0);
 
 #[no_mangle]
