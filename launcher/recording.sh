@@ -52,6 +52,7 @@ before_recording() {
     sum=$(sum_of_inputs)
     lock_folder || return
     tell_logs
+    return 0
 }
 
 # The lock is on the folder, and goes with this shell and the program.
