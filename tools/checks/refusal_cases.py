@@ -93,9 +93,8 @@ MODULES = (
     refused("a large memory", module(memory=b"\0" + count(320))),
     refused("no _start", module(start="main")),
     refused("too large", module() + section(0, named("padding") + bytes(4_194_304))),
-    refused("data past its memory", module(data=b"\xfa\xff\x03\x0b" + vector([bytes([byte]) for byte in range(10)])),
-            less="check-module does not look at segments, so it is not told which one and how far"),
-    refused("an addition without operands", module(body=b"\x6a\x1a"), less="check-module does not judge types, so neither function nor place is told"),
+    refused("data past its memory", module(data=b"\xfa\xff\x03\x0b" + vector([bytes([byte]) for byte in range(10)]))),
+    refused("an addition without operands", module(body=b"\x6a\x1a")),
 )
 
 
