@@ -4,5 +4,7 @@ pub mod Talker
 pub mod Outcome
 pub mod Input
 pub mod Conversing
+pub mod Opening
+pub mod OpeningLaws
 pub mod Laws
 pub mod inside

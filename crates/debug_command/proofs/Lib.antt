@@ -1,3 +1,2 @@
-pub mod DebugOutcome
 pub mod OutcomeIsWork
 pub mod ShellAnswers

@@ -1,11 +1,12 @@
 -- The outcome of `debug`.
-use Rattle.std.specs.Prelude.{ℕ, List, codes, Option, Some, option_map, Result, Ok, Err}
+use Rattle.std.specs.Prelude.{ℕ, List, codes, Option}
 use Rattle.fri_outside.specs.Outside.{Folder}
 use Rattle.proc_replay.specs.Replaying.{Replaying}
 use Rattle.friday_shell.specs.Answer.{answer}
 use Rattle.friday_shell.specs.Points.{SessionState}
 use Rattle.friday_shell.specs.Session.{opening_session}
-use Rattle.command_run.specs.Outcome.{CommandOutcome, CommandStop}
+use Rattle.command_run.specs.Outcome.{CommandOutcome}
+use Rattle.conversation.specs.Opening.{Opener, opened_outcome}
 use Rattle.conversation.specs.Outcome.{conversation_outcome}
 use Rattle.conversation.specs.Talker.{Answered, Talker, talker_of}
 use Rattle.log_pairs.specs.Pairs.{Pair, replays_of_pairs}
@@ -22,10 +23,9 @@ shell_talker start = talker_of (codes "at 0\n") (opening_session start) shell_an
 abbrev pub session_outcome : List Replaying → List ℕ → CommandOutcome
 session_outcome start input = conversation_outcome (shell_talker start) input
 
--- where the replays cannot begin the input does not matter, and need not be told
-abbrev pub opened_outcome : Result (List Replaying) CommandStop → Option (List ℕ) → Option CommandOutcome
-opened_outcome (Err stop) left = Some (Err stop)
-opened_outcome (Ok start) left = option_map (session_outcome start) left
+-- the replays of these pairs, and the session over them
+abbrev pub debug_opener : List Pair → Opener (List Replaying) SessionState
+debug_opener pairs = record { opens = λ folder. replays_of_pairs folder pairs; talker = shell_talker }
 
 abbrev pub debug_outcome : List Pair → Option (List ℕ) → Folder → Option CommandOutcome
-debug_outcome pairs left folder = opened_outcome (replays_of_pairs folder pairs) left
+debug_outcome pairs left folder = opened_outcome (debug_opener pairs) (replays_of_pairs folder pairs) left

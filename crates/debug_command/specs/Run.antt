@@ -1,25 +1,15 @@
 -- What a run of `debug` says, from one state of the outside to another.
-use Rattle.std.specs.Prelude.{◌≡◌, ◌≢◌, ◌⊎◌, [], List, Option, option_and_then}
-use Rattle.fri_outside.specs.Outside.{CountRose}
+use Rattle.std.specs.Prelude.{List}
 use Rattle.command_run.specs.declared.status.Status.{Status}
-use Rattle.command_run.specs.declared.status.Status.TheVariants as status
-use Rattle.command_run.specs.Call.{PrintsRefusal}
-use Rattle.command_run.specs.Outcome.{CommandOutcome}
-use Rattle.command_run.specs.Run.{CallEnds, Outside}
+use Rattle.command_run.specs.Run.{Outside}
+use Rattle.conversation.specs.Opening.{OpenedPromises, OpenedRun}
 use Rattle.log_pairs.specs.Pairs.{Pair}
-use Rattle.debug_command.specs.Conversation.{HadAnsweredLines, IsTooLarge, TakesInput}
-use Rattle.debug_command.specs.Debug.{debug_outcome}
+use Rattle.debug_command.specs.Debug.{debug_opener}
 
--- what it comes to, as far as the folder and the input tell it
-abbrev pub debug_expected : List Pair → Outside → Option CommandOutcome
-debug_expected pairs old = option_and_then (debug_outcome pairs old.hearing.left) old.told
+-- what it promises over these pairs beyond what holds of all commands: its input is read by turns, and no further than it must be
+abbrev pub DebugPromises : List Pair → Outside → Outside → Status → Type 0
+DebugPromises pairs old new answer = OpenedPromises (debug_opener pairs) old new answer
 
 -- it ran over these pairs. It makes no file
-pub record DebugRun (pairs : List Pair) (old new : Outside) (answer : Status) : Type 0 where
-  pub call : CallEnds (debug_expected pairs old) (λ folder. []) old new answer
-  pub is_command : answer ≢ status.Usage
-  pub no_divergence : answer ≢ status.Diverged
-  pub input : TakesInput pairs old new answer
-  pub answered : answer ≡ status.ReadFault → (CountRose old.counts.reads new.counts.reads → ⊥) → HadAnsweredLines pairs old new
-  pub refused : answer ≡ status.Refused
-      → PrintsRefusal old.taken new.taken (λ file. CountRose old.counts.misses new.counts.misses ⊎ IsTooLarge pairs old.told old.hearing.left file)
+abbrev pub DebugRun : List Pair → Outside → Outside → Status → Type 0
+DebugRun pairs old new answer = OpenedRun (debug_opener pairs) old new answer

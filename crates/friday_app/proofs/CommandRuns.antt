@@ -134,7 +134,7 @@ run_debugged pairs answer old new r = record {
   call = r.call;
   usage = record { only = λ is. absurd (r.is_command is); always = λ none h. cc };
   diverged = λ is. absurd (r.no_divergence is);
-  promises = record { input = r.input; answered = r.answered; refused = r.refused };
+  promises = r.promises;
 }
 
 pub run_none : (answer : Status) (old new : Outside) → CallEnds (Some (Err NotACommand)) (λ folder. []) old new answer

@@ -3,7 +3,7 @@ use Rattle.std.specs.Prelude.{Option, Some, None}
 use Rattle.command_run.specs.declared.status.Status.{Status}
 use Rattle.command_run.specs.Run.{LeavesInput, Outside}
 use Rattle.headline.specs.Promises.{RecordPromises}
-use Rattle.debug_command.specs.Promises.{DebugPromises}
+use Rattle.debug_command.specs.Run.{DebugPromises}
 use Rattle.schedule_command.specs.Promises.{SchedulePromises}
 use Rattle.cut_command.specs.Promises.{CutPromises}
 use Rattle.friday_app.specs.Command.{Command, Cut, Debug, Drill, Migrate, Record, Replay, Schedule, Streams}

@@ -30,7 +30,8 @@ use Rattle.log_pairs.specs.Valid.{GoTogether}
 use Rattle.record_command.specs.Agreement.{IsRecordable, LogsAgree, MayFollowLog, Front, Nothing, group_in, steps_in}
 use Rattle.record_command.specs.Laws.{RecordingsAgree}
 use Rattle.replay_command.specs.Report.{replay_work}
-use Rattle.debug_command.specs.Debug.{opened_outcome}
+use Rattle.conversation.specs.Opening.{opened_outcome}
+use Rattle.debug_command.specs.Debug.{debug_opener}
 use Rattle.headline.specs.Headline.{AreDistinct, AreProcesses, Headline, HoldsProcess, IsShown, logs_of_run, pairs_of_processes}
 use Rattle.headline.specs.Shown.{AreShown, ShowsProcess, recorded_run}
 use Rattle.headline.proofs.RecordedGroup.{HasBegun, has_begun, pair_stands, schedule_formed, together}
@@ -199,7 +200,7 @@ module _ (reads : ReadsModules) (gives : GivesSchedules) (beginning : Beginning)
             all_of_them (group_in r) steps sorted
             (all_numbered (processes_in_group (group_in r)) sorted in_it.ascend (sort_keeps (λ p. p < processes_in_group (group_in r)) [] ps tt are.within) (in_it.count ∙ all_given))
             (in_it.count ∙ all_given);
-        debug = λ input. ap (λ (o : Result (List Replaying) CommandStop). opened_outcome o (Some input)) opens;
+        debug = λ input. ap (λ (o : Result (List Replaying) CommandStop). opened_outcome (debug_opener pairs) o (Some input)) opens;
         shows = record {
           order = order.0;
           only = order.1;
