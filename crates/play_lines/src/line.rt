@@ -1,0 +1,127 @@
+// What a line of a play is.
+ghost use Rattle.std.specs.Prelude.{◌≡◌, ◌<◌, ◌≤◌, ◌^◌, IfOk, Ok, length, true};
+ghost use Rattle.play_lines.specs.Lines.{lacks_in_play, nests_in_play};
+ghost use Rattle.play_lines.specs.Meaning.{item_meaning, judged_play, play_meaning};
+ghost use Rattle.play_lines.specs.Spelled.{play_line_meaning, player_command};
+ghost use Rattle.play_lines.specs.inside.Reading.{SpellsPlay};
+ghost use Rattle.play_lines.specs.declared.line.PlayLine.TheVariants.{Silent};
+ghost use Rattle.schedule_text.specs.ItemLine.{item_of_line};
+ghost use Rattle.shell_lines.specs.Meaning.{is_silent};
+
+use crate::command::PlayerCommand;
+use crate::refusal::PlayRefusal;
+use crate::verbs::read_command;
+use fri_bytes::Bytes;
+use schedule_text::{Item, is_item_line, read_item_line};
+use shell_lines::{LineRefusal, is_silent};
+use std::alloc::{AllocError, Global};
+use watch_expr::{ExprError, find_faults, lex};
+
+// How many bytes a line has at most: enough for each item that a schedule of logs has.
+const MOST_ITEM_LINE: usize = 131_072;
+
+// How many bytes a line has at most that is no item.
+const MOST_LINE: usize = 4096;
+
+/// What a line is: nothing, a line that is refused, an item, or a command.
+#[derive(Drop)]
+pub enum PlayLine {
+    Silent,
+    Refused(PlayRefusal),
+    Plays(Item),
+    Does(PlayerCommand),
+}
+
+/// What a line is, over a group whose processes have these names.
+pub fn read_play_line(alloc: Global, bytes: &[u8], names: &[Bytes]) -> Result<PlayLine, AllocError>
+    requires some { 1 ≤ length names.now }
+    requires few { length names.now < 2 ^ 32 }
+    ensures line { IfOk result (λ line. play_line_meaning line ≡ play_meaning names.now bytes.now) }
+    ensures silent { length bytes.now ≤ 131072 → is_silent bytes.now ≡ true → result ≡ Ok Silent }
+{
+    if bytes.len() > MOST_ITEM_LINE {
+        return Ok(refuses(LineRefusal::TooLong));
+    }
+    if is_silent(bytes) {
+        return Ok(PlayLine::Silent);
+    }
+    if is_item_line(bytes) {
+        return read_item(alloc, bytes, names.len() as u32);
+    }
+    if bytes.len() > MOST_LINE {
+        return Ok(refuses(LineRefusal::TooLong));
+    }
+    match spelled(alloc, bytes, names) {
+        Ok(command) => Ok(judge(command)),
+        Err(ExprError::Syntax(column)) => Ok(refuses(LineRefusal::Syntax(column))),
+        Err(ExprError::TooDeep) => Ok(refuses(LineRefusal::TooDeep)),
+        Err(ExprError::Nested) => Ok(refuses(LineRefusal::Nested)),
+        Err(ExprError::NoNode) => Ok(refuses(LineRefusal::NoNode)),
+        Err(ExprError::NoMemory) => Err(AllocError),
+    }
+}
+
+// A line that is refused as in the debugger.
+fn refuses(why: LineRefusal) -> PlayLine
+    ensures { result ≡ PlayLine.Refused (PlayRefusal.AsLine why) }
+{
+    PlayLine::Refused(PlayRefusal::AsLine(why))
+}
+
+// The item of a line, where a schedule with so many processes could have it.
+fn read_item(alloc: Global, bytes: &[u8], processes: u32) -> Result<PlayLine, AllocError>
+    ensures { IfOk result (λ line. play_line_meaning line ≡ item_meaning (item_of_line processes bytes.now)) }
+{
+    match read_item_line(alloc, bytes, processes)? {
+        Some(item) => Ok(PlayLine::Plays(item)),
+        None => Ok(PlayLine::Refused(PlayRefusal::BadItem)),
+    }
+}
+
+// The command that a line spells.
+fn spelled(alloc: Global, bytes: &[u8], names: &[Bytes]) -> Result<PlayerCommand, ExprError>
+    requires some { 1 ≤ length names.now }
+    requires few { length names.now < 2 ^ 32 }
+    requires short { length bytes.now ≤ 4096 }
+    ensures { SpellsPlay names.now bytes.now result }
+{
+    watch_expr::laws::exact_cut();
+    let tokens = lex(alloc, bytes)?;
+    read_command(alloc, &tokens, names)
+}
+
+// Whether an aggregate is in an aggregate.
+fn has_nested(spelled: &PlayerCommand) -> bool
+    ensures { result ≡ nests_in_play (player_command spelled.now) }
+{
+    match spelled {
+        PlayerCommand::Print(expression) => find_faults(expression).nested,
+        _ => false,
+    }
+}
+
+// Whether the command names no node where it is to name one.
+fn names_none(spelled: &PlayerCommand) -> bool
+    ensures { result ≡ lacks_in_play (player_command spelled.now) }
+{
+    match spelled {
+        PlayerCommand::Print(expression) => find_faults(expression).no_node,
+        PlayerCommand::Threads(node) => node.is_none(),
+        PlayerCommand::Printed(node, _) => node.is_none(),
+        PlayerCommand::Mem(node, ..) => node.is_none(),
+        _ => false,
+    }
+}
+
+// A command of the grammar, unless something is wrong with it.
+fn judge(spelled: PlayerCommand) -> PlayLine
+    ensures { play_line_meaning result ≡ judged_play (player_command spelled) }
+{
+    if has_nested(&spelled) {
+        refuses(LineRefusal::Nested)
+    } else if names_none(&spelled) {
+        refuses(LineRefusal::NoNode)
+    } else {
+        PlayLine::Does(spelled)
+    }
+}
