@@ -1,0 +1,12 @@
+pub mod SeenNodes
+pub mod ShownTexts
+pub mod GoingOn
+pub mod Attempts
+pub mod ItemsDone
+pub mod Reached
+pub mod CountRoom
+pub mod PlayBegins
+pub mod ItemAnswers
+pub mod PlayedIsRecorded
+pub mod GatheredPlay
+pub mod OutcomeIsWork

@@ -1,0 +1,21 @@
+// A play: a group, and where it stands.
+ghost use Rattle.std.specs.Prelude.{map};
+ghost use Rattle.wasm_types.specs.Modules.{module_of};
+ghost use Rattle.play_command.specs.inside.Playing.{IsPlaying};
+
+use fri_bytes::Bytes;
+use group_record::LiveGroup;
+use schedule_text::Schedule;
+use shared_module::SharedModule;
+
+/// A group that goes on by the items so far, how often these try, and whether a log is full.
+#[derive(Drop)]
+pub(crate) struct Playing<'m> {
+    pub(crate) schedule: &'m Schedule,
+    pub(crate) modules: &'m [SharedModule],
+    pub(crate) names: Vec<Bytes>,
+    pub(crate) live: LiveGroup<'m>,
+    pub(crate) tries: u64,
+    pub(crate) full: bool,
+    ghost playing: { IsPlaying schedule.now (map module_of modules.now) names.items live tries },
+}

@@ -1,0 +1,248 @@
+// What each line does to a play, and answers.
+ghost use Rattle.std.specs.Prelude.{◌≡◌, ◌≤◌, ◌+◌, ◌++◌, IfOk, false, length, map, if◌then◌else◌};
+ghost use Rattle.wasm_types.specs.Modules.{module_of};
+ghost use Rattle.schedule_text.specs.Limits.{most_runs};
+ghost use Rattle.schedule_text.specs.Schedule.{IsInRange, run_count, tries as tries_of_item};
+ghost use Rattle.group_record.specs.Answer.{first_states, names_of};
+ghost use Rattle.play_lines.specs.Lines.{Again};
+ghost use Rattle.play_lines.specs.Spelled.{player_command};
+ghost use Rattle.play_command.specs.Play.{command_in_play, counts_line, full_line, plays_item, process_of_item};
+ghost use Rattle.play_command.specs.inside.Answers.{AnswersOnce, AnswersPlay, OpensPlay};
+ghost use Rattle.play_command.specs.inside.Shown.{Shows};
+
+use crate::going::{perform, perform_all};
+use crate::live_play::Playing;
+use crate::shown::{
+    show_datagram, show_memory, show_printed, show_processes, show_threads, show_value,
+};
+use crate::told::Told;
+use conversation::{Go, LineSession};
+use fri_bytes::Bytes;
+use fri_text::Text;
+use group_record::{LiveGroup, RecordError};
+use play_lines::{PlayLine, PlayRefusal, PlayerCommand, read_play_line, refused_play};
+use record_command::push_items_line;
+use schedule_text::{Item, MOST_RUNS, Schedule};
+use shared_module::SharedModule;
+use std::alloc::{AllocError, Global};
+
+impl<'m> Playing<'m> {
+    /// The play of a schedule, whose processes are of these modules, once its items are done, and the line with which it
+    /// begins.
+    pub(crate) fn begin(
+        alloc: Global,
+        schedule: &'m Schedule,
+        modules: &'m [SharedModule],
+    ) -> Result<(Playing<'m>, Text), RecordError>
+        requires { length modules.now ≡ length schedule.now.processes }
+        ensures { OpensPlay schedule.now (map module_of modules.now) (first_states schedule.now (map module_of modules.now)) result }
+    {
+        let names = copied_names(alloc, schedule)?;
+        let mut live = LiveGroup::begin(alloc, schedule, modules)?;
+        let mut told = Told::new(alloc, false);
+        if let Some(item) = perform_all(&mut live, &names, schedule.items(), &mut told)? {
+            return Err(RecordError::LogFull(item));
+        }
+        let mut text = Text::new(alloc);
+        push_items_line(&mut text, told.acted, told.idle)?;
+        let playing = Playing {
+            schedule,
+            modules,
+            names,
+            live,
+            tries: tries_of(schedule.items()),
+            full: false,
+        };
+        Ok((playing, text))
+    }
+
+    // The same play with the items of the file alone.
+    fn again(self, alloc: Global) -> Result<(Playing<'m>, Text), AllocError>
+        ensures { IfOk result (λ said. AnswersOnce self.entry (λ state. command_in_play state Again) said.0 said.1) }
+    {
+        match Playing::begin(alloc, self.schedule, self.modules) {
+            Ok(opened) => Ok(opened),
+            Err(RecordError::NoMemory) => Err(AllocError),
+            Err(_) => unreachable!(),
+        }
+    }
+
+    // Does an item, unless there would be too many tries, or a log was full before.
+    fn play_item(self, alloc: Global, item: &Item) -> Result<(Playing<'m>, Text), AllocError>
+        requires { IsInRange (length self.names.items) item.now }
+        ensures { IfOk result (λ said. AnswersOnce self.entry (λ state. plays_item state item.now) said.0 said.1) }
+    {
+        let tries = self.tries + item.tries();
+        if tries > MOST_RUNS {
+            let text = refused_play(alloc, PlayRefusal::TooManyTries)?;
+            return Ok((self, text));
+        }
+        if self.full {
+            let text = refused_play(alloc, PlayRefusal::Full)?;
+            return Ok((self, text));
+        }
+        self.do_item(alloc, item, tries)
+    }
+
+    // Does an item, with which there are so many tries.
+    fn do_item(
+        self,
+        alloc: Global,
+        item: &Item,
+        tries: u64,
+    ) -> Result<(Playing<'m>, Text), AllocError>
+        requires in_range { IsInRange (length self.names.items) item.now }
+        requires room { self.full ≡ false }
+        requires tries { tries ≡ self.tries + tries_of_item item.now }
+        requires few { tries ≤ most_runs }
+        ensures { IfOk result (λ said. AnswersOnce self.entry (λ state. plays_item state item.now) said.0 said.1) }
+    {
+        let Playing {
+            schedule,
+            modules,
+            names,
+            mut live,
+            ..
+        } = self;
+        let mut told = Told::new(alloc, true);
+        let full = perform(&mut live, &names, item, &mut told)?;
+        let name = names[process_of_item(item) as usize].as_slice();
+        let text = ended(told, full, name)?;
+        let playing = Playing {
+            schedule,
+            modules,
+            names,
+            live,
+            tries,
+            full,
+        };
+        Ok((playing, text))
+    }
+
+    // What a command answers, and whether the session goes on.
+    fn command(
+        self,
+        alloc: Global,
+        command: &PlayerCommand,
+    ) -> Result<(Playing<'m>, Text, Go), AllocError>
+        ensures { IfOk result (λ said. AnswersPlay self.entry (λ state. command_in_play state (player_command command.now)) said.0 said.1 said.2) }
+    {
+        match command {
+            PlayerCommand::Again => {
+                let (playing, text) = self.again(alloc)?;
+                Ok((playing, text, Go::On))
+            }
+            PlayerCommand::Quit => Ok((self, Text::new(alloc), Go::Quit)),
+            _ => {
+                let text = self.shown(alloc, command)?;
+                Ok((self, text, Go::On))
+            }
+        }
+    }
+
+    // What a command shows that changes nothing.
+    fn shown(&self, alloc: Global, command: &PlayerCommand) -> Result<Text, AllocError>
+        ensures { IfOk result (λ text. Shows self.now.names.items self.now.live (player_command command.now) text) }
+    {
+        let (live, names) = (&self.live, self.names.as_slice());
+        match command {
+            PlayerCommand::Processes => show_processes(alloc, live, names),
+            PlayerCommand::Threads(node) => show_threads(alloc, live, names, *node),
+            PlayerCommand::Datagram(p, n) => show_datagram(alloc, live, names, *p, *n),
+            PlayerCommand::Printed(node, from) => show_printed(alloc, live, names, *node, *from),
+            PlayerCommand::Print(expression) => show_value(alloc, live, names, expression),
+            PlayerCommand::Mem(node, addr, len) => {
+                show_memory(alloc, live, names, *node, *addr, *len)
+            }
+            PlayerCommand::Again => Ok(Text::new(alloc)),
+            PlayerCommand::Quit => Ok(Text::new(alloc)),
+        }
+    }
+}
+
+impl<'m> LineSession for Playing<'m> {
+    ghost use Rattle.play_command.specs.Play.{PlayState, play_answer};
+    ghost use Rattle.play_command.specs.inside.Answers.{StandsInPlay};
+
+    ghost State = { PlayState };
+
+    ghost answer = { play_answer };
+
+    ghost stands = { StandsInPlay };
+
+    fn answer_line(
+        self,
+        alloc: Global,
+        line: &[u8],
+    ) -> Result<(Playing<'m>, Text, Go), AllocError> {
+        schedule_text::laws::exact_item_lines();
+        match read_play_line(alloc, line, &self.names)? {
+            PlayLine::Silent => Ok((self, Text::new(alloc), Go::On)),
+            PlayLine::Refused(why) => {
+                let text = refused_play(alloc, why)?;
+                Ok((self, text, Go::On))
+            }
+            PlayLine::Plays(item) => {
+                let (playing, text) = self.play_item(alloc, &item)?;
+                Ok((playing, text, Go::On))
+            }
+            PlayLine::Does(command) => self.command(alloc, &command),
+        }
+    }
+}
+
+// The names of a schedule's processes.
+fn copied_names(alloc: Global, schedule: &Schedule) -> Result<Vec<Bytes>, AllocError>
+    ensures { IfOk result (λ names. names.items ≡ names_of schedule.now) }
+{
+    let mut names = Vec::new(alloc);
+    for line in schedule.processes() {
+        names.push(Bytes::from_slice(alloc, line.name.as_slice())?)?;
+    }
+    Ok(names)
+}
+
+// How often these items try, which are no more than a schedule may.
+fn tries_of(items: &[Item]) -> u64
+    requires { run_count items.now ≤ most_runs }
+    ensures { result ≡ run_count items.now }
+{
+    let mut tries = 0;
+    for item in items {
+        tries += item.tries();
+    }
+    tries
+}
+
+// The process that an item is about.
+fn process_of_item(item: &Item) -> u32
+    ensures { result ≡ process_of_item item.now }
+{
+    match item {
+        Item::Run { process, .. } => *process,
+        Item::Deliver { process, .. } => *process,
+        Item::Inject { process, .. } => *process,
+        Item::Clock { process, .. } => *process,
+        Item::Random { process, .. } => *process,
+        Item::Signal { process, .. } => *process,
+        Item::Kill { process } => *process,
+    }
+}
+
+// What was told of an item, and its counts, or that the log of the process with this name has no room.
+fn ended(told: Told, full: bool, name: &[u8]) -> Result<Text, AllocError>
+    ensures { IfOk result (λ text. text ≡ told.text ++ (if full then full_line name.now else counts_line told.acted told.idle)) }
+{
+    let mut text = told.text;
+    if full {
+        text.push_str("full ")?;
+        text.push_bytes(name)?;
+        text.push_str("\n")?;
+    } else {
+        text.push_u64(told.acted)?;
+        text.push_str(" acted, ")?;
+        text.push_u64(told.idle)?;
+        text.push_str(" idle\n")?;
+    }
+    Ok(text)
+}
