@@ -66,6 +66,23 @@ kill 1
 """
 # The process of each event of the second schedule, in its turn.
 TURNS = (0, 0, 1, 1, 1, 1, 1, 0, 0, 0, 0)
+# Each kind of line of a play, refused ones too.
+PLAYED = """processes
+threads ping
+threads pong
+run 0 0
+deliver 0 3
+datagram 0 1
+printed ping 0
+print sum(@_.u32[64])
+mem ping 64 4
+inject 0 00ff
+run 0 0 2
+kill 9
+foo
+again
+kill 0
+"""
 WATCH = "watch sum(@_.u32[64])\n" + "continue\n" * 5
 PAIRS = ["ping.wasm", "ping.log", "pong.wasm", "pong.log"]
 ROWS = (
@@ -73,6 +90,7 @@ ROWS = (
     (["replay", "now.wasm", "a.log"], [], ""),
     (["migrate", "first.log", "a.log"], ["a"], ""),
     (["record", "--images", "two"], ["ping", "pong"], ""),
+    (["play", "two"], [], PLAYED),
     (["replay", "--images", *PAIRS], [], ""),
     (["debug", *PAIRS], [], WATCH),
     (["schedule", *PAIRS], [], ""),

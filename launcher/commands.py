@@ -42,6 +42,7 @@ COMMANDS = {
     command.name: command
     for command in (
         Command("record", "[--images] SCHEDULE", "run the processes of a schedule, write NAME.log of each", makes=(".log",)),
+        Command("play", "SCHEDULE", "record item by item: each line of standard input is answered"),
         Command("replay", "[--images] MODULE LOG ..", "replay logs, report how each process ended"),
         Command("debug", "MODULE LOG ..", "debug a replay; lines come from standard input"),
         Command("schedule", "MODULE LOG ..", "print a schedule that records these logs again"),

@@ -18,6 +18,7 @@ MOST_LINES = 3
 # Reasons of which the page says what to do beyond what is told of the files.
 ADVISED = ("OtherGroup", "SameProcess", "SameName", "Incomplete", "TooManyEvents", "TooLong", "Grown")
 MOST_OF = {"MODULE": MOST_MODULE, "LOG": MOST_LOG, "SCHEDULE": MOST_SCHEDULE}
+LARGE_INPUT = "input", "TooLarge", ["standard input has more than %d bytes before the session ends" % MOST_SCHEDULE]
 
 
 def why_refused(again):
@@ -45,6 +46,8 @@ def find(again):
         return "drill", "item N LogFull", ["a log would have more than %d bytes" % MOST_LOG]
     if name == "migrate":
         return of_migrate(again.files[0])
+    if name == "play":
+        return of_play(again)
     if not again.pairs:
         return of_schedule(again)
     found = again.refusal(again.of_pairs("debug"))
@@ -53,7 +56,7 @@ def find(again):
     if name == "cut":
         return of_cut(again)
     if name == "debug":
-        return "input", "TooLarge", ["standard input has more than %d bytes before the session ends" % MOST_SCHEDULE]
+        return LARGE_INPUT
     return again.refusal(again.words)
 
 
@@ -62,6 +65,16 @@ def of_migrate(path):
     if size > MOST_LOG:
         return path, "TooLarge"
     return path, "1 BadHead" if head_of(path) is None else "6 Grown"
+
+
+def of_play(again):
+    """It makes no file, and so is asked again, without its lines: if its schedule is accepted, they were too many."""
+    found = again.refusal(again.words)
+    if found is None:
+        return LARGE_INPUT
+    if found[1].endswith("LogFull"):
+        return *found, ["the items of the schedule make more events than a log of %d bytes has room for; no file was made" % MOST_LOG]
+    return of_schedule(again)
 
 
 def of_schedule(again):

@@ -2,12 +2,13 @@
 _friday() {
     local word=${COMP_WORDS[COMP_CWORD]} files='' words=''
     if [ "$COMP_CWORD" = 1 ]; then
-        mapfile -t COMPREPLY < <(compgen -W 'record replay debug schedule cut streams migrate drill help --prove --version --program' -- "$word")
+        mapfile -t COMPREPLY < <(compgen -W 'record play replay debug schedule cut streams migrate drill help --prove --version --program' -- "$word")
         return
     fi
     case ${COMP_WORDS[1]} in
-    help) mapfile -t COMPREPLY < <(compgen -W 'record replay debug schedule cut streams migrate drill' -- "$word") ;;
+    help) mapfile -t COMPREPLY < <(compgen -W 'record play replay debug schedule cut streams migrate drill' -- "$word") ;;
     record) words='--images --help' files='*' ;;
+    play) words='--help' files='*' ;;
     replay) words='--images --help' files='*.@(wasm|log|cut)' ;;
     debug) words='--help' files='*.@(wasm|log|cut)' ;;
     schedule) words='--help' files='*.@(wasm|log|cut)' ;;

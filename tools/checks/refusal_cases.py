@@ -53,6 +53,7 @@ BAD_LINES = (
     schedule("an odd digit", HEAD + "inject 1 0f1\n"),
     schedule("no digit", HEAD + "random 1 xy\n"),
     schedule("a signal above 31", HEAD + "signal 0 32\n"),
+    Case("schedule: a bad line of a play", "play s", {"s": HEAD + "run 0 0\nrun 0 64\n"}),
 )
 MANY = (schedule("more tries than can be", HEAD + "run 0 0 600000\nrun 1 0 600000\n"),)
 
@@ -139,11 +140,13 @@ def changed(log):
 
 FILES = (
     Case("absent: the schedule", "record schedul"),
+    Case("absent: the schedule of a play", "play schedul"),
     Case("absent: a log", "replay ping.wasm ping.lgo"),
     Case("absent: a folder", "debug ping.wasm logs/ping.log"),
     Case("absent: a module of the schedule", "record of/s", {"of/s": "friday 1\nprocess a a.wasm\nrun 0 0\n", "of/a.wasm": module()}),
     Case("read: a folder", "replay . ping.log"),
     Case("read: a folder as the input", "debug " + PAIRS, {}, "< ."),
+    Case("read: a folder as the input of a play", "play schedule", {}, "< ."),
     Case("write: a folder in the way", "record s", {"s": "friday 1\nprocess a ping.wasm\nrun 0 0\n", "a.log/x": ""}),
     Case("write: a folder that is not there", "migrate ping.log none/new.log"),
     Case("write: a closed output", "replay " + PAIRS, {}, ">&-"),
@@ -152,7 +155,7 @@ FILES = (
 WORDS = tuple(
     Case("words: " + words, words)
     for words in (
-        "rceord schedule", "relay ping.wasm ping.log", "-v", "Record schedule", "record", "record schedule schedule", "record --image schedule",
+        "rceord schedule", "plya schedule", "play", "play schedule schedule", "play --images schedule", "relay ping.wasm ping.log", "-v", "Record schedule", "record", "record schedule schedule", "record --image schedule",
         "record -x", "replay ping.wasm", "replay --images --images ping.wasm ping.log", "debug ping.wasm ping.log pong.wasm", "cut ping 3 ping.wasm ping.log",
         "cut 16 1 ping.wasm ping.log", "cut 0 0 ping.wasm ping.log", "cut 0 1", "migrate ping.log", "drill 0", "help rceord",
     )

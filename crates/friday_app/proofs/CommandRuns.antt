@@ -25,7 +25,9 @@ use Rattle.cut_command.specs.Promises.{CutPromises}
 use Rattle.schedule_command.specs.Schedule.{schedule_outcome}
 use Rattle.schedule_command.specs.Meanings.{AnswerRecordsBack}
 use Rattle.schedule_command.specs.Promises.{PrintsConverse, SchedulePromises}
-use Rattle.friday_app.specs.Command.{Command, Cut, Debug, Drill, Migrate, Record, Replay, Schedule, Streams}
+use Rattle.play_command.specs.Laws.{PlayedIsRecorded}
+use Rattle.play_command.specs.Run.{PlayRun}
+use Rattle.friday_app.specs.Command.{Command, Cut, Debug, Drill, Migrate, Play, Record, Replay, Schedule, Streams}
 use Rattle.friday_app.specs.Expected.{expected}
 use Rattle.friday_app.specs.Promises.{Promises}
 use Rattle.friday_app.specs.Run.{CommandRun}
@@ -127,7 +129,7 @@ cut_promises process event pairs ended answer old new f cuts = record {
   past = λ is folder told. kept_past process event pairs folder ended (f.done is) (cuts folder told);
 }
 
--- ---- a session, and no command
+-- ---- a session, a play, and no command
 
 pub run_debugged : (pairs : List Pair) (answer : Status) (old new : Outside) → DebugRun pairs old new answer → CommandRun (Some (Debug pairs)) old new answer
 run_debugged pairs answer old new r = record {
@@ -135,6 +137,14 @@ run_debugged pairs answer old new r = record {
   usage = record { only = λ is. absurd (r.is_command is); always = λ none h. cc };
   diverged = λ is. absurd (r.no_divergence is);
   promises = r.promises;
+}
+
+pub run_played : PlayedIsRecorded → (schedule_name : List ℕ) (answer : Status) (old new : Outside) → PlayRun schedule_name old new answer → CommandRun (Some (Play schedule_name)) old new answer
+run_played law schedule_name answer old new r = record {
+  call = r.call;
+  usage = record { only = λ is. absurd (r.is_command is); always = λ none h. cc };
+  diverged = λ is. absurd (r.no_divergence is);
+  promises = record { session = r.promises; played = λ folder is. law schedule_name folder };
 }
 
 pub run_none : (answer : Status) (old new : Outside) → CallEnds (Some (Err NotACommand)) (λ folder. []) old new answer
@@ -157,9 +167,9 @@ run_none answer old new call usage reads unheard = record {
 
 -- ---- want of memory, before anything was read
 
-pub run_stopped : RecordingsAgree → RecordingsRest → LeftIsShown → (command : Option Command) (o : Outside) (answer : Status) → answer ≡ ends.NoMemory
+pub run_stopped : RecordingsAgree → RecordingsRest → LeftIsShown → PlayedIsRecorded → (command : Option Command) (o : Outside) (answer : Status) → answer ≡ ends.NoMemory
     → CallEnds (expected command o.told o.hearing.left).outcome (expected command o.told o.hearing.left).written o o answer → CommandRun command o o answer
-run_stopped agree rest law command o answer is call = subst (λ (a : Status). CommandRun command o o a) (sym is) (record {
+run_stopped agree rest law plays command o answer is call = subst (λ (a : Status). CommandRun command o o a) (sym is) (record {
   call = subst (λ (a : Status). CallEnds (expected command o.told o.hearing.left).outcome (expected command o.told o.hearing.left).written o o a) is call;
   usage = record { only = λ e. absurd cc; always = λ none h. absurd h };
   diverged = λ e. absurd cc;
@@ -189,3 +199,7 @@ run_stopped agree rest law command o answer is call = subst (λ (a : Status). Co
   promised (Some (Schedule pairs)) = record { input = unread; converse = λ e. absurd cc }
   promised (Some (Cut process event pairs)) = record { input = unread; past = λ e. absurd cc }
   promised (Some (Streams pairs)) = unread
+  promised (Some (Play schedule_name)) = record {
+    session = record { input = inl (refl, not_done); answered = λ e. absurd cc; refused = λ e. absurd cc };
+    played = λ folder is. plays schedule_name folder;
+  }

@@ -14,7 +14,8 @@ use Rattle.migrate_command.specs.Laws.{MigrationsWork}
 use Rattle.schedule_command.specs.Laws.{SchedulesWork}
 use Rattle.cut_command.specs.Laws.{CutsWork}
 use Rattle.streams_command.specs.Laws.{StreamsWork}
-use Rattle.friday_app.specs.Command.{Command, Cut, Debug, Drill, Migrate, Record, Replay, Schedule, Streams}
+use Rattle.play_command.specs.Laws.{PlaysWork}
+use Rattle.friday_app.specs.Command.{Command, Cut, Debug, Drill, Migrate, Play, Record, Replay, Schedule, Streams}
 use Rattle.friday_app.specs.Expected.{expected}
 use Rattle.friday_app.specs.Run.{CommandRun, WorksAsCommand}
 use Rattle.friday_app.specs.Valid.{IsValidCall}
@@ -42,7 +43,7 @@ write_counted : (old new : Outside) → TellsFaults ends.WriteFault old new → 
 write_counted old new (inl is) quiet = quiet.writes (omega (arith, ap (λ (f : Faults). f.0.1) is))
 write_counted old new (inr is) quiet = quiet.out (omega (arith, ap (λ (f : Faults). f.1.1) is))
 
-module _ (recordings : RecordingsWork) (replays : ReplaysWork) (sessions : SessionsWork) (migrations : MigrationsWork) (schedules : SchedulesWork) (cuts : CutsWork) (streams : StreamsWork) where
+module _ (recordings : RecordingsWork) (replays : ReplaysWork) (sessions : SessionsWork) (migrations : MigrationsWork) (schedules : SchedulesWork) (cuts : CutsWork) (streams : StreamsWork) (plays : PlaysWork) where
   -- what is valid has an outcome that is work
   has_work : (command : Command) (folder : Folder) (left : Option (List ℕ)) → IsValidCall (Some command) folder left
       → (work : CommandWork) × ((expected (Some command) (Some folder) left).outcome ≡ Some (Ok work))
@@ -54,6 +55,7 @@ module _ (recordings : RecordingsWork) (replays : ReplaysWork) (sessions : Sessi
   has_work (Schedule pairs) folder left h = let w = schedules pairs folder h in (w.0, ap Some w.1)
   has_work (Cut process event pairs) folder left h = let w = cuts process event pairs folder h in (w.0, ap Some w.1)
   has_work (Streams pairs) folder left h = let w = streams pairs folder h in (w.0, ap Some w.1)
+  has_work (Play schedule_name) folder left h = plays schedule_name folder left h
 
   pub run_completes : (command : Option Command) (old new : Outside) (answer : Status) (folder : Folder) → CommandRun command old new answer → old.told ≡ Some folder → IsValidCall command folder old.hearing.left → NoFault old new
       → WorksAsCommand command old.told old.hearing.left answer

@@ -14,6 +14,7 @@ pub data Command : Type 0 where
   Schedule : (pairs : List Pair) → Command
   Cut : (process : ℕ) → (event : ℕ) → (pairs : List Pair) → Command
   Streams : (pairs : List Pair) → Command
+  Play : (schedule_name : List ℕ) → Command
 
 -- a word that may name a file: it is not empty, and does not begin with `-`
 abbrev pub is_file_word : List ℕ → Bool
@@ -68,6 +69,10 @@ abbrev pub cutting_command : Bool → List (List ℕ) → Option Command
 cutting_command images (process ∷ event ∷ names) = cutting_by (process_of process) (event_number_of event) (pairs_without_images images names)
 cutting_command images names = None
 
+abbrev pub playing_command : Bool → List (List ℕ) → Option Command
+playing_command images (schedule_name ∷ []) = if images then None else Some (Play schedule_name)
+playing_command images names = None
+
 -- the command of this verb, of these words other than the option
 abbrev pub command_by_verb : List ℕ → Bool → List (List ℕ) → Option Command
 command_by_verb verb images names =
@@ -79,6 +84,7 @@ command_by_verb verb images names =
     else if bytes_eq verb (codes "schedule") then option_map Schedule (pairs_without_images images names)
     else if bytes_eq verb (codes "cut") then cutting_command images names
     else if bytes_eq verb (codes "streams") then option_map Streams (pairs_without_images images names)
+    else if bytes_eq verb (codes "play") then playing_command images names
     else None
 
 -- the command that the words name: a verb, and after it names of files, and once at most the option for images

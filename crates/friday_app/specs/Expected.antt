@@ -12,7 +12,8 @@ use Rattle.migrate_command.specs.Migrate.{migrate_outcome}
 use Rattle.schedule_command.specs.Schedule.{schedule_outcome}
 use Rattle.cut_command.specs.Cut.{cut_outcome}
 use Rattle.streams_command.specs.Streams.{streams_outcome}
-use Rattle.friday_app.specs.Command.{Command, Cut, Debug, Drill, Migrate, Record, Replay, Schedule, Streams}
+use Rattle.play_command.specs.Outcome.{play_outcome}
+use Rattle.friday_app.specs.Command.{Command, Cut, Debug, Drill, Migrate, Play, Record, Replay, Schedule, Streams}
 
 -- The outcome is known as far as the folder and the input tell what it depends on. Only `replay` answers whether a log diverges
 abbrev pub expected : Option Command → Option Folder → Option (List ℕ) → Expectation
@@ -25,3 +26,4 @@ expected (Some (Migrate log_name new_name)) told left = expected_by_folder (migr
 expected (Some (Schedule pairs)) told left = expectation (option_map (schedule_outcome pairs) told) (λ folder. []) false
 expected (Some (Cut process event pairs)) told left = expected_by_folder (cut_outcome process event pairs) told false
 expected (Some (Streams pairs)) told left = expectation (option_map (streams_outcome pairs) told) (λ folder. []) false
+expected (Some (Play schedule_name)) told left = expectation (option_and_then (play_outcome schedule_name left) told) (λ folder. []) false

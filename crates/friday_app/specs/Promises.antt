@@ -6,7 +6,8 @@ use Rattle.headline.specs.Promises.{RecordPromises}
 use Rattle.debug_command.specs.Run.{DebugPromises}
 use Rattle.schedule_command.specs.Promises.{SchedulePromises}
 use Rattle.cut_command.specs.Promises.{CutPromises}
-use Rattle.friday_app.specs.Command.{Command, Cut, Debug, Drill, Migrate, Record, Replay, Schedule, Streams}
+use Rattle.play_command.specs.Run.{PlayPromises}
+use Rattle.friday_app.specs.Command.{Command, Cut, Debug, Drill, Migrate, Play, Record, Replay, Schedule, Streams}
 
 -- a record of the command's own crate; of a command that has none, that it reads no input
 abbrev pub Promises : Option Command → Outside → Outside → Status → Type 0
@@ -19,3 +20,4 @@ Promises (Some (Migrate log_name new_name)) old new answer = LeavesInput old new
 Promises (Some (Schedule pairs)) old new answer = SchedulePromises pairs old new answer
 Promises (Some (Cut process event pairs)) old new answer = CutPromises process event pairs old new answer
 Promises (Some (Streams pairs)) old new answer = LeavesInput old new answer
+Promises (Some (Play schedule_name)) old new answer = PlayPromises schedule_name old new answer

@@ -8,7 +8,8 @@ use Rattle.drill_command.specs.Drill.{drill_run}
 use Rattle.migrate_command.specs.Valid.{IsMigration}
 use Rattle.schedule_command.specs.Valid.{CanBeScheduled}
 use Rattle.cut_command.specs.Valid.{HasEventOfProcess}
-use Rattle.friday_app.specs.Command.{Command, Cut, Debug, Drill, Migrate, Record, Replay, Schedule, Streams}
+use Rattle.play_command.specs.Valid.{IsPlay}
+use Rattle.friday_app.specs.Command.{Command, Cut, Debug, Drill, Migrate, Play, Record, Replay, Schedule, Streams}
 
 abbrev pub IsValidCall : Option Command → Folder → Option (List ℕ) → Type 0
 IsValidCall None folder left = ⊥
@@ -20,3 +21,4 @@ IsValidCall (Some (Migrate log_name new_name)) folder left = IsMigration folder 
 IsValidCall (Some (Schedule pairs)) folder left = CanBeScheduled folder pairs
 IsValidCall (Some (Cut process event pairs)) folder left = HasEventOfProcess folder pairs process event
 IsValidCall (Some (Streams pairs)) folder left = IsGroup folder pairs
+IsValidCall (Some (Play schedule_name)) folder left = IsPlay folder schedule_name left

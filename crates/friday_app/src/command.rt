@@ -1,7 +1,7 @@
 // Which command the words name.
 ghost use Rattle.std.specs.Prelude.{◌≡◌, length, map, option_map, string_bytes, IfOk, IfSome};
 ghost use Rattle.std.specs.List.{list_all};
-ghost use Rattle.friday_app.specs.Command.{command_by_verb, command_of, cutting_command, drilling_command, is_file_word, is_images, migrating_command, names_in, options_in, pairs_of, pairs_without_images, recording_command, some_pairs_of};
+ghost use Rattle.friday_app.specs.Command.{command_by_verb, command_of, cutting_command, drilling_command, is_file_word, is_images, migrating_command, names_in, options_in, pairs_of, pairs_without_images, playing_command, recording_command, some_pairs_of};
 ghost use Rattle.friday_app.specs.inside.Meanings.{HasDrillRounds, command_meaning};
 ghost use Rattle.log_pairs.specs.Meanings.{pair_of};
 
@@ -22,6 +22,7 @@ pub enum Command<'a> {
     Schedule(Vec<Pair<'a>>),
     Cut(u32, u64, Vec<Pair<'a>>),
     Streams(Vec<Pair<'a>>),
+    Play(&'a str),
 }
 
 // Whether the word may name a file.
@@ -104,6 +105,7 @@ fn command_by_verb<'a>(
         "schedule" => Ok(pairs_without_images(alloc, images, names)?.map(Command::Schedule)),
         "cut" => cut_command(alloc, images, names),
         "streams" => Ok(pairs_without_images(alloc, images, names)?.map(Command::Streams)),
+        "play" => Ok(play_command(images, names)),
         _ => Ok(None),
     }
 }
@@ -155,6 +157,15 @@ fn cut_command<'a>(
     };
     let pairs = pairs_without_images(alloc, images, names)?;
     Ok(pairs.map(|pairs| Command::Cut(process, event, pairs)))
+}
+
+fn play_command<'a>(images: bool, names: &[&'a str]) -> Option<Command<'a>>
+    ensures { option_map command_meaning result ≡ playing_command images (map (λ name. name.now) names.now) }
+{
+    match names {
+        [schedule_file] if !images => Some(Command::Play(schedule_file)),
+        _ => None,
+    }
 }
 
 // A module and a log, two by two. None comes exactly where a name is left over.

@@ -11,6 +11,7 @@ use debug_command::debug;
 use drill_command::drill_rounds;
 use fri_outside::{Files, Terminal};
 use migrate_command::migrate;
+use play_command::play;
 use record_command::record;
 use replay_command::replay;
 use schedule_command::schedule;
@@ -27,6 +28,7 @@ fn run<F: Files, T: Terminal>(alloc: Global, words: &[String], files: &mut F, io
     record_command::laws::recordings_agree();
     record_command::laws::recordings_rest();
     headline::laws::left_is_shown();
+    play_command::laws::played_is_recorded();
     match parse_words(alloc, words) {
         Ok(None) => refuse_words(io),
         Ok(Some(Command::Record(images, schedule_file))) => {
@@ -58,6 +60,7 @@ fn run<F: Files, T: Terminal>(alloc: Global, words: &[String], files: &mut F, io
             let ended = streams(alloc, &pairs, files);
             finish(alloc, ended, io)
         }
+        Ok(Some(Command::Play(schedule_file))) => play(alloc, schedule_file, files, io),
         Err(AllocError) => give_up(),
     }
 }
@@ -92,5 +95,6 @@ pub fn friday<F: Files, T: Terminal>(
     schedule_command::laws::schedules_work();
     cut_command::laws::cuts_work();
     streams_command::laws::streams_work();
+    play_command::laws::plays_work();
     run(alloc, words, files, io)
 }

@@ -17,6 +17,9 @@ use std::rt::Files;
 /// The most bytes of a schedule that is read.
 const MOST_SCHEDULE: usize = 16_777_216;
 
+/// A schedule without items.
+const FRONT: &str = "friday 1\nprocess ping ping.wasm\nprocess pong pong.wasm\n";
+
 /// A device that takes no byte.
 const FULL: &str = "/dev/full";
 
@@ -102,11 +105,23 @@ fn record_and_replay<R: Files + Print + AllocGlobal>(rt: &R) -> io::Result<()> {
     )
 }
 
+fn play_on<R: Files + Print + AllocGlobal>(rt: &R) -> io::Result<()> {
+    play(
+        rt,
+        "play schedule",
+        "processes\nrun 0 0\nagain\nquit\nrun 0 0\n",
+    )?;
+    fs::write(rt, "front", FRONT.as_bytes())?;
+    play(rt, "play front", "run 0 0 2\nkill 2\nprocesses\n")
+}
+
 fn refuse<R: Files + Print + AllocGlobal>(rt: &R) -> io::Result<()> {
     play(rt, "replay ping.wasm none.log", "")?;
     play(rt, "replay ping.wasm schedule", "")?;
     play(rt, "replay . ping.log", "")?;
     play(rt, "record .", "")?;
+    play(rt, "play none", "run 0 0\n")?;
+    play(rt, "play .", "run 0 0\n")?;
     write_long(rt, "long", MOST_SCHEDULE)?;
     play(rt, "record long", "")?;
     write_long(rt, "longer", MOST_SCHEDULE + 1)?;
@@ -116,6 +131,7 @@ fn refuse<R: Files + Print + AllocGlobal>(rt: &R) -> io::Result<()> {
 fn fill<R: Files + Print + AllocGlobal>(rt: &R) -> io::Result<()> {
     play_unheard(rt, "replay ping.wasm ping.log")?;
     play_unheard(rt, "debug ping.wasm ping.log")?;
+    play_unheard(rt, "play front")?;
     fs::remove_file(rt, "pong.log")?;
     symlink(rt, FULL, "pong.log")?;
     play(rt, "record schedule", "")?;
@@ -125,6 +141,7 @@ fn fill<R: Files + Print + AllocGlobal>(rt: &R) -> io::Result<()> {
 
 fn main(rt: HostRuntime) -> io::Result<()> {
     record_and_replay(&rt)?;
+    play_on(&rt)?;
     refuse(&rt)?;
     fill(&rt)
 }

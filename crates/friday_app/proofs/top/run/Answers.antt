@@ -8,7 +8,7 @@ use Rattle.cut_command.specs.Cut.{cut_outcome}
 use Rattle.migrate_command.specs.Migrate.{migrate_outcome}
 use Rattle.friday_app.specs.Command.{Cut, Debug, Drill, Migrate, Record, Replay, Schedule, Streams}
 use Rattle.friday_app.specs.inside.Meanings.{command_meaning}
-use Rattle.friday_app.proofs.CommandRuns.{cut_promises, may_diverge, performed, record_promises, run_debugged, run_finished, run_none, run_same, run_stopped, schedule_promises}
+use Rattle.friday_app.proofs.CommandRuns.{cut_promises, may_diverge, performed, record_promises, run_debugged, run_finished, run_none, run_played, run_same, run_stopped, schedule_promises}
 use Rattle.friday_app.proofs.top.run.Goals as goal
 
 pub returns-in-Ok-None : goal.returns-in-Ok-None
@@ -112,7 +112,13 @@ returns-in-Ok-Some-Streams g c =
     run_same (ap (λ (ps : List Pair). Some (Streams (map pair_of ps))) deref.ensures.value ∙ sym (ap (option_map command_meaning) (arm.field-0-is ∙ ap Some arm.field-0-0-is)) ∙ arm.ensures.names)
     (run_finished (Streams pairs) c.streams-ended.result finish.result old new finished finished.input)
 
+pub returns-in-Ok-Some-Play : goal.returns-in-Ok-Some-Play
+returns-in-Ok-Some-Play g c =
+    let arm = c.in-Ok-Some-Play in
+    run_same (sym (ap (option_map command_meaning) (arm.field-0-is ∙ ap Some arm.field-0-0-is)) ∙ arm.ensures.names)
+    (run_played c.played_is_recorded.ensures arm.schedule_file.now c.play.result _ _ c.play.ensures)
+
 pub returns-in-Err : goal.returns-in-Err
 returns-in-Err g c =
     let old : Outside = outside (g.F.Files.told c.args.files.now) (g.F.Files.counts c.args.files.now) (g.T.Sink.hearing c.args.io.now) (g.T.Sink.taken c.args.io.now) (g.T.Sink.faults c.args.io.now) in
-    run_stopped c.recordings_agree.ensures c.recordings_rest.ensures c.left_is_shown.ensures _ old c.give_up.result c.give_up.ensures.status (c.give_up.ensures.ends _ _ old)
+    run_stopped c.recordings_agree.ensures c.recordings_rest.ensures c.left_is_shown.ensures c.played_is_recorded.ensures _ old c.give_up.result c.give_up.ensures.status (c.give_up.ensures.ends _ _ old)
