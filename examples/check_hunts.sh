@@ -1,5 +1,5 @@
 #!/bin/sh
-# The three hunts: puts the places into the debugger's scripts again, makes the schedules again from their seeds, records
+# The three hunts: puts the places into the debugger's scripts again, makes the schedules again by the words in their first lines, records
 # and replays the group of each, lists what its processes printed and noted, and compares all of it with what lies beside
 # the guests. The memories and the prints that a replay comes to have to be those of the recording. Last, the debugger's
 # script is answered over the logs of the failing schedule, and its answers are compared too; and these logs are cut to what
@@ -12,6 +12,13 @@ here=$(CDPATH='' cd -- "$(dirname -- "$0")" && pwd) || exit 1
 program=${1:-$("$here/../friday" --program)} && program=$(realpath -- "$program") || exit 1
 folder=$(mktemp -d) || exit 1
 trap 'rm -rf "$folder"' EXIT
+
+# Makes a schedule again, in the present folder, by the words in its first line: FOLDER SCHEDULE.
+make_again() {
+    words=$(sed -n '1s/^# make_schedule\.py //p' "$here/$1/$2") && [ -n "$words" ] || return 1
+    # shellcheck disable=SC2086 # None of these words has blanks.
+    python3 "$here/../tools/make_schedule.py" --program "$program" --output "$2" $words && cmp "$here/$1/$2" "$2"
+}
 
 # Records, replays and lists the group of a schedule.
 play() {
@@ -47,10 +54,10 @@ check() {
     hunt=$1
     mkdir "$folder/$hunt" && cd "$folder/$hunt" && cp "$here/$hunt/$hunt.wasm" . || return 1
     "$here/../guests/places" "$here/$hunt/$hunt.places" < "$here/$hunt/debug.in" > debug || return 1
-    "$here/$hunt/schedules.sh" "$program" > printed || return 1
-    for file in debug good failing; do
-        cmp "$here/$hunt/$file" "$file" || return 1
-    done
+    cmp "$here/$hunt/debug" debug || return 1
+    for schedule in good failing; do
+        make_again "$hunt" "$schedule" || return 1
+    done > printed
     for schedule in good failing; do
         echo "$schedule:" >> printed
         play "$hunt" "$schedule" >> printed || { tail -n 1 printed; return 1; }
@@ -84,10 +91,9 @@ check_many() {
 
 check_schedules_of_enet() {
     mkdir "$folder/enet" && cd "$folder/enet" && cp "$here"/enet/*.wasm . || return 1
-    "$here/enet/schedules.sh" "$program" > printed || return 1
     for schedule in good failing repaired; do
-        cmp "$here/enet/$schedule" "$schedule" || return 1
-    done
+        make_again enet "$schedule" || return 1
+    done > printed
     echo "enet: the schedules as expected"
 }
 

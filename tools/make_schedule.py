@@ -69,6 +69,8 @@ def main():
         sys.stdout.flush()
     except PlayingFailed as error:
         sys.exit(str(error))
+    except KeyboardInterrupt:
+        sys.exit(130)
     except BrokenPipeError:
         # Whoever reads has enough, as head does; the schedule is whole by then.
         os.dup2(os.open(os.devnull, os.O_WRONLY), sys.stdout.fileno())

@@ -1,6 +1,6 @@
 #!/usr/bin/env python3
 """Checks tools/play over ping and pong and over the logs of examples/lost_update: what typed lines answer, that undo takes back, what save
-and record write, that a schedule played is recorded with the same events, and that Ctrl-C gives up what goes on for long.
+and record write, that a schedule played is recorded with the same events, and the prompt in a terminal.
 
 check_playing.py [PROGRAM]   (the program that answers ./friday, if none is given)
 """
@@ -119,9 +119,8 @@ def check_refused(program):
                                                  stderr=subprocess.STDOUT, text=True, timeout=60).stdout, line
 
 
-def check_given_up(program):
-    """In a terminal there is a prompt, and Ctrl-C in what goes on for long takes the session back to where it was."""
-    shutil.copy(os.path.join(EXAMPLES, "bank", "bank.wasm"), ".")
+def check_terminal(program):
+    """In a terminal there is a prompt, and Ctrl-C takes back what was typed."""
     terminal, inner = pty.openpty()
     run = subprocess.Popen([os.path.join(TOOLS, "play"), "--program", program, "ping=ping.wasm", "pong=pong.wasm"], stdin=inner, stdout=inner, stderr=inner, start_new_session=True)
     os.close(inner)
@@ -130,7 +129,10 @@ def check_given_up(program):
     said += read_until(terminal, "(play 2) ")
     os.write(terminal, b"undo\n")
     said += read_until(terminal, "(play 0) ")
+    os.write(terminal, b"no such li")
+    time.sleep(1)
     run.send_signal(signal.SIGINT)
+    said += read_until(terminal, "(play 0) ")
     os.write(terminal, b"q\n")
     said += read_until(terminal, None)
     assert run.wait(60) == 0 and "help lists the words" in said, said
@@ -164,7 +166,7 @@ def main():
         check_kept(program)
         check_recording(program)
         check_refused(program)
-        check_given_up(program)
+        check_terminal(program)
         os.chdir("/")
     print("playing: as expected")
 

@@ -57,8 +57,19 @@ def fill(made, folder, group, words, tried):
     with open(os.path.join(made, "found"), "w", encoding="ascii", errors="backslashreplace") as file:
         file.write("seed %d: %s\n%s" % (tried.seed, hit.why, summary))
         file.write("position %d: %s\n" % (position, event.text(name)))
+        file.write(in_debugger(group.program, made, pairs, hit.expression) if hit.expression else "")
         file.write("what it needs, in test:\n%s" % cut)
         file.write("to go there: %s\n    goto %d\n" % (opens, position))
+
+
+def in_debugger(program, folder, pairs, expression):
+    """Where the expression holds in the debugger. Its order is that of clocks, and events that do not know of each other may stand in
+    another one there than they were played in."""
+    typed = 'watch %s\ndo 1 if %s { stop }\ncontinue\n' % (expression, expression)
+    told = subprocess.run([program, "debug", *pairs], cwd=folder, input=typed, stdout=subprocess.PIPE, text=True).stdout.splitlines()
+    if told[-1:] and "end" not in told and told[-1].startswith("at "):
+        return "in the debugger it holds first %s\n" % told[-1]
+    return "at no position of the debugger it begins to hold, where events that do not know of each other stand in another order\n"
 
 
 def put_modules(folder, processes):

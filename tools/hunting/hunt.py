@@ -10,6 +10,8 @@ from hunting.workers import Workers
 from playing.player import PlayingFailed
 
 NOTED_EACH = 1.0
+# If so many seeds could not be tried, and none could, no other one can.
+MOST_FAILED = 20
 
 
 class Hunt:
@@ -72,6 +74,8 @@ class Hunt:
         if tried.failed:
             self.failed += 1
             self.show("seed %d could not be tried: %s" % (tried.seed, tried.failed))
+            if self.failed == MOST_FAILED == self.next - self.began_at + 1:
+                raise PlayingFailed("none of %d seeds could be tried" % self.failed)
         if not tried.hit:
             return
         self.hits[tried.seed] = tried.hit.why

@@ -2,6 +2,9 @@
 
 import hashlib
 import os
+import re
+
+LINE = re.compile(r"through (\d{1,18})|hit (\d{1,18}) (.*)")
 
 
 class OtherHunt(Exception):
@@ -16,21 +19,29 @@ class Progress:
         self.next, self.hits = None, {}
 
     def read(self):
-        """Takes up what an earlier call has left."""
-        if not os.path.exists(self.path):
-            os.makedirs(os.path.dirname(self.path), exist_ok=True)
-            self.write(self.head)
-            return
-        with open(self.path, encoding="utf-8") as file:
-            lines = file.read().split("\n")[:-1]
+        """Takes up what an earlier call has left. A line that it could not end is as if it had not been begun."""
+        os.makedirs(os.path.dirname(self.path), exist_ok=True)
+        text = data_of(self.path).decode("utf-8", "replace") if os.path.exists(self.path) else ""
+        whole = text[: text.rfind("\n") + 1]
+        lines = whole.splitlines()
+        if len(lines) < len(self.head) and lines == self.head[: len(lines)]:
+            whole, lines = "".join(line + "\n" for line in self.head), self.head
+        if whole != text:
+            with open(self.path, "w", encoding="utf-8") as file:
+                file.write(whole)
         if lines[: len(self.head)] != self.head:
             raise OtherHunt("%s is of a hunt with other words or other modules; name another --folder" % self.path)
         for line in lines[len(self.head) :]:
-            word, seed, *why = line.split(" ", 2)
-            if word == "hit":
-                self.hits[int(seed)] = why[0]
-            else:
-                self.next = int(seed) + 1
+            self.take(line)
+
+    def take(self, line):
+        found = LINE.fullmatch(line)
+        if not found:
+            raise OtherHunt("%s has a line that no hunt has written: %s" % (self.path, ascii(line[:60])))
+        if found[1]:
+            self.next = int(found[1]) + 1
+        else:
+            self.hits[int(found[2])] = found[3]
 
     def write(self, lines):
         with open(self.path, "a", encoding="utf-8") as file:

@@ -1,6 +1,7 @@
 """What a script of the debugger says over the recording of a schedule."""
 
 import os
+import re
 import subprocess
 import tempfile
 
@@ -10,6 +11,10 @@ from playing.player import PlayingFailed
 
 # A line that is sent after each line of the script: its answer tells where that line's ends.
 MARK = "4611686018427387903"
+
+
+class BadScript(PlayingFailed):
+    """The debugger refuses a line of the script."""
 
 
 def record(program, folder, text, more=()):
@@ -36,6 +41,8 @@ def hit_by_script(group, script, items):
         typed = "".join(line + "\n" for line in lines)
         done = subprocess.run([group.program, "debug", *pairs], cwd=folder, input=typed, stdout=subprocess.PIPE, text=True, encoding="latin-1")
         for line, answer in zip(script, done.stdout.partition("\n")[2].split(MARK + "\n")):
+            if re.fullmatch(r"\? \d.*\n", answer):
+                raise BadScript("the script's line %s: %s" % (line, answer.rstrip("\n")))
             said = says(line, answer.splitlines())
             if said:
                 logs = {name: read_log(os.path.join(folder, name + ".log")) for name in group.names}

@@ -5,7 +5,7 @@ from __future__ import annotations
 import copy
 from dataclasses import dataclass
 
-from hunting.scripts import hit_by_script
+from hunting.scripts import BadScript, hit_by_script
 from hunting.wanted import hit_by_end
 from hunting.watching import Watching
 from playing.player import PlayingFailed
@@ -41,6 +41,8 @@ class Seeker:
             maker = Maker(self.settings, playing)
             maker.make()
             hit = self.hit(maker)
+        except BadScript:
+            raise
         except PlayingFailed as failed:
             self.player.restart()
             return Tried(seed, playing.known.events, failed=str(failed))

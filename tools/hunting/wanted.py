@@ -13,11 +13,13 @@ END = re.compile(r"(failed|running|finished|killed|trapped( [a-z ]+)?|exited( -?
 
 @dataclass(frozen=True)
 class Hit:
-    """Why a seed counts, and the event with which it does: the process, and the number of the event in it."""
+    """Why a seed counts, and the event with which it does: the process, and the number of the event in it; and the expression that
+    held then, if it was one."""
 
     why: str
     process: int
     event: int
+    expression: str = ""
 
 
 @dataclass(frozen=True)

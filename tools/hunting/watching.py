@@ -44,11 +44,12 @@ class Watching(Playing):
 
     def look(self, line, values):
         """Whether an expression is a number other than 0 after an event."""
-        for (text, _), value in zip(self.never, values):
+        for (text, expression), value in zip(self.never, values):
             if value not in ("0", "undef") and not self.hit:
                 number = int(line.split(" ")[1])
                 process = self.known.processes[number]
-                self.hit = Hit("%s is %s after event %d of %s" % (text, value, process.events, process.name), number, process.events)
+                why = "%s is %s after event %d of %s" % (text, value, process.events, process.name)
+                self.hit = Hit(why, number, process.events, expression)
 
 
 def tries_of(line):

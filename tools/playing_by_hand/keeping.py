@@ -25,7 +25,7 @@ def text_of(session, folder=None):
 
 def save(session, path):
     """Writes the schedule so far. A file that this session has not written stays as it is."""
-    if not path:
+    if not path or "\0" in path:
         raise Refusal("a file's name is missing")
     text = text_of(session)
     with open(path, "w" if os.path.realpath(path) in session.saved else "x", encoding="ascii") as file:
@@ -36,7 +36,7 @@ def save(session, path):
 
 def record(session, folder):
     """Records the schedule so far in a folder that is made for it, and opens the debugger there."""
-    folder = folder or "played"
+    folder = folder.replace("\0", "") or "played"
     os.mkdir(folder)
     with open(os.path.join(folder, "schedule"), "w", encoding="ascii") as file:
         file.write(text_of(session, folder))

@@ -64,6 +64,9 @@ class Session:
             self.refuse("? %s" % refusal)
         except OSError as error:
             self.refuse("? %s: %s" % (error.filename, error.strerror))
+        except PlayingFailed as failed:
+            self.refuse("? %s" % failed)
+            self.give_up()
         except KeyboardInterrupt:
             self.give_up()
 
