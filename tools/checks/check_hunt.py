@@ -76,8 +76,8 @@ def check_wanted(program):
     count = ["--count", "--seeds", "1..12"]
     plain = settled(hunt(program, *count, *RATES))
     assert settled(hunt(program, *count, "--ends", "ping: exited 1", *RATES)) == plain
-    assert settled(hunt(program, *count, "--ends", "exited", "--ends", "trapped", *RATES))[-1] == plain[-1].replace(
-        "%d hits" % (len(plain) - 1), "%s hits" % settled(hunt(program, *count, "--ends", "exited", *RATES))[-1].split(" ")[-2])
+    more = settled(hunt(program, *count, "--ends", "exited", "--ends", "trapped", *RATES))
+    assert set(plain[:-1]) <= set(more), (plain, more)
     hunt(program, *count, "--ends", "pong: trapped", *RATES, wanted=1)
     never = settled(hunt(program, *count, "--never", "@ping.events > 7", *RATES))
     assert re.fullmatch(r"seed \d+: @ping.events > 7 is 1 after event 8 of ping", never[0]), never

@@ -85,6 +85,7 @@ class Hunt:
             keep(folder, self.group, self.words_of(tried.seed), tried)
             self.show("    it is in %s" % folder)
             self.progress.note_hit(tried.seed, tried.hit.why)
+            self.progress.note_through(tried.seed)
 
     def show(self, line):
         if sys.stderr.isatty():
@@ -107,8 +108,10 @@ class Hunt:
     def tell(self):
         count, seconds = self.next - self.began_at, time.monotonic() - self.began
         failed = ", %d could not be tried" % self.failed if self.failed else ""
-        self.show("seeds %d to %d: %d events, %d hits%s" % (self.first, self.next - 1, self.events, len(self.hits), failed))
+        hits = "%d hit%s" % (len(self.hits), "" if len(self.hits) == 1 else "s")
+        self.show("seeds %d to %d: %d events, %s%s" % (self.first, self.next - 1, self.events, hits, failed))
         if count:
-            self.show("%.1f s, %.0f seeds a minute with %d jobs" % (seconds, count * 60 / seconds, self.chosen.jobs))
+            jobs = "%d job%s" % (self.chosen.jobs, "" if self.chosen.jobs == 1 else "s")
+            self.show("%.1f s, %.0f seeds a minute with %s" % (seconds, count * 60 / seconds, jobs))
         if self.is_stopped:
             self.show("stopped; the same words go on from seed %d" % self.next if self.progress else "stopped; go on with --seeds %d.." % self.next)
