@@ -30,7 +30,7 @@ def arguments():
     parser.add_argument("--seed", type=int, default=1)
     parser.add_argument("--program", help="the program friday, if not the one that answers ./friday")
     parser.add_argument("--output", required=True, help="the file for the schedule")
-    refuse_unknown(parser, sys.argv[1:])
+    refuse_unknown(parser, sys.argv[1:], ("--seed", "--program", "--output"))
     settings = parser.parse_args()
     refuse_group(parser, settings.processes)
     refuse_over_module(parser, settings.processes, settings.output)

@@ -34,8 +34,8 @@ class Maker:
         self.items, self.acted, self.idle = [], 0, 0
         # How many rounds there are so far, and why there is no further one while processes run.
         self.turn, self.why = 0, ""
-        # Whether a thread may wait for a wall time, as far as is known.
-        self.may_sleep = True
+        # Whether the last round did and said nothing, and whether a thread waits for a wall time, where that is known.
+        self.was_quiet, self.sleeping = False, None
 
     def make(self):
         """Makes rounds until no process runs, until nothing can happen any more, or until a bound is reached."""
@@ -67,8 +67,9 @@ class Maker:
         kept = outside + told + [run_line(*run) for run in runs]
         self.acted += sum(acted for acted, _ in counts[: len(given)]) + len(told) + sum(count for _, _, count in runs)
         self.idle += sum(idle for _, idle in counts[: len(given)])
-        self.may_sleep = self.may_sleep or bool(runs)
         self.was_quiet = not kept
+        if runs:
+            self.sleeping = None
         if kept:
             self.items += ["", "# round %d" % self.turn] + kept
 
@@ -128,8 +129,9 @@ class Maker:
         drawn = (settings.partition, settings.inject, settings.kill, *(rate for _, rate in settings.signals))
         if not self.was_quiet or any(drawn) or self.network.due or any(self.turn < process.stalled_until for process in self.running()):
             return False
-        self.may_sleep = self.may_sleep and self.sleeps()
-        return not self.may_sleep
+        if self.sleeping is None:
+            self.sleeping = self.sleeps()
+        return not self.sleeping or not (settings.tick or settings.clock_step)
 
     def sleeps(self):
         """Whether a thread waits for a wall time."""

@@ -85,9 +85,9 @@ def add_drawn(parser):
                         "priority (uniform if not given)")
 
 
-def refuse_unknown(parser, words):
-    """Names a rate or bound that there is none of, which argparse would tell of as of a process."""
-    known = {option for action in parser._actions for option in action.option_strings}
+def refuse_unknown(parser, words, own):
+    """Names an option that there is none of, which argparse would tell of as of a process; `own` are those of the tool itself."""
+    known = ("--help", "--signal", "--order", *("--" + row[0] for row in RATES + COUNTS), *own)
     for word in words:
         if word.startswith("--") and word.split("=")[0] not in known:
             parser.error("there is no %s" % word.split("=")[0])
