@@ -118,7 +118,7 @@ def check_kept(program, folder):
 
 def check_stopped(program):
     """Stopped by a Ctrl-C or killed, the hunt goes on by the same words, to what one call finds."""
-    words = ["--all", "--seeds", "1..60", *RATES]
+    words = ["--all", "--seeds", "1..30", *RATES]
     whole = settled(hunt(program, "--folder", "whole", *words))
     for kind in (signal.SIGINT, signal.SIGKILL):
         folder = "stopped%d" % kind
@@ -127,10 +127,10 @@ def check_stopped(program):
         wait_for(lambda: os.path.isdir(folder) and any(name.startswith("seed") and name[4:].isdigit() for name in os.listdir(folder)))
         run.send_signal(kind)
         told = run.communicate(timeout=60)[0]
-        assert kind != signal.SIGINT or "the same words go on from seed " in told or "seeds 1 to 60: " in told, told
+        assert kind != signal.SIGINT or "the same words go on from seed " in told or "seeds 1 to 30: " in told, told
         again = settled(hunt(program, "--jobs", "2", "--folder", folder, *words))
         seeds = [sorted(int(found) for found in re.findall(r"^seed (\d+):", "\n".join(lines), re.M)) for lines in (whole, again)]
-        assert seeds[0] == seeds[1] and again[-1].startswith("seeds 1 to 60: "), (whole, again)
+        assert seeds[0] == seeds[1] and again[-1].startswith("seeds 1 to 30: "), (whole, again)
         kept = [name for name in files_of(folder) if not name.startswith((".making-", "seeds-"))]
         assert kept == [name for name in files_of("whole") if not name.startswith("seeds-")], kept
 

@@ -114,7 +114,8 @@ def check_refused(program):
     with open("bad", "wb") as file:
         file.write(bytes(range(256)) * 9)
     assert "bad is no schedule" in play(program, "", "bad", wanted=1)
-    for line in ("\x00", "run 0 0 \x00", "p \"", "u x", "d d d", "follow", "follow -1", "again x", "undo x", "save \x00", "record \x00", "x" * 200000):
+    for line in ("\x00", "run 0 0 \x00", "p \"", "u x", "d d d", "follow", "follow -1", "again x", "undo x", "save \x00", "record \x00", "x" * 200000, "clock ping " + "0" * 9000 + "5",
+                 "run ping " + "0" * 9000 + " 1", "run " + "0" * 9000, "undo " + "9" * 9000, "inject ping 0", "deliver ping " + "9" * 9000):
         assert "Traceback" not in subprocess.run([os.path.join(TOOLS, "play"), "--program", program, "ping=ping.wasm"], input=line + "\nps\n", stdout=subprocess.PIPE,
                                                  stderr=subprocess.STDOUT, text=True, timeout=60).stdout, line
 

@@ -26,8 +26,13 @@ OWN = {b"processes": (), b"again": (), b"quit": (), b"datagram": ("process", "fr
 OF_DEBUGGER = (b"print", b"mem", b"threads")
 
 
+def number_of(digits):
+    """The number that digits are; there may be more zeros in front than Python takes, and of others more than any number has."""
+    return int(digits.lstrip(b"0")[:40] or b"0")
+
+
 def number_in(word, least, most):
-    return re.fullmatch(rb"[0-9]+", word) is not None and least <= int(word) <= most
+    return re.fullmatch(rb"[0-9]+", word) is not None and least <= number_of(word) <= most
 
 
 def is_item(fields, count):
@@ -42,7 +47,8 @@ def is_value(kind, value, count):
     if kind == "hex":
         return value == b"-" or re.fullmatch(rb"([0-9a-fA-F]{2})+", value) is not None
     if kind == "signed":
-        return re.fullmatch(rb"-?[0-9]+", value) is not None and -(2**63) <= int(value) < 2**63
+        found = re.fullmatch(rb"(-?)([0-9]+)", value)
+        return found is not None and number_of(found[2]) < 2**63 + (found[1] == b"-")
     return number_in(value, kind[0], count - 1 if kind[1] is None else kind[1])
 
 
@@ -107,10 +113,10 @@ class Play:
     def item(self, line, fields):
         if not is_item(fields, len(self.processes)):
             return ["? 10 bad item"]
-        tries = int(fields[3]) if fields[0] == b"run" and len(fields) > 3 else 1
+        tries = number_of(fields[3]) if fields[0] == b"run" and len(fields) > 3 else 1
         if self.now.acted + self.now.idle + tries > MOST_TRIES:
             return ["? 11 too many tries"]
-        before, process = self.now, int(fields[1])
+        before, process = self.now, number_of(fields[1])
         self.items.append(line)
         self.now = self.recorded(self.items)
         old, new = before.events(), self.now.events()

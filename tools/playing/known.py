@@ -51,15 +51,15 @@ class Known:
         words = line.split()
         if words[0] == "run" or not answer[-1].startswith("1 acted"):
             return
-        process = self.processes[int(words[1])]
+        process = self.processes[number_of(words[1])]
         if words[0] == "clock":
-            process.wall_time = int(words[2])
+            process.wall_time = number_of(words[2])
         elif words[0] == "random":
             process.pool += 0 if words[2] == "-" else len(words[2]) // 2
         elif words[0] == "inject":
             self.inject(process, bytes.fromhex(words[2].replace("-", "")))
         elif words[0] == "deliver":
-            datagram = process.sent[int(words[2]) - 1]
+            datagram = process.sent[number_of(words[2]) - 1]
             self.processes[datagram.receiver].mailbox.append(datagram)
             self.count_delivery(datagram)
 
@@ -129,3 +129,9 @@ NOTED = {
     "lock": Known.note_lock,
     "unlock": Known.note_unlock,
 }
+
+
+def number_of(word):
+    """The number of a field, which may have more zeros in front than Python takes."""
+    number = int(word.lstrip("-").lstrip("0") or "0")
+    return -number if word.startswith("-") else number

@@ -7,6 +7,7 @@ from dataclasses import dataclass
 from by_hand.names import Refusal
 from logs.format import BadLog, in_group_order, read_log
 from playing.player import PlayingFailed
+from playing_by_hand.items import count_of
 
 LOST = re.compile(r"# the datagram (\d+) of (\w+) to \w+ is lost")
 
@@ -63,7 +64,7 @@ def begin(session, steps, until):
 
 def follow(session, rest):
     """Plays the next events of the recording, without the datagrams that were lost since."""
-    count = int(rest) if rest.isdecimal() else 1 if not rest else 0
+    count = count_of(rest)
     chosen = session.steps[session.followed : session.followed + count]
     if not chosen:
         raise Refusal("follow wants how many events, and %d of the recording are left" % (len(session.steps) - session.followed))

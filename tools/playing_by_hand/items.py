@@ -17,9 +17,16 @@ def numbered(names, node):
     """The number of a process, which may be typed as its name."""
     if node in names:
         return str(names.index(node))
-    if node.isdecimal() and int(node) < len(names):
-        return str(int(node))
+    if node in map(str, range(len(names))):
+        return node
     raise Refusal("the processes are %s" % ", ".join(names))
+
+
+def count_of(rest):
+    """How many are meant: 1 where nothing is said, and 0 where it is no number."""
+    if not rest:
+        return 1
+    return int(rest) if rest.isdecimal() and len(rest) < 10 else 0
 
 
 def item_of(known, names, word, rest):

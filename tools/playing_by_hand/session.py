@@ -4,10 +4,11 @@ import re
 from dataclasses import dataclass
 
 from by_hand.names import Refusal
+from playing.known import number_of
 from playing.player import ITEMS, PlayingFailed, counts_of
 from playing.playing import Playing
 from playing_by_hand import following, keeping, looking
-from playing_by_hand.items import USAGE, item_of, numbered
+from playing_by_hand.items import USAGE, count_of, item_of
 from playing_by_hand.told import Told, in_words
 from playing_by_hand.words import HELP, expanded
 from schedules.waiting import wait_of
@@ -99,7 +100,7 @@ class Session:
         if answer and answer[-1].endswith(" 0 idle"):
             return
         if answer and line.startswith("run "):
-            self.show_why(*map(int, line.split(" ")[1:3]))
+            self.show_why(*map(number_of, line.split(" ")[1:3]))
 
     def play(self, line, shows_counts=True):
         """Plays an item, keeps it and shows what it did; its answer, which is empty where it was refused."""
@@ -163,7 +164,7 @@ class Session:
 
     def undo(self, rest):
         """Takes back what the last line that was typed did, or the last N."""
-        count = int(rest) if rest.isdecimal() else 1 if not rest else 0
+        count = count_of(rest)
         typed = sorted({line.typed for line in self.lines})
         if count < 1 or not typed:
             raise Refusal("undo wants how many lines, and there are %d to take back" % len(typed))
