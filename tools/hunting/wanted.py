@@ -5,8 +5,9 @@ from __future__ import annotations
 import re
 from dataclasses import dataclass
 
-from by_hand.names import Refusal
 from playing_by_hand.names import NamesOfGroup
+from sessions.names import Refusal
+from sessions.points import ignored
 
 END = re.compile(r"(failed|running|finished|killed|trapped( [a-z ]+)?|exited( -?\d+)?)")
 
@@ -34,13 +35,13 @@ class Wanted:
 
 def wanted_of(chosen, names):
     """What the words of the command ask for; a process that fails where they ask for nothing."""
-    told = NamesOfGroup(chosen.processes, print)
+    names_of_group = NamesOfGroup(chosen.processes, print if chosen.never or chosen.script else ignored)
     ends = [end_of(text, names) for text in chosen.ends]
-    never = [(text, told.line(text)) for text in chosen.never]
+    never = [(text, names_of_group.line(text)) for text in chosen.never]
     script = []
     if chosen.script is not None:
         with open(chosen.script, encoding="latin-1") as file:
-            script = [told.script.line(line) for line in file.read().splitlines()]
+            script = [names_of_group.line(line) for line in file.read().splitlines()]
     if not (ends or never or chosen.script is not None):
         ends = [("", "failed")]
     return Wanted(ends, never, script)

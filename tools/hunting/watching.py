@@ -19,7 +19,7 @@ class Watching(Playing):
             return super().items(lines, with_ends)
         parts = [tries_of(line) for line in lines]
         asked = [each for tries in parts for line in tries for each in (line, *self.asked_after(line))]
-        answers = iter(self.player.ask([*asked, "processes"] if with_ends else asked))
+        answers = iter(self.player.answers([*asked, "processes"] if with_ends else asked))
         counts = [self.take(tries, answers) for tries in parts]
         if with_ends:
             self.known.tell_ends(next(answers))

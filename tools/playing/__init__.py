@@ -1,1 +1,1 @@
-"""A group that is played: one `friday play`, line by line, and what its events tell."""
+"""A group that is played: one `friday play`, and what its events tell."""

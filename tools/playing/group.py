@@ -11,9 +11,11 @@ ASKED = ("now", "sleep_until", "random")
 
 
 class Group:
-    def __init__(self, program, processes, items=()):
+    def __init__(self, program, processes):
+        """`processes` are pairs of a name and a module."""
         self.program, self.processes = os.path.abspath(program), processes
-        self.lines = ["friday 1", *("process %s %s" % pair for pair in processes), *items]
+        self.names = [name for name, _ in processes]
+        self.lines = ["friday 1", *("process %s %s" % pair for pair in processes)]
         imported = {}
         for _, module in processes:
             if module not in imported:
@@ -29,10 +31,6 @@ class Group:
 
     def __exit__(self, *_):
         shutil.rmtree(self.folder)
-
-    @property
-    def names(self):
-        return [name for name, _ in self.processes]
 
     def imports(self, process, call):
         """Whether the module names this call of the library, as an import spells it."""

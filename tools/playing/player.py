@@ -1,64 +1,49 @@
-"""One `friday play`: lines go to it, and the lines of their answers come back."""
+"""One `friday play` of a schedule."""
 
-import random
 import re
-import subprocess
+
+from asking.conversation import Conversation, in_parts
 
 ITEMS = frozenset(("run", "deliver", "inject", "clock", "random", "signal", "kill"))
 COUNTS = re.compile(r"(\d+) acted, (\d+) idle")
-# So many bytes are written before their answers are read: more might fill both pipes.
-MOST_AT_ONCE = 32768
+# So many bytes of a line are told where it is refused.
+MOST_TOLD = 100
 
 
 class PlayingFailed(Exception):
     """The program refused the schedule, a module or a line, a log is full, or it has ended."""
 
 
-class Player:
+class Player(Conversation):
     def __init__(self, program, schedule, count):
-        self.program, self.schedule, self.count = program, schedule, count
-        self.begin()
+        """`count` is how many processes the schedule has."""
+        self.count = count
+        super().__init__([program, "play", schedule])
 
     def begin(self):
-        # In a session of its own, the terminal's Ctrl-C does not come to it.
-        pipes = {"stdin": subprocess.PIPE, "stdout": subprocess.PIPE, "start_new_session": True}
-        self.run = subprocess.Popen([self.program, "play", self.schedule], **pipes)
-        self.first = self.run.stdout.readline().decode("latin-1").rstrip("\n")
-        if not self.first.startswith("items: "):
-            status = self.end()
-            raise PlayingFailed(self.first or "the playing ended with status %d" % status)
+        first = super().begin()
+        if not first.startswith("items: "):
+            failed = self.ended()
+            raise PlayingFailed(first) if first else failed
+        return first
 
-    def write(self, lines):
-        try:
-            self.run.stdin.write(("\n".join(lines) + "\n").encode("latin-1", "replace"))
-            self.run.stdin.flush()
-        except OSError:
-            raise PlayingFailed("the playing ended with status %d" % self.end()) from None
+    def ended(self):
+        return PlayingFailed("the playing ended with status %d" % self.end())
 
-    def line(self):
-        text = self.run.stdout.readline()
-        if not text:
-            raise PlayingFailed("the playing ended with status %d" % self.end())
-        return text.decode("latin-1").rstrip("\n")
-
-    def ask(self, lines):
-        """The answers of lines, each a list. The lines are items, and those that have one line for an answer, or `processes`."""
-        answers, at = [], 0
-        while at < len(lines):
-            size, end = len(lines[at]), at + 1
-            while end < len(lines) and size + len(lines[end]) < MOST_AT_ONCE:
-                size += len(lines[end]) + 1
-                end += 1
-            self.write(lines[at:end])
-            answers += [self.answer(line) for line in lines[at:end]]
-            at = end
+    def answers(self, lines):
+        """The answers of lines, each a list. The lines are items, lines that have one line for an answer, and `processes`."""
+        answers = []
+        for part in in_parts(lines):
+            self.write(part)
+            answers += [self.answer(line) for line in part]
         return answers
 
     def answer(self, line):
+        """The answer of a line that has to be accepted."""
         told = [self.line()]
         word = line.split(" ", 1)[0]
         if told[0].startswith("? "):
-            raise PlayingFailed("%s: %s" % (line if len(line) < 100 else line[:100] + "..", told[0]))
+            raise PlayingFailed("%s: %s" % (line if len(line) <= MOST_TOLD else line[:MOST_TOLD] + "..", told[0]))
         if word in ITEMS:
             while " acted, " not in told[-1]:
                 if told[-1].startswith("full "):
@@ -70,33 +55,7 @@ class Player:
 
     def again(self):
         """Goes back to where the items of the schedule's file end."""
-        self.write(["again"])
-        return self.line()
-
-    def ask_any(self, line):
-        """The lines of the answer to any line, as they come. The answer of a last line, a number drawn for it, tells where they end."""
-        mark = str(random.getrandbits(62))
-        self.write([line, "print " + mark])
-        while True:
-            told = self.line()
-            if told == mark:
-                return
-            yield told
-
-    def restart(self):
-        """Ends what the program is at, and begins again."""
-        self.run.kill()
-        self.end()
-        self.begin()
-
-    def end(self):
-        """Ends the playing, and gives the program's status."""
-        try:
-            self.run.stdin.close()
-        except OSError:
-            pass
-        self.run.stdout.close()
-        return self.run.wait()
+        return self.ask_each(["again"])[0]
 
 
 def counts_of(answer):

@@ -4,21 +4,22 @@ import re
 import subprocess
 from dataclasses import dataclass
 
-from by_hand.names import Refusal
 from logs.format import BadLog, in_group_order, read_log
 from playing.player import PlayingFailed
 from playing_by_hand.items import count_of
+from sessions.names import Refusal
 
 LOST = re.compile(r"# the datagram (\d+) of (\w+) to \w+ is lost")
 
 
 @dataclass(frozen=True)
 class Step:
-    """What `friday schedule` makes of an event: its items, and the event; and the number of the datagram that it took, by its
-    sender, if it was one of the group."""
+    """What `friday schedule` makes of an event: its items, the event and its process; and of a datagram of the group that it took,
+    the sender and the number, or None."""
 
     items: list
     event: str
+    process: int
     taken: tuple
 
 
@@ -32,7 +33,7 @@ def steps_of(program, pairs):
     try:
         order = in_group_order([read_log(log) for log in pairs[1::2]])
     except BadLog as bad:
-        raise PlayingFailed("%s is no log" % bad) from None
+        raise PlayingFailed(str(bad)) from None
     return processes, list(steps(lines[1 + len(processes) :], order, len(processes)))
 
 
@@ -48,7 +49,7 @@ def steps(lines, order, count):
                 sent[log.process] += 1
                 numbers[log.process, entry.clock] = sent[log.process]
             taken = (entry.tag[0], numbers[entry.tag]) if entry.tag in numbers else None
-            yield Step(items, entry.text(log.name), taken)
+            yield Step(items, entry.text(log.name), log.process, taken)
             items = []
 
 
@@ -62,7 +63,7 @@ def begin(session, steps, until):
     session.print("What had been delivered and was not taken yet is under way again, and no random bytes wait.")
 
 
-def follow(session, rest):
+def follow(session, rest, form):
     """Plays the next events of the recording, without the datagrams that were lost since."""
     count = count_of(rest)
     chosen = session.steps[session.followed : session.followed + count]
@@ -70,13 +71,13 @@ def follow(session, rest):
         raise Refusal("follow wants how many events, and %d of the recording are left" % (len(session.steps) - session.followed))
     as_recorded = 0
     for step in chosen:
-        before = session.known.events
         event = follow_step(session, step)
         session.followed += 1
         as_recorded += without_clock(event) == without_clock(step.event)
-        if session.known.events == before:
+        if not event:
             session.print("nothing, in place of " + step.event)
-    session.print("%d of %d events as they were recorded, and %d of the recording are left" % (as_recorded, len(chosen), len(session.steps) - session.followed))
+    left = len(session.steps) - session.followed
+    session.print("%d of %d events as they were recorded, and %d of the recording are left" % (as_recorded, len(chosen), left))
 
 
 def follow_step(session, step):
@@ -84,39 +85,33 @@ def follow_step(session, step):
     event = ""
     for item in step.items:
         if step.taken is not None and item.startswith("inject "):
-            item = delivery(session, step.taken)
+            item = delivery(session, step)
             if item is None:
                 continue
-        is_run = item.startswith("run ")
         answer = session.play(item, shows_counts=False)
-        event = answer[0] if is_run and len(answer) > 1 else event
+        if item.startswith("run ") and len(answer) > 1:
+            event = answer[0]
     return event
 
 
-def delivery(session, taken):
-    """The line that delivers this datagram; None where it is lost, or was not sent this time."""
-    sender, number = taken
-    name = session.group.names[sender]
-    if taken in session.known.lost:
-        session.print("the datagram %d of %s is lost" % (number, name))
-        return None
-    if number > len(session.known.processes[sender].sent):
-        session.print("the datagram %d of %s was not sent" % (number, name))
-        return None
-    return "deliver %d %d" % (sender, number)
+def delivery(session, step):
+    """The line that delivers the datagram that this step took; None if it is lost, or is not the same this time."""
+    sender, number = step.taken
+    names, sent = session.group.names, session.known.processes[sender].sent
+    told = "the datagram %d of %s" % (number, names[sender])
+    if step.taken in session.known.lost:
+        session.print(told + " is lost")
+    elif number > len(sent):
+        session.print(told + " was not sent")
+    elif sent[number - 1].receiver != step.process:
+        session.print(told + " is for %s this time" % names[sent[number - 1].receiver])
+    else:
+        return "deliver %d %d" % (sender, number)
+    return None
 
 
 def without_clock(event):
     return event.partition(" ")[2]
-
-
-def again(session, rest):
-    """Takes back all that was typed."""
-    typed = [line for line in session.lines if line.typed > 0]
-    session.lines = [line for line in session.lines if line.typed <= 0]
-    session.followed = typed[0].followed if typed else session.followed
-    session.rebuild()
-    session.print("back at %d events" % session.known.events)
 
 
 def lost_line(names, datagram):

@@ -1,6 +1,6 @@
 """Items as they are typed: with names of processes in place of numbers."""
 
-from by_hand.names import Refusal
+from sessions.names import Refusal
 
 USAGE = {
     "run": "run NODE [THREAD] [N]",

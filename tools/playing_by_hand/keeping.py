@@ -2,49 +2,58 @@
 
 import os
 import re
+import shlex
 import subprocess
 import sys
 
-from by_hand.names import Refusal
 from playing_by_hand.items import without_idle
+from sessions.names import Refusal
 
 TOOLS = os.path.dirname(os.path.dirname(os.path.realpath(__file__)))
 MODULE = re.compile("[!-~]{1,255}")
 
 
-def text_of(session, folder=None):
-    """The schedule so far, with the modules as they are seen from a folder, or from the present one as they were named."""
-    lines = ["friday 1"]
-    for name, module in session.group.processes:
-        path = module if folder is None else os.path.relpath(module, folder)
-        if not MODULE.fullmatch(path):
-            raise Refusal("no schedule can name the module %s" % path)
-        lines.append("process %s %s" % (name, path))
-    return "".join(line + "\n" for line in lines + without_idle(session.pairs()))
+def text_of(session, modules):
+    """The schedule so far, with its modules by these names."""
+    for module in modules:
+        if not MODULE.fullmatch(module):
+            raise Refusal("no schedule can name the module %s" % module)
+    processes = ["process %s %s" % pair for pair in zip(session.group.names, modules)]
+    return "".join(line + "\n" for line in ["friday 1", *processes, *without_idle(session.pairs())])
 
 
-def save(session, path):
+def save(session, rest, form):
     """Writes the schedule so far. A file that this session has not written stays as it is."""
-    if not path or "\0" in path:
+    if not rest:
         raise Refusal("a file's name is missing")
-    text = text_of(session)
-    with open(path, "w" if os.path.realpath(path) in session.saved else "x", encoding="ascii") as file:
+    text = text_of(session, [module for _, module in session.group.processes])
+    with open(rest, "w" if os.path.realpath(rest) in session.saved else "x", encoding="ascii") as file:
         file.write(text)
-    session.saved.add(os.path.realpath(path))
-    session.print("%d lines in %s" % (text.count("\n"), path))
+    session.saved.add(os.path.realpath(rest))
+    session.print("%d lines in %s" % (text.count("\n"), rest))
 
 
-def record(session, folder):
+def record(session, rest, form):
     """Records the schedule so far in a folder that is made for it, and opens the debugger there."""
-    folder = folder.replace("\0", "") or "played"
+    folder, program = rest or "played", session.group.program
+    modules = [seen_from(folder, module) for _, module in session.group.processes]
+    text = text_of(session, modules)
     os.mkdir(folder)
     with open(os.path.join(folder, "schedule"), "w", encoding="ascii") as file:
-        file.write(text_of(session, folder))
-    done = subprocess.run([session.group.program, "record", "schedule"], cwd=folder, stdout=subprocess.PIPE, text=True)
+        file.write(text)
+    done = subprocess.run([program, "record", "schedule"], cwd=folder, stdout=subprocess.PIPE, text=True)
     session.print(done.stdout.rstrip("\n"))
-    pairs = [word for name, module in session.group.processes for word in (os.path.relpath(module, folder), name + ".log")]
-    session.print("recorded in %s; to open it: cd %s && %s %s" % (folder, folder, os.path.join(TOOLS, "session"), " ".join(pairs)))
-    if done.returncode == 0 and session.is_by_hand:
-        words = [sys.executable, os.path.join(TOOLS, "session"), "--program", session.group.program, *pairs]
-        subprocess.run(words, cwd=folder)
+    if done.returncode:
+        raise Refusal("the recording ended with status %d" % done.returncode)
+    pairs = [word for name, module in zip(session.group.names, modules) for word in (module, name + ".log")]
+    opens = [os.path.join(TOOLS, "session"), *pairs]
+    session.print("recorded in %s; to open it: cd %s && %s" % (folder, shlex.quote(folder), " ".join(map(shlex.quote, opens))))
+    if session.is_by_hand:
+        subprocess.run([sys.executable, opens[0], "--program", program, *pairs], cwd=folder)
         session.print("back to playing")
+
+
+def seen_from(folder, module):
+    """The path of a module from a folder, past links to folders."""
+    path = os.path.join(os.path.realpath(os.path.dirname(module)), os.path.basename(module))
+    return os.path.relpath(path, os.path.realpath(folder))

@@ -1,12 +1,11 @@
-"""Lines that show something: what is under way, how processes and threads are, values, and the schedule so far."""
+"""Lines that show something: what is under way, how processes and threads are, and the schedule so far."""
 
-from by_hand.values import expressions, leaves, spelled
 from logs.wording import shown
 from playing_by_hand.items import numbered, without_idle
-from playing_by_hand.told import origin, payload
+from playing_by_hand.told import origin, payload, printed_by
 
 
-def show_under_way(session, rest):
+def show_under_way(session, rest, form):
     """Who sent what to whom and was not delivered, and what waits to be taken."""
     names, player = session.group.names, session.player
     waiting = session.known.under_way()
@@ -20,39 +19,27 @@ def show_under_way(session, rest):
         session.print("nothing is under way")
 
 
-def show_processes(session, rest):
+def show_processes(session, rest, form):
     session.send("processes")
 
 
-def show_threads(session, rest):
+def show_threads(session, rest, form):
     for node in rest.split() or session.group.names:
         session.send("threads " + node)
 
 
-def show_datagram(session, rest):
+def show_datagram(session, rest, form):
     words = rest.split() or [""]
     session.send(" ".join(["datagram", numbered(session.group.names, words[0]), *words[1:]]))
 
 
-def show_printed(session, rest):
-    """What a process has printed, as text where it is text."""
-    node = session.group.names[int(numbered(session.group.names, rest.split(" ")[0]))]
-    [[answer]] = session.player.ask(["printed %s 0" % node])
-    session.print(shown(bytes.fromhex(answer.lstrip("-"))))
+def show_printed(session, rest, form):
+    """What a process has printed, as text if it is text."""
+    number = int(numbered(session.group.names, rest.partition(" ")[0]))
+    session.print(shown(printed_by(session.player, session.group.names[number], 0)))
 
 
-def show_value(session, rest):
-    """A variable as a whole, or the value of an expression."""
-    place = session.names.place(rest)
-    if place is None:
-        session.send("print " + session.names.line(rest))
-        return
-    tree = leaves(place)
-    answers = session.player.ask(["print " + text for text in expressions(tree)])
-    session.print(spelled(tree, iter(answer[0] for answer in answers), ""))
-
-
-def show_schedule(session, rest):
+def show_schedule(session, rest, form):
     """The items so far, as `save` writes them."""
     for line in without_idle(session.pairs()):
         session.print(line)

@@ -14,8 +14,8 @@ class Told(Known):
         super().__init__(names)
         # The events since this was emptied last, each with a word for what it did and what that is about, or None.
         self.last_events = []
-        # How many bytes each process has printed, and the datagrams that are given up.
-        self.printed, self.lost = [0] * len(names), set()
+        # How many bytes each process has printed, the datagrams that are given up, and the process of the last event.
+        self.printed, self.lost, self.last_node = [0] * len(names), set(), names[0]
 
     def note(self, event):
         words = event.split(" ")
@@ -32,6 +32,7 @@ class Told(Known):
             did = "printed", (number, self.printed[number], int(words[7]))
             self.printed[number] += int(words[7])
         self.last_events.append((event, did))
+        self.last_node = process.name
 
     def inject(self, process, data):
         """What was injected may be a datagram of the group that comes again, by its tag."""
@@ -58,8 +59,14 @@ def tag_in(data):
 
 
 def payload(player, datagram):
-    [[answer]] = player.ask(["datagram %d %d" % (datagram.sender, datagram.number)])
+    [answer] = player.ask_each(["datagram %d %d" % (datagram.sender, datagram.number)])
     return bytes.fromhex(answer.split(" ")[1])[TAG.size :]
+
+
+def printed_by(player, name, start):
+    """All bytes that a process has printed, from the one of this number on."""
+    [answer] = player.ask_each(["printed %s %d" % (name, start)])
+    return bytes.fromhex(answer.lstrip("-"))
 
 
 def in_words(player, names, did):
@@ -69,8 +76,7 @@ def in_words(player, names, did):
         return "sent to %s: %s" % (names[what.receiver], shown(payload(player, what)))
     if kind == "printed":
         number, before, size = what
-        [[answer]] = player.ask(["printed %s %d" % (names[number], before)])
-        return "printed " + shown(bytes.fromhex(answer)[:size])
+        return "printed " + shown(printed_by(player, names[number], before)[:size])
     return "taken from " + origin(player, names, what)
 
 

@@ -52,5 +52,5 @@ def unsigned(word):
 
 def is_good(playing, process, *ranges):
     """Whether these ranges lie in the memory, and the first is not too long; otherwise the call is answered at once."""
-    size = PAGE * int(playing.value("@%s.size" % process.name))
+    size = PAGE * playing.pages(process.name)
     return unsigned(ranges[0][1]) <= MOST_BYTES and all(unsigned(at) + unsigned(length) <= size for at, length in ranges)
