@@ -1,11 +1,11 @@
 #!/bin/sh
-# The three hunts: puts the places into the debugger's scripts again, makes the schedules again by the words in their first lines, records
+# Three hunts: puts the places into the debugger's scripts again, makes the schedules again by the words in their first lines, records
 # and replays the group of each, lists what its processes printed and noted, and compares all of it with what lies beside
 # the guests. The memories and the prints that a replay comes to have to be those of the recording. Last, the debugger's
 # script is answered over the logs of the failing schedule, and its answers are compared too; and these logs are cut to what
 # one event needs, over which the script is answered up to its first `continue`. The register with many readers is cut in the
-# same way, its cut logs are made a schedule, and that is recorded. Of ENet's hunt the schedules alone are made again here:
-# enet/check.sh does the rest.
+# same way, its cut logs are made a schedule, and that is recorded. Of other examples the schedules alone are made again here: their
+# check.sh does the rest.
 # Usage: check_hunts.sh [PROGRAM]   (the program that answers ./friday, if none is given)
 here=$(CDPATH='' cd -- "$(dirname -- "$0")" && pwd) || exit 1
 . "$here/../tools/usage.sh"
@@ -89,12 +89,13 @@ check_many() {
     diff "$here/register/many.expected" printed && diff "$here/register/many.answers" answers_of_cut && echo "register, many: as expected"
 }
 
-check_schedules_of_enet() {
-    mkdir "$folder/enet" && cd "$folder/enet" && cp "$here"/enet/*.wasm . || return 1
-    for schedule in good failing repaired; do
-        make_again enet "$schedule" || return 1
-    done > printed
-    echo "enet: the schedules as expected"
+# Makes the schedules of an example again: FOLDER SCHEDULE ..
+check_schedules() {
+    example=$1
+    shift
+    mkdir "$folder/$example" && cd "$folder/$example" && cp "$here/$example"/*.wasm . || return 1
+    for schedule; do make_again "$example" "$schedule" || return 1; done > printed
+    echo "$example: the schedules as expected"
 }
 
 status=0
@@ -103,5 +104,8 @@ for words in 'register 4 18' 'election 0 113' 'bank 1 70'; do
     check $words || { echo "${words%% *}: not as expected"; status=1; }
 done
 check_many || { echo "register, many: not as expected"; status=1; }
-check_schedules_of_enet || { echo "enet: the schedules not as expected"; status=1; }
+for words in 'enet good failing repaired' 'cares failing repaired' 'libcoap good failing' 'streams schedule'; do
+    # shellcheck disable=SC2086 # An example and its schedules.
+    check_schedules $words || { echo "${words%% *}: the schedules not as expected"; status=1; }
+done
 exit $status
