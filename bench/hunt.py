@@ -14,7 +14,7 @@ import time
 from costs import TOP, parser_of
 
 TOOLS = os.path.join(TOP, "tools")
-# The hunts, with the schedule whose first line has the rates, and what counts where an exit is not enough.
+# The hunts, with the schedule whose first line has the rates, and what counts if that is more than an exit.
 HUNTS = (("register", "failing", ()), ("bank", "failing", ()), ("enet", "failing", ("--ends", "server: exited 1")), ("election", "failing", ()))
 ORDERS = ("uniform", "priorities:1", "priorities:2", "priorities:3", "priorities:4")
 

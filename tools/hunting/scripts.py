@@ -28,7 +28,7 @@ def record(program, folder, text, more=()):
 
 
 def hit_by_script(group, script, items):
-    """What the first walk says that finds something, and the event at which it ends; nothing where none does."""
+    """What the first walk says that finds something, and the event at which it ends; None if none does."""
     with tempfile.TemporaryDirectory() as folder:
         modules = [os.path.abspath(module) for _, module in group.processes]
         links = ["%d.wasm" % number for number in range(len(modules))]
@@ -59,7 +59,9 @@ def says(line, answer):
 
 
 def event_of(names, logs, position):
-    """The process, by number, and the number of its event, of a line `at K: EVENT`."""
+    """The process, by number, and the number of its event, of a line `at K: EVENT`; the beginning is before the first one's events."""
+    if position == "at 0":
+        return 0, 0
     clock, name = position.partition(": ")[2].split(" ")[:2]
     clocks = [entry.clock for entry in logs[name].entries]
     return names.index(name), clocks.index(int(clock)) + 1

@@ -15,7 +15,7 @@ from schedules.maker import Maker, length_of
 
 @dataclass(frozen=True)
 class Tried:
-    """A seed, how many events its schedule has, the hit and the schedule's items where it is one, and why it could not be tried."""
+    """A seed, how many events its schedule has, the hit and the schedule's items if it is one, and why it could not be tried."""
 
     seed: int
     events: int

@@ -34,7 +34,7 @@ class Wanted:
 
 
 def wanted_of(chosen, names):
-    """What the words of the command ask for; a process that fails where they ask for nothing."""
+    """What the words of the command ask for; a process that fails if they ask for nothing."""
     names_of_group = NamesOfGroup(chosen.processes, print if chosen.never or chosen.script else ignored)
     ends = [end_of(text, names) for text in chosen.ends]
     never = [(text, names_of_group.line(text)) for text in chosen.never]

@@ -6,7 +6,7 @@ from asking.conversation import Conversation, in_parts
 
 ITEMS = frozenset(("run", "deliver", "inject", "clock", "random", "signal", "kill"))
 COUNTS = re.compile(r"(\d+) acted, (\d+) idle")
-# So many bytes of a line are told where it is refused.
+# So many bytes of a line are told if it is refused.
 MOST_TOLD = 100
 
 

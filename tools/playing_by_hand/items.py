@@ -23,7 +23,7 @@ def numbered(names, node):
 
 
 def count_of(rest):
-    """How many are meant: 1 where nothing is said, and 0 where it is no number."""
+    """How many are meant: 1 if nothing is said, and 0 if it is no number."""
     if not rest:
         return 1
     return int(rest) if rest.isdecimal() and len(rest) < 10 else 0

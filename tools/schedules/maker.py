@@ -34,7 +34,7 @@ class Maker:
         self.items, self.acted, self.idle = [], 0, 0
         # How many rounds there are so far, and why there is no further one while processes run.
         self.turn, self.why = 0, ""
-        # Whether the last round did and said nothing, and whether a thread waits for a wall time, where that is known.
+        # Whether the last round did and said nothing, and whether a thread waits for a wall time, or None if that is not known.
         self.was_quiet, self.sleeping = False, None
 
     def make(self):

@@ -36,7 +36,7 @@ class Network:
         return ["# nothing passes between %s and %s" % tuple(parts)]
 
     def send(self, turn, datagram):
-        """Decides what becomes of a datagram, and says so where it is lost."""
+        """Decides what becomes of a datagram, and says so if it is lost."""
         lost, damaged, late, repeated = (
             self.chance.happens(rate)
             for rate in (self.settings.loss, self.settings.damage, self.settings.reorder, self.settings.repeat)
