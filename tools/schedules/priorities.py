@@ -21,44 +21,63 @@ class Priorities:
     def most(self):
         return self.most_in_round
 
-    def priority(self, run):
-        if run not in self.priorities:
-            self.priorities[run] = self.chance.draw()
-        return self.priorities[run]
+    def priority(self, thread):
+        if thread not in self.priorities:
+            self.priorities[thread] = self.chance.draw()
+        return self.priorities[thread]
 
     def play(self, playing, lines, tries):
-        """Plays a round: these lines, and then tries, each a process, a thread and a most. What the lines did, and what acted."""
-        counts, runs = playing.items(lines), []
-        left = {(process, thread): most for process, thread, most in tries}
-        # The threads whose call was not answered, and those that have gone on since they were tried first.
-        waiting, went_on = set(), set()
-        while True:
-            ready = [run for run in left if run not in waiting and left[run]]
-            if not ready:
-                break
-            run = max(ready, key=self.priority)
-            [(acted, _)] = playing.items([run_line(*run, 1)])
+        """Plays a round: these lines, and then tries, each a process, a thread and a most. What the lines did, and the tries that acted."""
+        counts, turn = playing.items(lines), Round(tries)
+        ready = turn.ready()
+        while ready:
+            thread = max(ready, key=self.priority)
+            [(acted, _)] = playing.items([run_line(*thread, 1)])
             if acted:
-                went_on.add(run)
-                left[run] -= 1
-                self.note(run, runs)
-                left.update({(run[0], thread): MOST_IN_ROUND for thread in playing.known.processes[run[0]].threads if (run[0], thread) not in left})
+                turn.went_on(thread, playing.known)
+                self.count_event(thread)
             else:
-                waiting.add(run)
-            # Others of its process may wait for a lock that it gave back, or for its end.
-            if playing.known.last_call == "unlock" if acted else run in went_on:
-                waiting -= {other for other in waiting if other[0] == run[0] and other != run}
-            if not acted:
-                went_on.discard(run)
+                turn.waits(thread)
+            ready = turn.ready()
         playing.items([], with_ends=True)
-        return counts, runs
+        return counts, turn.runs
 
-    def note(self, run, runs):
-        """Keeps an event of this thread, with which it may lose its priority."""
-        if runs and runs[-1][:2] == run:
-            runs[-1] = (*run, runs[-1][2] + 1)
-        else:
-            runs.append((*run, 1))
+    def count_event(self, thread):
+        """The thread has made an event, with which it may lose its priority."""
         self.events += 1
         if self.events in self.changes:
-            self.priorities[run] = self.changes[self.events]
+            self.priorities[thread] = self.changes[self.events]
+
+
+class Round:
+    """The threads of a round, each a process and a number."""
+
+    def __init__(self, tries):
+        # How many events each may still make; the tries that acted, each with a count.
+        self.left, self.runs = {(process, thread): most for process, thread, most in tries}, []
+        # The threads whose call was not answered, and those that have made an event since then.
+        self.waiting, self.moved = set(), set()
+
+    def ready(self):
+        return [thread for thread, left in self.left.items() if left and thread not in self.waiting]
+
+    def went_on(self, thread, known):
+        self.moved.add(thread)
+        self.left[thread] -= 1
+        count = self.runs.pop()[2] + 1 if self.runs and self.runs[-1][:2] == thread else 1
+        self.runs.append((*thread, count))
+        for made in known.processes[thread[0]].threads:
+            self.left.setdefault((thread[0], made), MOST_IN_ROUND)
+        if known.last_call == "unlock":
+            self.wake_others(thread)
+
+    def waits(self, thread):
+        self.waiting.add(thread)
+        if thread in self.moved:
+            # It may have ended with its last event.
+            self.moved.discard(thread)
+            self.wake_others(thread)
+
+    def wake_others(self, thread):
+        """Others of its process may wait for a lock that it gave back, or for its end."""
+        self.waiting -= {other for other in self.waiting if other[0] == thread[0] and other != thread}
