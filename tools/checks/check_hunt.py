@@ -163,7 +163,7 @@ def main():
     program = os.path.abspath(program_of(parser.parse_args().program))
     with tempfile.TemporaryDirectory() as folder:
         os.chdir(folder)
-        for name in ("ping.wasm", "pong.wasm"):
+        for name in ("ping.wasm", "ping.places", "pong.wasm", "pong.places"):
             shutil.copy(os.path.join(TOP, "examples", "pingpong", name), ".")
         found = check_jobs(program)
         check_folder(program, found)

@@ -161,7 +161,7 @@ def main():
     program = os.path.abspath(program_of(parser.parse_args().program))
     with tempfile.TemporaryDirectory() as folder:
         os.chdir(folder)
-        for name in ("ping.wasm", "pong.wasm"):
+        for name in ("ping.wasm", "ping.places", "pong.wasm", "pong.places"):
             shutil.copy(os.path.join(EXAMPLES, "pingpong", name), ".")
         check_answers(program)
         check_kept(program)

@@ -7,7 +7,6 @@ from dataclasses import dataclass
 
 from playing_by_hand.names import NamesOfGroup
 from sessions.names import Refusal
-from sessions.points import ignored
 
 END = re.compile(r"(failed|running|finished|killed|trapped( [a-z ]+)?|exited( -?\d+)?)")
 
@@ -35,16 +34,27 @@ class Wanted:
 
 def wanted_of(chosen, names):
     """What the words of the command ask for; a process that fails if they ask for nothing."""
-    names_of_group = NamesOfGroup(chosen.processes, print if chosen.never or chosen.script else ignored)
     ends = [end_of(text, names) for text in chosen.ends]
-    never = [(text, names_of_group.line(text)) for text in chosen.never]
-    script = []
-    if chosen.script is not None:
-        with open(chosen.script, encoding="latin-1") as file:
-            script = [names_of_group.line(line) for line in file.read().splitlines()]
+    script = lines_of(chosen.script) if chosen.script is not None else []
+    never, script = with_addresses(chosen.processes, chosen.never, script)
     if not (ends or never or chosen.script is not None):
         ends = [("", "failed")]
-    return Wanted(ends, never, script)
+    return Wanted(ends, list(zip(chosen.never, never)), script)
+
+
+def lines_of(path):
+    with open(path, encoding="latin-1") as file:
+        return file.read().splitlines()
+
+
+def with_addresses(processes, *parts):
+    """The lines of each part with addresses in place of names; which processes have no names is told if one is refused."""
+    without_names = []
+    names = NamesOfGroup(processes, without_names.append)
+    try:
+        return [[names.line(line) for line in part] for part in parts]
+    except Refusal as refusal:
+        raise Refusal("\n".join([str(refusal), *without_names])) from None
 
 
 def end_of(text, names):
