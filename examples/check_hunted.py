@@ -2,7 +2,7 @@
 """Hunts again by the commands on the examples' pages, and compares what they print with what the pages show, but for the times. A hit's
 logs have to replay whole, and its test has to pass. If `failing` lies beside the page, one of the schedules has to be that.
 
-check_hunted.py [PROGRAM]   (the program that answers ./friday, if none is given)
+check_hunted.py [--only EXAMPLE] [PROGRAM]   (all pages, and the program that answers ./friday, if none is given)
 """
 
 import argparse
@@ -85,9 +85,12 @@ def check_page(program, page):
 
 def main():
     parser = argparse.ArgumentParser(description=__doc__, formatter_class=argparse.RawDescriptionHelpFormatter)
+    parser.add_argument("--only", metavar="EXAMPLE", default="*", help="the folder of the page")
     parser.add_argument("program", nargs="?", metavar="PROGRAM")
-    program = os.path.abspath(program_of(parser.parse_args().program))
-    counts = {os.path.basename(os.path.dirname(page)): check_page(program, page) for page in sorted(glob.glob(os.path.join(HERE, "*", "README.md")))}
+    chosen = parser.parse_args()
+    program = os.path.abspath(program_of(chosen.program))
+    pages = sorted(glob.glob(os.path.join(HERE, chosen.only, "README.md")))
+    counts = {os.path.basename(os.path.dirname(page)): check_page(program, page) for page in pages}
     hunted = ["%d of %s" % (count, name) for name, count in counts.items() if count]
     assert hunted, "no page has a hunt"
     print("hunts found again: %s" % ", ".join(hunted))

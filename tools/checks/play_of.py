@@ -43,6 +43,14 @@ def is_item(fields, count):
     return least <= len(values) <= len(kinds) and all(is_value(kind, value, count) for kind, value in zip(kinds, values))
 
 
+def tries_of(item):
+    """How often an item tries to let a thread go on; those that are no `run` do not."""
+    fields = re.findall(rb"[^ \t]+", item)
+    if fields[0] != b"run":
+        return 0
+    return number_of(fields[3]) if len(fields) > 3 else 1
+
+
 def is_value(kind, value, count):
     if kind == "hex":
         return value == b"-" or re.fullmatch(rb"([0-9a-fA-F]{2})+", value) is not None
@@ -113,8 +121,7 @@ class Play:
     def item(self, line, fields):
         if not is_item(fields, len(self.processes)):
             return ["? 10 bad item"]
-        tries = number_of(fields[3]) if fields[0] == b"run" and len(fields) > 3 else 1
-        if self.now.acted + self.now.idle + tries > MOST_TRIES:
+        if sum(map(tries_of, self.items)) + tries_of(line) > MOST_TRIES:
             return ["? 11 too many tries"]
         before, process = self.now, number_of(fields[1])
         self.items.append(line)
