@@ -12,7 +12,7 @@ from ring import COUNT, build_ring, logs_size, write_ring
 
 PROGRAM = program_of(__doc__)
 # Those of a call by valgrind take some fifty times as long.
-SIZES, MOST_COUNTED = (10_000, 100_000, 900_000), 100_000
+SIZES, MOST_COUNTED = (2_000, 10_000, 100_000, 900_000), 10_000
 
 
 def write_parts(folder):
