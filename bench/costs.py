@@ -36,10 +36,10 @@ class Cost:
     peak: int
 
 
-def play(words, folder=None, statuses=(0,), is_heard=True):
-    """Makes a call, which ends with one of these statuses. What it prints is read, or thrown away."""
+def play(words, folder=None, statuses=(0,), is_heard=True, source=None):
+    """Makes a call, which ends with one of these statuses. `source` is the file of its input. What it prints is read, or thrown away."""
     start = time.perf_counter()
-    child = subprocess.Popen(words, cwd=folder, stdout=subprocess.PIPE if is_heard else subprocess.DEVNULL, text=True)
+    child = subprocess.Popen(words, cwd=folder, stdin=source, stdout=subprocess.PIPE if is_heard else subprocess.DEVNULL, text=True)
     text = child.stdout.read() if is_heard else ""
     _, status, usage = os.wait4(child.pid, 0)
     took = time.perf_counter() - start
@@ -47,14 +47,15 @@ def play(words, folder=None, statuses=(0,), is_heard=True):
     return Cost(text, usage.ru_utime + usage.ru_stime, took, usage.ru_maxrss * 1024)
 
 
-def instructions(words, folder=None, typed=None):
-    """The instructions of a call by valgrind's count, the same however busy the machine is. None where there is no valgrind, or where
-    it cannot run the program, as one that was built without proofs."""
+def instructions(words, folder=None, typed=None, source=None):
+    """The instructions of a call by valgrind's count, the same however busy the machine is; `typed` is its input, or `source` the file
+    of it. None if there is no valgrind, or if it cannot run the program, as one that was built without proofs."""
     if shutil.which("valgrind") is None:
         return None
     words = ["valgrind", "--tool=callgrind", "--callgrind-out-file=/dev/null", *words]
-    told = subprocess.run(words, cwd=folder, input=typed, stdout=subprocess.DEVNULL, stderr=subprocess.PIPE, text=True).stderr
-    found = re.search(r"Collected : (\d+)", told)
+    given = {"stdin": source} if source else {"input": typed and typed.encode()}
+    told = subprocess.run(words, cwd=folder, **given, stdout=subprocess.DEVNULL, stderr=subprocess.PIPE).stderr
+    found = re.search(rb"Collected : (\d+)", told)
     return int(found.group(1)) if found else None
 
 

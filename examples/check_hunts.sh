@@ -1,17 +1,24 @@
 #!/bin/sh
-# The three hunts: puts the places into the debugger's scripts again, makes the schedules again from their seeds, records
+# Three hunts: puts the places into the debugger's scripts again, makes the schedules again by the words in their first lines, records
 # and replays the group of each, lists what its processes printed and noted, and compares all of it with what lies beside
 # the guests. The memories and the prints that a replay comes to have to be those of the recording. Last, the debugger's
 # script is answered over the logs of the failing schedule, and its answers are compared too; and these logs are cut to what
 # one event needs, over which the script is answered up to its first `continue`. The register with many readers is cut in the
-# same way, its cut logs are made a schedule, and that is recorded. Of ENet's hunt the schedules alone are made again here:
-# enet/check.sh does the rest.
+# same way, its cut logs are made a schedule, and that is recorded. Of other examples the schedules alone are made again here: their
+# check.sh does the rest.
 # Usage: check_hunts.sh [PROGRAM]   (the program that answers ./friday, if none is given)
 here=$(CDPATH='' cd -- "$(dirname -- "$0")" && pwd) || exit 1
 . "$here/../tools/usage.sh"
 program=${1:-$("$here/../friday" --program)} && program=$(realpath -- "$program") || exit 1
 folder=$(mktemp -d) || exit 1
 trap 'rm -rf "$folder"' EXIT
+
+# Makes a schedule again, in the present folder, by the words in its first line: FOLDER SCHEDULE.
+make_again() {
+    words=$(sed -n '1s/^# make_schedule\.py //p' "$here/$1/$2") && [ -n "$words" ] || return 1
+    # shellcheck disable=SC2086 # None of these words has blanks.
+    python3 "$here/../tools/make_schedule.py" --program "$program" --output "$2" $words && cmp "$here/$1/$2" "$2"
+}
 
 # Records, replays and lists the group of a schedule.
 play() {
@@ -47,10 +54,10 @@ check() {
     hunt=$1
     mkdir "$folder/$hunt" && cd "$folder/$hunt" && cp "$here/$hunt/$hunt.wasm" . || return 1
     "$here/../guests/places" "$here/$hunt/$hunt.places" < "$here/$hunt/debug.in" > debug || return 1
-    "$here/$hunt/schedules.sh" "$program" > printed || return 1
-    for file in debug good failing; do
-        cmp "$here/$hunt/$file" "$file" || return 1
-    done
+    cmp "$here/$hunt/debug" debug || return 1
+    for schedule in good failing; do
+        make_again "$hunt" "$schedule" || return 1
+    done > printed
     for schedule in good failing; do
         echo "$schedule:" >> printed
         play "$hunt" "$schedule" >> printed || { tail -n 1 printed; return 1; }
@@ -82,13 +89,13 @@ check_many() {
     diff "$here/register/many.expected" printed && diff "$here/register/many.answers" answers_of_cut && echo "register, many: as expected"
 }
 
-check_schedules_of_enet() {
-    mkdir "$folder/enet" && cd "$folder/enet" && cp "$here"/enet/*.wasm . || return 1
-    "$here/enet/schedules.sh" "$program" > printed || return 1
-    for schedule in good failing repaired; do
-        cmp "$here/enet/$schedule" "$schedule" || return 1
-    done
-    echo "enet: the schedules as expected"
+# Makes the schedules of an example again: FOLDER SCHEDULE ..
+check_schedules() {
+    example=$1
+    shift
+    mkdir "$folder/$example" && cd "$folder/$example" && cp "$here/$example"/*.wasm . || return 1
+    for schedule; do make_again "$example" "$schedule" || return 1; done > printed
+    echo "$example: the schedules as expected"
 }
 
 status=0
@@ -97,5 +104,8 @@ for words in 'register 4 18' 'election 0 113' 'bank 1 70'; do
     check $words || { echo "${words%% *}: not as expected"; status=1; }
 done
 check_many || { echo "register, many: not as expected"; status=1; }
-check_schedules_of_enet || { echo "enet: the schedules not as expected"; status=1; }
+for words in 'enet good failing repaired' 'cares failing repaired' 'libcoap good failing' 'streams schedule'; do
+    # shellcheck disable=SC2086 # An example and its schedules.
+    check_schedules $words || { echo "${words%% *}: the schedules not as expected"; status=1; }
+done
 exit $status

@@ -3,7 +3,8 @@
 # what its processes printed, and goes to where the script's watch stops. The memories and the prints that a replay comes to
 # have to be those of the recording. Last, the whole script is answered over the logs of the failing schedule. What is printed
 # and answered is compared with what lies here. These logs are then cut to what the event needs at which the watch stops, and the
-# watch is asked over them once more. That schedules.sh makes these schedules ../check_hunts.sh checks.
+# watch is asked over them once more. That these schedules are made by the words in their first
+# lines ../check_hunts.sh checks.
 # Usage: check.sh [PROGRAM]   (the program that answers ./friday, if none is given)
 here=$(CDPATH='' cd -- "$(dirname -- "$0")" && pwd) || exit 1
 . "$here/../../tools/usage.sh"

@@ -5,12 +5,12 @@ import queue
 import sys
 import threading
 
+from asking.conversation import Ended
 from by_editor.breakpoints import FILTERS, Breakpoints
 from by_editor.launching import Launch
 from by_editor.looks import Looks
 from by_editor.moves import Moves
 from by_editor.wire import Broken, NoMessage
-from sessions.debugger import Ended
 from sessions.names import Refusal
 
 CAPABILITIES = (

@@ -2,9 +2,9 @@
 
 from logs.wording import shown, source
 from sessions.casts import value_of
-from sessions.engine import LineRefused
 from sessions.names import Refusal
 from sessions.places import LAST_CALL
+from sessions.reading import LineRefused
 from sessions.spelling import number, of_answer
 
 # A struct or array of more numbers is not spelled in the line of its name, and so many elements are told at once.

@@ -2,6 +2,7 @@
 
 import re
 
+from asking.conversation import Ended
 from by_hand.commands import COMMANDS
 from by_hand.completion import LINES
 from by_hand.words import REPEATED, expanded, instead_of
@@ -9,10 +10,10 @@ from logs.wording import bytes_lines, shown
 from naming import LONGEST_LINE
 from sessions.arithmetic import has_own
 from sessions.casts import datagram, type_of
-from sessions.debugger import Ended
-from sessions.engine import MOVES, LineRefused
+from sessions.engine import MOVES
 from sessions.names import Refusal
 from sessions.places import in_words
+from sessions.reading import LineRefused
 from sessions.sources import Sources
 
 EVENT = re.compile(r"(?:at )?(\d+): (.*)")

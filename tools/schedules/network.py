@@ -1,12 +1,14 @@
 """The network between the processes: what it does with each datagram that was sent."""
 
-from logs.format import tag_of
+TAG_SIZE = 16
 
 
 class Network:
-    def __init__(self, settings, chance, names):
+    def __init__(self, settings, chance, names, bytes_of):
         self.settings, self.chance, self.names = settings, chance, names
-        self.seen = set()
+        # Gives the bytes of a datagram, with its tag.
+        self.bytes_of = bytes_of
+        # When a line of the schedule comes, to whom, and the line.
         self.due = []
         self.side, self.whole_again = [0] * len(names), 0
 
@@ -14,9 +16,7 @@ class Network:
         """The lines of this round: what comes to processes that run, and what is lost, as comments."""
         lines = self.partition(turn)
         for datagram in datagrams:
-            if (datagram.sender, datagram.number) not in self.seen:
-                self.seen.add((datagram.sender, datagram.number))
-                lines += self.send(turn, datagram)
+            lines += self.send(turn, datagram)
         lines += [line for time, receiver, line in self.due if time <= turn and receiver in running]
         self.due = [waiting for waiting in self.due if waiting[0] > turn]
         return lines
@@ -36,19 +36,19 @@ class Network:
         return ["# nothing passes between %s and %s" % tuple(parts)]
 
     def send(self, turn, datagram):
-        """Decides what becomes of a datagram, and says so where it is lost."""
+        """Decides what becomes of a datagram, and says so if it is lost."""
         lost, damaged, late, repeated = (
             self.chance.happens(rate)
             for rate in (self.settings.loss, self.settings.damage, self.settings.reorder, self.settings.repeat)
         )
         delay, longer = self.chance.up_to(self.settings.late), self.chance.up_to(self.settings.late)
-        bit = self.chance.up_to(8 * len(datagram.payload)) - 1
+        bit = self.chance.up_to(8 * datagram.size) - 1
         if lost or self.side[datagram.sender] != self.side[datagram.receiver]:
             ends = self.names[datagram.sender], self.names[datagram.receiver]
             return ["# the datagram %d of %s to %s is lost" % (datagram.number, *ends)]
         line = "deliver %d %d" % (datagram.sender, datagram.number)
-        if damaged and datagram.payload:
-            line = "inject %d %s" % (datagram.receiver, with_wrong_bit(datagram, bit).hex())
+        if damaged and datagram.size:
+            line = "inject %d %s" % (datagram.receiver, with_wrong_bit(self.bytes_of(datagram), bit).hex())
         arrival = turn + delay if late else turn
         self.due.append((arrival, datagram.receiver, line))
         if repeated:
@@ -56,8 +56,8 @@ class Network:
         return []
 
 
-def with_wrong_bit(datagram, bit):
-    """The datagram with its tag, which is the recorder's own and stays whole."""
-    payload = bytearray(datagram.payload)
-    payload[bit // 8] ^= 1 << bit % 8
-    return tag_of(datagram.sender, datagram.clock) + bytes(payload)
+def with_wrong_bit(data, bit):
+    """A datagram whose tag, which is the recorder's own, stays whole."""
+    altered = bytearray(data)
+    altered[TAG_SIZE + bit // 8] ^= 1 << bit % 8
+    return bytes(altered)

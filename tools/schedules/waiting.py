@@ -1,51 +1,56 @@
-"""What the threads of a group wait for at the end of a schedule.
+"""What the threads of a group wait for at the end of a schedule."""
 
-A log tells only of calls that were answered. So each thread is tried once more, first as things are, and then
-with all that the world can give; the call that this answers is the one that it waits at.
-"""
-
-RANDOM_BYTES = 60000
-LATEST = 2**63 - 1
+MOST_BYTES, PAGE = 60000, 65536
 
 
-def waits(recorder, recording, items):
+def waits(playing):
     """A line for each thread of each process that still runs."""
-    for number, (name, _) in enumerate(recorder.processes):
-        if recording.ends[number] != "running":
-            continue
-        for thread in recording.threads[number]:
-            yield "%s: thread %d %s" % (name, thread, wait_of(recorder, recording, items, number, thread))
+    for number, process in enumerate(playing.known.processes):
+        stands = playing.threads(number) if process.end == "running" else {}
+        for thread, standing in stands.items():
+            yield "%s: thread %d %s" % (process.name, thread, wait_of(playing, process, stands, thread))
 
 
-def wait_of(recorder, recording, items, process, thread):
-    known = recording.events_of(process, thread)
-    run = "run %d %d" % (process, thread)
-    gifts = ["clock %d %d" % (process, LATEST), "random %d %s" % (process, "00" * RANDOM_BYTES), "inject %d -" % process]
-    entry = new_entry(recorder.record(items + [run]), process, thread, known)
-    if entry is not None:
-        return "goes on: its next call is %s" % entry.call.name
-    entry = new_entry(recorder.record(items + gifts + [run]), process, thread, known)
-    if entry is None:
-        return "waits for %sthe end of another thread, or has ended" % held(recording.logs[process], thread)
-    if entry.call.name == "sleep_until":
-        return "waits for the wall time %d" % entry.arguments[0]
-    if entry.call.name == "random":
-        return "waits for %d random bytes" % entry.arguments[1]
-    return "waits for a datagram"
+def wait_of(playing, process, stands, thread):
+    call, *arguments = stands[thread]
+    if call == "ended":
+        return "has ended"
+    waits_for = WAITS.get(call)
+    told = waits_for(playing, process, stands, thread, *arguments) if waits_for else None
+    return "waits for " + told if told else "goes on: its next call is " + call
 
 
-def held(log, thread):
-    """The locks that a thread may wait for: those that others hold."""
-    holders = {}
-    for entry in log.entries:
-        if entry.call.name == "lock" and entry.reply == 0:
-            holders[entry.arguments[0]] = entry.thread
-        elif entry.call.name == "unlock" and entry.reply == 0:
-            del holders[entry.arguments[0]]
-    others = ["lock %d, which thread %d holds, or " % item for item in holders.items() if item[1] != thread]
-    return "".join(others)
+def wait_for_time(playing, process, stands, thread, time):
+    return "the wall time %s, and it is %d" % (time, process.wall_time) if process.wall_time < int(time) else None
 
 
-def new_entry(recording, process, thread, known):
-    entries = [entry for entry in recording.logs[process].entries if entry.thread == thread]
-    return entries[known] if len(entries) > known else None
+def wait_for_random(playing, process, stands, thread, place, length):
+    waits_so = is_good(playing, process, (place, length)) and process.pool < unsigned(length)
+    return "%s random bytes" % length if waits_so else None
+
+
+def wait_for_datagram(playing, process, stands, thread, place, room, sender):
+    return "a datagram" if is_good(playing, process, (place, room), (sender, 4)) and not process.mailbox else None
+
+
+def wait_for_lock(playing, process, stands, thread, lock):
+    holder = process.holders.get(lock, str(thread))
+    return "lock %s, which thread %s holds" % (lock, holder) if holder != str(thread) else None
+
+
+def wait_for_end(playing, process, stands, thread, other):
+    lives = stands.get(int(other), ["ended"])[0] != "ended" and int(other) != thread
+    return "the end of thread %s" % other if lives else None
+
+
+WAITS = {"sleep_until": wait_for_time, "random": wait_for_random, "recv": wait_for_datagram, "lock": wait_for_lock, "join": wait_for_end}
+
+
+def unsigned(word):
+    return int(word) % 2**32
+
+
+def is_good(playing, process, *ranges):
+    """Whether these ranges lie in the memory, and the first is not too long; otherwise the call is answered at once."""
+    size = PAGE * playing.pages(process.name)
+    return unsigned(ranges[0][1]) <= MOST_BYTES and all(unsigned(at) + unsigned(length) <= size for at, length in ranges)

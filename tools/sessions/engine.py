@@ -6,15 +6,13 @@ import bisect
 import functools
 import re
 import time
-from dataclasses import dataclass
 
+from asking.conversation import Conversation
 from logs.index import Index
-from sessions.arithmetic import evaluate, has_own
-from sessions.debugger import Debugger
 from sessions.names import Names, Refusal
 from sessions.places import Threads
 from sessions.points import Points, ignored
-from sessions.values import Memory, value_at
+from sessions.reading import Answer, Reading
 from sessions.verdict import Verdict
 
 # Lines that can go on for long, and whose programs may change variables.
@@ -26,32 +24,13 @@ LEAST = -(2**63)
 SLICE, LOOKS = 500, 6
 
 
-@dataclass(frozen=True)
-class Answer:
-    """What the debugger answered to the line that it was sent."""
-
-    sent: str
-    lines: list
-    is_refused: bool = False
-
-    def after(self, lines):
-        return Answer(self.sent, [*lines, *self.lines], self.is_refused)
-
-
-class LineRefused(Refusal):
-    """The debugger refused a line."""
-
-    def __init__(self, answer):
-        super().__init__(answer.lines[0][2:])
-        self.answer = answer
-
-
-class Engine:
+class Engine(Reading):
     def __init__(self, program, pairs, told=ignored, on_line=ignored):
         """`told` hears of processes without names, `on_line` each line that is sent for what was asked."""
         self.names, self.on_line = Names(pairs, told), on_line
-        self.debugger = Debugger([program, "debug", *pairs])
-        self.position, self.variables, self.memories = 0, [], {}
+        self.debugger = Conversation([program, "debug", *pairs])
+        super().__init__()
+        self.position, self.variables = 0, []
         # The lines that a script needs to be answered as the session was; whether those are among them that read memory.
         self.sent, self.keeps_reads = [], False
         self.points, self.threads = Points(self), Threads(self)
@@ -84,14 +63,8 @@ class Engine:
         return Answer(sent, answers)
 
     def move(self, position):
-        self.position, self.memories = position, {}
-
-    def accepted(self, line):
-        """The answer to a line that has to be accepted."""
-        answer = self.ask(line)
-        if answer.is_refused:
-            raise LineRefused(answer)
-        return answer
+        self.position = position
+        self.forget()
 
     def ask_each(self, lines):
         """The answers to lines that have one each, which no line of the session says."""
@@ -116,31 +89,6 @@ class Engine:
     def close(self):
         """Ends the program, whatever it is at."""
         self.debugger.stop()
-
-    # Values
-
-    def memory(self, node):
-        return self.memories.setdefault(node, Memory(self, node))
-
-    def number(self, expression):
-        """The number that an expression is here, or None."""
-        answer = self.ask_each(["print " + expression])[0]
-        return None if answer == "undef" or answer.startswith("?") else int(answer)
-
-    def number_of(self, text, node):
-        """The number of what was typed, with names of a process and C's operators on bits, or None."""
-        text = self.names.qualified(text, node)
-        return evaluate(text, self.known) if has_own(text) else self.known(text)
-
-    def known(self, text):
-        """The number of an expression that the debugger knows."""
-        answer = self.accepted("print " + text).lines[0]
-        return None if answer == "undef" else int(answer)
-
-    def value(self, text):
-        """The value of a text that is nothing but a variable's path, or None."""
-        place = self.names.place(text)
-        return value_at(self, place) if place else None
 
     # Positions
 

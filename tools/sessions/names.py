@@ -18,7 +18,7 @@ class Names:
     """The variables of each process, by the file of places beside its module."""
 
     def __init__(self, pairs, told):
-        self.nodes, self.paths, self.modules, self.called, tables = [], [], {}, {}, {}
+        self.nodes, self.paths, self.modules, self.called = [], [], {}, {}
         for module, path in zip(pairs[::2], pairs[1::2]):
             try:
                 log = head_of(path)
@@ -28,11 +28,17 @@ class Names:
             self.nodes.append(log.name)
             self.paths.append(path)
             self.modules[log.name], self.called[log.process] = module, log.name
+        self.read_tables(told)
+
+    def read_tables(self, told):
+        """Reads the places beside each module; `told` hears of processes without names."""
+        self.tables = {}
+        for node, module in self.modules.items():
             try:
-                tables[log.name] = read_table(os.path.splitext(module)[0] + ".places")
+                self.tables[node] = read_table(os.path.splitext(module)[0] + ".places")
             except Refusal as refusal:
-                told("no names for %s: %s" % (log.name, printable(str(refusal))))
-        self.tables, self.script = tables, Script(tables)
+                told("no names for %s: %s" % (node, printable(str(refusal))))
+        self.script = Script(self.tables)
 
     def variables(self, node):
         return self.tables[node].variables if node in self.tables else []

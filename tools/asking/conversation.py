@@ -1,17 +1,17 @@
-"""The program's debugger behind pipes: a line goes to it, and the lines of its answer come back."""
+"""A command of the program that answers lines, behind pipes: a line goes to it, and the lines of its answer come back."""
 
 import random
 import subprocess
 
-# So many lines are written before their answers are read: more might fill both pipes.
-BATCH = 200
+# So many bytes are written before their answers are read: more might fill both pipes.
+MOST_AT_ONCE = 32768
 
 
 class Ended(Exception):
     """The program has ended; its status is told."""
 
 
-class Debugger:
+class Conversation:
     def __init__(self, words):
         self.words = words
         self.first = self.begin()
@@ -28,17 +28,21 @@ class Debugger:
             self.program.stdin.write("".join(line + "\n" for line in lines).encode("latin-1", "replace"))
             self.program.stdin.flush()
         except OSError:
-            raise Ended(self.end()) from None
+            raise self.ended() from None
+
+    def line(self):
+        """The next line of an answer."""
+        answer = self.program.stdout.readline()
+        if not answer:
+            raise self.ended()
+        return answer.decode("latin-1").rstrip("\n")
 
     def ask(self, line):
         """The lines of the answer, as they come. The answer of a last line, a number drawn for it, tells where they end."""
         mark = str(random.getrandbits(62))
         self.write([line, "print " + mark])
         while True:
-            answer = self.program.stdout.readline().decode("latin-1")
-            if not answer:
-                raise Ended(self.end())
-            answer = answer.rstrip("\n")
+            answer = self.line()
             if answer == mark:
                 return
             yield answer
@@ -46,11 +50,14 @@ class Debugger:
     def ask_each(self, lines):
         """The answers of lines that have one line for an answer."""
         answers = []
-        for start in range(0, len(lines), BATCH):
-            part = lines[start : start + BATCH]
+        for part in in_parts(lines):
             self.write(part)
-            answers += [self.program.stdout.readline().decode("latin-1").rstrip("\n") for _ in part]
+            answers += [self.line() for _ in part]
         return answers
+
+    def ended(self):
+        """What is raised where the program has ended by itself."""
+        return Ended(self.end())
 
     def restart(self):
         """Ends what the program is at, and begins again."""
@@ -59,12 +66,26 @@ class Debugger:
 
     def stop(self):
         self.program.kill()
-        self.program.communicate()
+        self.end()
 
     def end(self):
-        """Ends the session, and returns the program's status."""
+        """Ends the conversation, and returns the program's status. What it still says is not read."""
+        self.program.stdout.close()
         try:
             self.program.stdin.close()
         except OSError:
             pass
         return self.program.wait()
+
+
+def in_parts(lines):
+    """The lines in parts of so many bytes that they may be written at once."""
+    part, size = [], 0
+    for line in lines:
+        if part and size + len(line) >= MOST_AT_ONCE:
+            yield part
+            part, size = [], 0
+        part.append(line)
+        size += len(line) + 1
+    if part:
+        yield part

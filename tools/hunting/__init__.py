@@ -1,0 +1,1 @@
+"""A search over seeds for a schedule in which something happens."""
