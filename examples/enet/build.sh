@@ -24,10 +24,9 @@ fetch() {
     apt update && apt source --download-only "godot=$version"
 }
 
-# Compiles the guest with the ENet of a folder: FOLDER NAME.
+# Compiles a guest with the ENet of a folder: FOLDER NAME.
 build() {
-    cp "$here/enet.c" "$2.c" && "$here/../../guests/build" -I "$here" -I "$here/platform" -I "$1" "$2.c" || return 1
-    cp "$2.wasm" "$2.places" "$here"
+    "$here/../../guests/build" --lines -I "$here" -I "$here/platform" -I "$1" "$2.c" && cp "$2.wasm" "$2.places" "$here"
 }
 
 [ -n "$archive" ] || { fetch && archive=$folder/$name.orig.tar.gz; } || exit 1
@@ -37,5 +36,7 @@ tar -xzf "$archive" godot-3.2.3-stable/thirdparty/enet && cd godot-3.2.3-stable 
 patch -s -R -p1 < thirdparty/enet/patches/godot.patch && mv thirdparty/enet ../enet && cd .. || exit 1
 cp enet/LICENSE "$here/LICENSE.enet" || exit 1
 cp -r enet faulty && patch -s -d faulty -p1 < "$here/fault.patch" || exit 1
+# The lines of both modules are those of enet.c.
+cp "$here/enet.c" . && echo '#include "enet.c"' > faulty.c || exit 1
 build enet enet && build faulty faulty || exit 1
 "$here/../../guests/places" "$here/faulty.places" < "$here/debug.in" > "$here/debug"
