@@ -9,9 +9,9 @@ here=$(CDPATH='' cd -- "$(dirname -- "$0")" && pwd) || exit 1
 folder=$(mktemp -d) || exit 1
 trap 'rm -rf "$folder"' EXIT
 
-# Compiles a guest with lwIP's core, where the linker leaves out what is not called: NAME.
+# Compiles a guest with the core of lwIP, of which the linker takes what is called: NAME.
 build() {
-    "$here/../../guests/cc" --printf whole -Wall -Wextra -I "$here" -I "$lwip/include" "$1.c" "$lwip"/core/*.c "$lwip"/core/ipv4/*.c \
+    "$here/../../guests/cc" --printf whole -Wall -Wextra -I "$here" -I lwip-2.1.3/src/include "$1.c" lwip-2.1.3/src/core/*.c lwip-2.1.3/src/core/ipv4/*.c \
         -o "$1.wasm" && cp "$1.wasm" "$1.places" "$here"
 }
 
@@ -21,7 +21,7 @@ c5a48413d362cc757032cdd58f528f75eb64ee781ca46ca24f010b49b0e62a90  lwip_2.1.3+dfs
 SUMS
 tar -xJf lwip_2.1.3+dfsg1.orig.tar.xz && cd lwip-2.1.3 && tar -xJf ../lwip_2.1.3+dfsg1-2.debian.tar.xz || exit 1
 for name in $(cat debian/patches/series); do patch -s -p1 < "debian/patches/$name" || exit 1; done
-cp COPYING "$here/LICENSE.lwip" && cd .. && lwip=lwip-2.1.3/src || exit 1
+cp COPYING "$here/LICENSE.lwip" && cd .. || exit 1
 cp "$here/sums.c" . && cp sums.c repaired.c && patch -s repaired.c "$here/repair.patch" || exit 1
 build sums && build repaired || exit 1
 "$here/../../guests/places" "$here/sums.places" < "$here/debug.in" > "$here/debug"
