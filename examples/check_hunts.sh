@@ -104,7 +104,7 @@ for words in 'register 4 18' 'election 0 113' 'bank 1 70'; do
     check $words || { echo "${words%% *}: not as expected"; status=1; }
 done
 check_many || { echo "register, many: not as expected"; status=1; }
-for words in 'enet good failing repaired' 'cares failing repaired' 'libcoap good failing' 'streams schedule'; do
+for words in 'enet good failing repaired' 'cares failing repaired' 'libcoap good failing' 'streams schedule' 'tcp good failing repaired'; do
     # shellcheck disable=SC2086 # An example and its schedules.
     check_schedules $words || { echo "${words%% *}: the schedules not as expected"; status=1; }
 done

@@ -3,15 +3,15 @@
 # what its processes printed, and goes to where the script's watch stops. The memories and the prints that a replay comes to
 # have to be those of the recording. Last, the whole script is answered over the logs of the failing schedule. What is printed
 # and answered is compared with what lies here. These logs are then cut to what the event needs at which the watch stops, and the
-# watch is asked over them once more. That these schedules are made by the words in their first
-# lines ../check_hunts.sh checks.
+# watch is asked over them once more. A session by hand tells where in the source each process is. That these schedules are made
+# by the words in their first lines ../check_hunts.sh checks.
 # Usage: check.sh [PROGRAM]   (the program that answers ./friday, if none is given)
 here=$(CDPATH='' cd -- "$(dirname -- "$0")" && pwd) || exit 1
 . "$here/../../tools/usage.sh"
 program=${1:-$("$here/../../friday" --program)} && program=$(realpath -- "$program") || exit 1
 folder=$(mktemp -d) || exit 1
 trap 'rm -rf "$folder"' EXIT
-cp "$here"/*.wasm "$here/good" "$here/failing" "$here/repaired" "$folder" && cd "$folder" || exit 1
+cp "$here"/*.wasm "$here"/*.places "$here/good" "$here/failing" "$here/repaired" "$folder" && cd "$folder" || exit 1
 
 play() {
     schedule=$1 module=$2
@@ -37,4 +37,6 @@ cut_to() {
 
 { play good faulty.wasm && play repaired enet.wasm && play failing faulty.wasm && cut_to 2 33; } > printed || { tail -n 1 printed; exit 1; }
 "$program" debug faulty.wasm server.log faulty.wasm a.log faulty.wasm b.log < ./debug > answers || exit 1
-diff "$here/expected" printed && diff "$here/answers" answers && echo "as expected"
+python3 "$here/../../tools/session" --program "$program" faulty.wasm server.log faulty.wasm a.log faulty.wasm b.log \
+    < "$here/session.in" > session || exit 1
+diff "$here/expected" printed && diff "$here/answers" answers && diff "$here/session" session && echo "as expected"
