@@ -1,5 +1,5 @@
 -- A session takes a byte.
-use Rattle.std.proofs.Common.{◌≡◌, ℕ, ◌+◌, ◌≤◌, ◌<◌, true, false, List, [], ◌∷◌, ◌++◌, take, Option, refl, arith}
+use Rattle.std.proofs.Common.{◌≡◌, ℕ, ◌≤◌, ◌<◌, true, false, List, [], ◌∷◌, ◌++◌, take, Option, refl, arith}
 use Rattle.std.specs.Prelude.{Ok, Err}
 use Rattle.fri_text.specs.Line.{is_line_feed, lines_of}
 use Rattle.conversation.specs.declared.conversing.Ended.{Ended}

@@ -117,47 +117,7 @@ fn answer<S: LineSession, K: Sink>(
     }
 }
 
-// Takes a byte, and answers the line that it ends.
-fn take_byte<S: LineSession, K: Sink>(
-    alloc: Global,
-    reader: LineReader<S>,
-    b: u8,
-    out: &mut K,
-) -> Result<LineReader<S>, Ended>
-    ensures said { MatchResult result
-        (λ next. SessionGoesOn S.stands S.answer (b ∷ []) (K.taken out.old) (K.taken out.new) (session_reader_of reader) (session_reader_of next))
-        (SessionStopsIn S.stands S.answer (b ∷ []) (K.taken out.old) (K.taken out.new) (session_reader_of reader)) }
-    ensures count { IfOk result (λ new. new.count ≡ reader.count + 1) }
-    ensures within { IfOk result (λ new. new.count ≤ MOST_INPUT) }
-    ensures counted { K.faults out.new ≡ failed_says_of_session (K.faults out.old) result }
-    ensures heard { K.hearing out.new ≡ K.hearing out.old }
-{
-    let LineReader {
-        session,
-        mut begun,
-        count,
-    } = reader;
-    if count >= MOST_INPUT {
-        return Err(Ended::TooLarge);
-    }
-    begun.push(b)?;
-    let count = count + 1;
-    if b != b'\n' {
-        return Ok(LineReader {
-            session,
-            begun,
-            count,
-        });
-    }
-    let session = answer(alloc, session, begun.as_slice(), out)?;
-    Ok(LineReader {
-        session,
-        begun: Vec::new(alloc),
-        count,
-    })
-}
-
-// Takes the bytes of a piece.
+// Takes the bytes of a piece, and answers each line that ends in it. The session itself moves only where a line ends.
 fn take_piece<S: LineSession, K: Sink>(
     alloc: Global,
     reader: LineReader<S>,
@@ -173,11 +133,28 @@ fn take_piece<S: LineSession, K: Sink>(
     ensures counted { K.faults out.new ≡ failed_says_of_session (K.faults out.old) result }
     ensures heard { K.hearing out.new ≡ K.hearing out.old }
 {
-    let mut reader = reader;
+    let LineReader {
+        mut session,
+        mut begun,
+        mut count,
+    } = reader;
     for b in piece {
-        reader = take_byte(alloc, reader, *b, out)?;
+        if count >= MOST_INPUT {
+            return Err(Ended::TooLarge);
+        }
+        begun.push(*b)?;
+        count += 1;
+        if *b != b'\n' {
+            continue;
+        }
+        session = answer(alloc, session, begun.as_slice(), out)?;
+        begun = Vec::new(alloc);
     }
-    Ok(reader)
+    Ok(LineReader {
+        session,
+        begun,
+        count,
+    })
 }
 
 // Reads a piece of the input and takes it. False comes at the end of the input, where there is none.

@@ -1,4 +1,4 @@
-use Rattle.std.proofs.Common.{◌≡◌, ◌∙◌, List, ℕ, take, ap}
+use Rattle.std.proofs.Common.{◌∙◌, List, ℕ, take, ap}
 use Rattle.std.specs.Io.KnownBytes.{append_known}
 use Rattle.std.proofs.lemmas.Result.{err_from_is_err_and}
 use Rattle.conversation.specs.inside.Reader.{session_begun}

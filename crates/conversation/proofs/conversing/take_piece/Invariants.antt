@@ -5,9 +5,10 @@ use Rattle.conversation.proofs.conversing.take_piece.Given as goal
 
 abbrev pub invariant-loop-b : goal.invariant-loop-b
 invariant-loop-b g l = record {
-  count : l.reader.count ≡ l.fn.reader.count + l.b-index;
-  within : l.reader.count ≤ most_input;
-  stands : SessionGoesOn g.S.LineSession.stands g.S.LineSession.answer (take l.b-index l.piece) (g.K.Sink.taken l.fn.out) (g.K.Sink.taken l.out) (session_reader_of l.fn.reader) (session_reader_of l.reader);
+  count : l.count ≡ l.fn.reader.count + l.b-index;
+  within : l.count ≤ most_input;
+  stands : SessionGoesOn g.S.LineSession.stands g.S.LineSession.answer (take l.b-index l.piece) (g.K.Sink.taken l.fn.out) (g.K.Sink.taken l.out) (session_reader_of l.fn.reader)
+      (record { session = l.session; begun = l.begun.items; count = l.count });
   counted : g.K.Sink.faults l.out ≡ g.K.Sink.faults l.fn.out;
   heard : g.K.Sink.hearing l.out ≡ g.K.Sink.hearing l.fn.out;
 }
