@@ -31,7 +31,12 @@ class Group:
         self.names = sorted(name for name, _ in chosen)
         self.events = [line.partition(": ")[2] for line in self.session(["step 1000", "events 1000"])[2:]]
         self.owners = [None, *map(owner, self.events)]
-        self.values = {}
+
+    def draws(self, draw):
+        """Draws the expressions of all sessions over the group, and asks for their values."""
+        self.plain = [drawn_value(draw, self, False) for _ in range(30)]
+        self.of_event = [drawn_value(draw, self, True) for _ in range(30)]
+        self.learn([*self.plain, *self.of_event])
 
     def session(self, lines):
         return called(self.program, self.folder, *self.words, typed="".join(line + "\n" for line in lines)).splitlines()
@@ -41,13 +46,12 @@ class Group:
 
     def learn(self, expressions):
         """Asks for the values of expressions at each position, in which `@!` is the process of the event that led there."""
-        asked = [text for text in dict.fromkeys(expressions) if text not in self.values]
+        asked = list(dict.fromkeys(expressions))
         lines = []
         for k in range(len(self.events) + 1):
             lines += ["goto %d" % k, *("print " + self.at(text, k) for text in asked)]
         answers = iter(self.session(lines)[1:])
-        for text in asked:
-            self.values[text] = []
+        self.values = {text: [] for text in asked}
         for _ in range(len(self.events) + 1):
             next(answers)
             for text in asked:
@@ -93,8 +97,7 @@ class Program:
 
 
 def drawn_programs(draw, group):
-    test, shown = drawn_value(draw, group, True), drawn_value(draw, group, True)
-    group.learn([test, shown])
+    test, shown = draw.choice(group.of_event), draw.choice(group.of_event)
     holds, value = (lambda k: group.value(test, k) not in (None, 0)), (lambda k: told(group.value(shown, k)))
     most = draw.randint(1, 5)
     return draw.choice((
@@ -114,16 +117,14 @@ class Point:
         self.program = None
         self.line, fires = self.watched(draw, group) if draw.random() < 0.5 else self.broken(draw, group)
         if draw.random() < 0.6:
-            condition = drawn_value(draw, group, True)
-            group.learn([condition])
+            condition = draw.choice(group.of_event)
             self.line += " if " + condition
             fires = {k: said for k, said in fires.items() if group.value(condition, k) not in (None, 0)}
         self.fires = fires
 
     @staticmethod
     def watched(draw, group):
-        text = drawn_value(draw, group, False)
-        group.learn([text])
+        text = draw.choice(group.plain)
         values = group.values[text]
         pairs = enumerate(zip(values, values[1:]), 1)
         return "watch " + text, {k: "watch %%d: %s -> %s" % (told(old), told(new)) for k, (old, new) in pairs if old != new}
@@ -239,6 +240,7 @@ def check_group(program, seed, sessions):
     with tempfile.TemporaryDirectory() as folder:
         names, modules, _ = recorded(program, draw, folder)
         group = Group(program, folder, list(zip(names, modules)))
+        group.draws(draw)
         return sum(check_session(draw, group) for _ in range(sessions)), len(group.events)
 
 
