@@ -19,7 +19,7 @@ use Rattle.shell_points.specs.Points.{Point}
 use Rattle.shell_points.specs.Returning.{has_stopping_point, last_due}
 use Rattle.shell_points.specs.Walking.{Walk, fired_point, last_word, positions_ahead, quiet_program, setting_at, steps_of, treat_point, treat_points, walk_ended, walk_limit, walk_on, walk_over}
 use Rattle.shell_points.proofs.LastFiring.{none_at_start, nothing_said}
-use Rattle.shell_points.proofs.PointWalks.{rests_here}
+use Rattle.shell_points.proofs.PointWalks.{not_none, rests_here}
 
 -- ---- values
 
@@ -292,7 +292,7 @@ number_is (Some z) e = (z, refl, λ same. let never : ◌≡◌ {A = Bool} false
 
 no_zero : (z : ℤ) → (z ≡ pos 0 → ⊥) → not (is_zero z) ≡ true
 no_zero (pos zero) other = absurd (other refl)
-no_zero (pos (suc n)) other = refl
+no_zero (pos (suc n)) other = ap not (not_none (suc n) (omega arith))
 no_zero (negsuc n) other = refl
 
 module _ (start : List Replaying) (p : Point) (k : ℕ) where
@@ -309,7 +309,8 @@ module _ (start : List Replaying) (p : Point) (k : ℕ) where
     fires : is_due_point start k p ≡ true → Meets
     fires e =
         let b = and_both (is_due_at start k p.trigger) (meets_condition (place_at start k) (Some x)) (sym (ap due_with has) ∙ e) in
-        (b.0, number_is (condition_value (place_at start k) x) b.1)
+        let n = number_is (condition_value (place_at start k) x) b.1 in
+        (b.0, n.0, n.1, n.2)
 
     fires_again : Meets → is_due_point start k p ≡ true
     fires_again m =

@@ -1,7 +1,7 @@
 -- What points do at a position, by what they read, and how a walk goes on.
 use Rattle.std.proofs.Common.{◌≡◌, ℕ, ℤ, zero, suc, ◌+◌, ◌-◌, ◌<◌, ◌≤◌, Bool, true, false, cond, drop, List, [], ◌∷◌, ◌++◌, length, get_or, map, Option, Some, None, inl, inr, refl, sym, ap, ◌∙◌, arith}
 use Rattle.std.specs.Prelude.{◌==◌, ◌||◌, codes, nat_le, option_map, slice_get}
-use Rattle.std.proofs.lemmas.Bool.{le-leb}
+use Rattle.std.proofs.lemmas.Bool.{eqb-true, le-leb, ne_eqb}
 use Rattle.std.proofs.lemmas.Bool.Decides.{leb_tells}
 use Rattle.std.proofs.lemmas.List.{drop_more}
 use Rattle.std.proofs.lemmas.List.Sums.{sum_by-append}
@@ -92,8 +92,10 @@ moves_on old new (Some e) before moves =
 -- ---- how many positions may be walked
 
 pub no_steps : (n : ℕ) → (n == 0) ≡ true → n ≡ 0
-no_steps zero e = refl
-no_steps (suc n) e = absurd cc
+no_steps n e = eqb-true n 0 e
+
+pub not_none : (n : ℕ) → 0 < n → (n == 0) ≡ false
+not_none n lt = ne_eqb n 0 (λ e. absurd (omega (arith, lt, e)))
 
 pub some_steps : (n : ℕ) → (n == 0) ≡ false → 0 < n
 some_steps zero e = absurd cc
@@ -139,23 +141,25 @@ pub over_without : (end at : ℕ) → nat_le end at ≡ (end - at == 0)
 over_without end at = elim (leb_tells end at) [
   | inl t ↦
       let none : end - at ≡ 0 = omega (arith, t.1) in
-      t.0 ∙ ap (λ (n : ℕ). 0 == n) (sym none) ∙ sym (ap (λ (n : ℕ). n == (end - at)) none) ∙ ap (λ (n : ℕ). end - at == n) none
-  | inr f ↦ f.0 ∙ sym (some_is (end - at) (omega (arith, f.1)))
+      t.0 ∙ sym (ap (λ (n : ℕ). n == 0) none)
+  | inr f ↦ f.0 ∙ sym (not_none (end - at) (omega (arith, f.1)))
 ]
-  where
-    some_is : (n : ℕ) → 0 < n → (n == 0) ≡ false
-    some_is zero lt = absurd (omega (arith, lt))
-    some_is (suc n) lt = refl
 
 pub over_with : (n end at : ℕ) → (n == 0 || nat_le end at) ≡ (steps_of (Some n) (end - at) == 0)
-over_with zero end at = refl
-over_with (suc n) end at = elim (leb_tells (suc n) (end - at)) [
-  | inl t ↦ elim (leb_tells end at) [
-    | inl u ↦ absurd (omega (arith, t.1, u.1))
-    | inr f ↦ f.0 ∙ sym (ap (λ (b : Bool). cond b (suc n) (end - at) == 0) t.0)
-  ]
-  | inr f ↦ over_without end at ∙ sym (ap (λ (b : Bool). cond b (suc n) (end - at) == 0) f.0)
+over_with zero end at = elim (leb_tells 0 (end - at)) [
+  | inl t ↦ sym (ap (λ (b : Bool). cond b 0 (end - at) == 0) t.0)
+  | inr f ↦ absurd (omega (arith, f.1))
 ]
+over_with (suc n) end at =
+    let some : (suc n == 0) ≡ false = not_none (suc n) (omega arith) in
+    let rest : nat_le end at ≡ (steps_of (Some (suc n)) (end - at) == 0) = elim (leb_tells (suc n) (end - at)) [
+      | inl t ↦ elim (leb_tells end at) [
+        | inl u ↦ absurd (omega (arith, t.1, u.1))
+        | inr f ↦ f.0 ∙ sym (ap (λ (b : Bool). cond b (suc n) (end - at) == 0) t.0 ∙ some)
+      ]
+      | inr f ↦ over_without end at ∙ sym (ap (λ (b : Bool). cond b (suc n) (end - at) == 0) f.0)
+    ] in
+    ap (λ (b : Bool). b || nat_le end at) some ∙ rest
 
 abbrev end_of : List Replaying → ℕ
 end_of start = length (events_of_replays start)
@@ -240,8 +244,8 @@ ends_there first ps before after most left old text over from ahead =
     (place_is old first.start old.at from refl)
 
 module _ (first : GroupPlace) (ps : List Point) (before variables : List Variable) (most left : Option ℕ) (at : ℕ) (new : GroupPlace) (text : List ℕ) (r : ProgramState)
-  (here : new ≡ place_at first.start (suc at)) (some : IsLeft first left at) (ahead : IsAhead first ps before most at left variables text)
-  (did : r ≡ treat_points new.start new.at (quiet_program variables) ps) where
+    (here : new ≡ place_at first.start (suc at)) (some : IsLeft first left at) (ahead : IsAhead first ps before most at left variables text)
+    (did : r ≡ treat_points new.start new.at (quiet_program variables) ps) where
   abbrev rest : List Variable → List ℕ → Walk
   rest = walk_over first.start ps (suc at) (steps_of (less left) (end_of first.start - suc at))
 

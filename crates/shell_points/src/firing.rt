@@ -44,12 +44,7 @@ fn is_of(node: Option<u32>, kind: Option<Kind>, event: &GroupEvent<'_>) -> bool
 }
 
 // Whether what a point waits for is where the group is.
-fn is_due(
-    trigger: &Trigger,
-    before: Option<i64>,
-    now: Option<i64>,
-    group: &Group<'_, '_>,
-) -> bool
+fn is_due(trigger: &Trigger, before: Option<i64>, now: Option<i64>, group: &Group<'_, '_>) -> bool
     ensures { result ≡ is_due_by before now (last_event_of group.now) (seen_trigger trigger.now) }
 {
     match trigger {
