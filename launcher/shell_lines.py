@@ -11,12 +11,13 @@ CALLS = (
 TOKEN = re.compile(r'[ \t]*([A-Za-z0-9_]+|"[ !#-~]*"|&&|\|\||[=!<>]=|[@.\[\](){},;$+\-*/%!<>])')
 AGGREGATES = ("sum", "min", "max", "count")
 WIDTHS = ("u8", "u16", "u32", "i8", "i16", "i32", "i64")
-PLACES = (*WIDTHS, "global", "clock", "events", "size")
+PLACES = (*WIDTHS, "global", "clock", "events", "size", "thread", "ended")
 FIRST = "a value: a number, $NAME, @NODE.PLACE, sum(..), min(..), max(..), count(..) or (..)"
 OPERATORS = (("||",), ("&&",), ("==", "!=", "<", "<=", ">", ">="), ("+", "-"), ("*", "/", "%"))
 
 # What comes after each verb, and what of it may be left out; a number is told with its bounds.
-NUMBER, NODE, NODE_OR_ALL, CALL, EXPR, PROGRAM, VARIABLE = "number", "node", "node or *", "call", "expression", "program", "variable"
+NUMBER, NODE, NODE_OR_ALL, CALL_OR_ALL, EXPR = "number", "node", "node or *", "call or *", "expression"
+CONDITION, PROGRAM, VARIABLE = "condition", "program", "variable"
 FORMS = {
     "goto": ("goto K", [(NUMBER, "K", 0, MOST_NUMBER)], 1),
     "step": ("step or step N", [(NUMBER, "N", 0, MOST_NUMBER)], 0),
@@ -25,14 +26,14 @@ FORMS = {
     "mem": ("mem NODE ADDR LEN", [(NODE,), (NUMBER, "ADDR", 0, MOST_NUMBER), (NUMBER, "LEN", 1, 256)], 3),
     "threads": ("threads NODE", [(NODE,)], 1),
     "events": ("events or events N", [(NUMBER, "N", 1, 1000)], 0),
-    "watch": ("watch EXPR", [(EXPR,)], 1),
-    "break": ("break NODE CALL or break * CALL", [(NODE_OR_ALL,), (CALL,)], 2),
+    "watch": ("watch EXPR or watch EXPR if EXPR", [(EXPR,), (CONDITION,)], 1),
+    "break": ("break NODE CALL or break NODE CALL if EXPR", [(NODE_OR_ALL,), (CALL_OR_ALL,), (CONDITION,)], 2),
     "delete": ("delete W", [(NUMBER, "W", 0, MOST_NUMBER)], 1),
     "do": ("do W PROGRAM", [(NUMBER, "W", 0, MOST_NUMBER), (PROGRAM,)], 2),
     "list": ("list", [], 0),
     "set": ("set $NAME EXPR", [(VARIABLE,), (EXPR,)], 2),
     "vars": ("vars", [], 0),
-    "continue": ("continue", [], 0),
+    "continue": ("continue or continue N", [(NUMBER, "N", 1, MOST_NUMBER)], 0),
     "rcontinue": ("rcontinue", [], 0),
     "quit": ("quit", [], 0),
 }
@@ -70,6 +71,9 @@ class Reader:
 
     def here(self):
         return self.tokens[self.at] if self.at < len(self.tokens) else ("", self.end)
+
+    def word_at(self, place):
+        return self.tokens[place][0] if place < len(self.tokens) else ""
 
     def fail(self, wanted):
         word, column = self.here()
@@ -148,7 +152,8 @@ class Reader:
             raise Unexpected(found.column, found.text + (names if re.fullmatch(r"[A-Za-z_]\w*", word) else "")) from None
 
     def place(self):
-        self.word("the name of a process, or _ within sum(..), min(..), max(..) or count(..),")
+        if not self.take("!"):
+            self.word("the name of a process, or _ within sum(..), min(..), max(..) or count(..), or ! within a condition or a program,")
         self.want(".", "the `.` of @NODE.PLACE")
         place = self.here()[0]
         if place not in PLACES:
@@ -189,6 +194,8 @@ class Reader:
     def item(self):
         if self.here()[0].startswith('"'):
             self.at += 1
+        elif (self.here()[0], self.word_at(self.at + 1)) == ("@", "!") and self.word_at(self.at + 2) != ".":
+            self.at += 2
         else:
             self.expression()
 
@@ -216,7 +223,7 @@ class Reader:
                 break
             self.part(*part)
         if self.here()[0]:
-            self.fail("the end of `%s`%s" % (form, " or an operator" if parts and parts[-1][0] in (EXPR, PROGRAM) else ""))
+            self.fail("the end of `%s`%s" % (form, " or an operator" if parts and parts[-1][0] in (EXPR, CONDITION, PROGRAM) else ""))
 
     def part(self, kind, *bounds):
         if kind == NUMBER:
@@ -227,9 +234,12 @@ class Reader:
             self.program()
         elif kind == VARIABLE:
             self.variable()
-        elif kind == CALL:
-            if self.here()[0] not in CALLS:
-                self.fail("a call, which is one of %s," % ", ".join(CALLS))
+        elif kind == CONDITION:
+            self.want("if", ("an operator, " if self.tokens[0][0] == "watch" else "") + "`if` and a condition, or the end of the line,")
+            self.expression()
+        elif kind == CALL_OR_ALL:
+            if self.here()[0] not in (*CALLS, "*"):
+                self.fail("* or a call, which is one of %s," % ", ".join(CALLS))
             self.at += 1
         elif not (kind == NODE_OR_ALL and self.take("*")):
             self.word("the name of a process" + (" or *" if kind == NODE_OR_ALL else ""))

@@ -6,21 +6,9 @@ ghost use Rattle.drill_command.specs.inside.Results.{IsWatchedDrill};
 
 use group_state::Group;
 use page_watch::is_same_value;
+use shell_points::NoVariables;
 use std::alloc::{AllocError, Global};
-use watch_expr::{Agg, Expr, NodeName, Scope, Width, eval};
-
-// A scope in which no variable has a value.
-struct NoVariables;
-
-impl Scope for NoVariables {
-    ghost use Rattle.shell_points.specs.Firing.{no_variable};
-
-    ghost variables = { λ _. no_variable };
-
-    fn value(&self, _: &[u8]) -> Option<i64> {
-        None
-    }
-}
+use watch_expr::{Agg, Expr, NodeName, Width, eval};
 
 /// How many events were walked, at how many positions the value became another, and the last value.
 #[derive(Drop)]

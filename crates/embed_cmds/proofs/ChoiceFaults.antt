@@ -6,6 +6,7 @@ use Rattle.watch_expr.specs.Faulty.{is_nested, lacks_node}
 use Rattle.watch_expr.specs.Expression.{expression_of}
 use Rattle.embed_cmds.specs.declared.program.Stmt.{Stmt}
 use Rattle.embed_cmds.specs.declared.program.Stmt.TheVariants as stmt
+use Rattle.embed_cmds.specs.Running.{has_stop, has_stop_in}
 use Rattle.embed_cmds.specs.Faulty.{lacks_names, lacks_one, nests_aggregates, nests_one}
 use Rattle.embed_cmds.specs.Tree.{statement_of, statements}
 use Rattle.embed_cmds.specs.inside.TreeLaws.{statement_of-if}
@@ -19,3 +20,8 @@ nests_if s x on_true on_false all value inside first second is a v i f g =
 pub lacks_if : (s : Stmt) (x : Expr) (on_true on_false : Vec Stmt) (all value inside first second : Bool) → s ≡ stmt.If x on_true on_false → all ≡ (value || inside) → value ≡ lacks_node false (expression_of x) → inside ≡ (first || second) → first ≡ lacks_names (statements on_true.items) → second ≡ lacks_names (statements on_false.items) → all ≡ lacks_one (statement_of s)
 lacks_if s x on_true on_false all value inside first second is a v i f g =
     a ∙ rw (v, i, f, g) (sym (ap (λ (s : Stmt). lacks_one (statement_of s)) is ∙ ap lacks_one (statement_of-if x on_true on_false)))
+
+-- a `stop` is in the first or in the second
+pub stops_if : (s : Stmt) (x : Expr) (on_true on_false : Vec Stmt) (all first second : Bool) → s ≡ stmt.If x on_true on_false → all ≡ (first || second) → first ≡ has_stop (statements on_true.items) → second ≡ has_stop (statements on_false.items) → all ≡ has_stop_in (statement_of s)
+stops_if s x on_true on_false all first second is a f g =
+    a ∙ rw (f, g) (sym (ap (λ (s : Stmt). has_stop_in (statement_of s)) is ∙ ap has_stop_in (statement_of-if x on_true on_false)))

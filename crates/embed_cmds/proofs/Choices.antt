@@ -2,11 +2,10 @@
 use Rattle.std.proofs.Common.{◌≡◌, List, Bool, true, false, cond, ap, sym, ◌∙◌}
 use Rattle.std.specs.Global.{Vec}
 use Rattle.watch_expr.specs.Expression.{expression_of}
-use Rattle.watch_expr.specs.View.{Node}
 use Rattle.expression_text.specs.declared.expr.Expr.{Expr}
 use Rattle.embed_cmds.proofs.MentionOrder.{mention_all_append}
 use Rattle.embed_cmds.specs.Faulty.{set_by_statement, set_names}
-use Rattle.embed_cmds.specs.Running.{ProgramState, after_statement, after_statements, is_nonzero, value_in}
+use Rattle.embed_cmds.specs.Running.{ProgramSetting, ProgramState, after_statement, after_statements, is_nonzero, value_over}
 use Rattle.embed_cmds.specs.Tree.{If, Statement, statement_of, statements}
 use Rattle.embed_cmds.specs.inside.TreeLaws.{statement_of-if}
 use Rattle.embed_cmds.specs.Variables.{Variable, mention_all}
@@ -17,19 +16,19 @@ module _ (s : Stmt) (x : Expr) (a b : Vec Stmt) (is : s ≡ stmt.If x a b) where
   choice_is : statement_of s ≡ If (expression_of x) (statements a.items) (statements b.items)
   choice_is = ap statement_of is ∙ statement_of-if x a b
 
-  module _ (nodes : List Node) (r : ProgramState) where
-    chosen : (which : Bool) → is_nonzero (value_in nodes r.variables (expression_of x)) ≡ which → after_statement nodes r (statement_of s) ≡ cond which (after_statements nodes r (statements a.items)) (after_statements nodes r (statements b.items))
+  module _ (here : ProgramSetting) (r : ProgramState) where
+    chosen : (which : Bool) → is_nonzero (value_over here r.variables (expression_of x)) ≡ which → after_statement here r (statement_of s) ≡ cond which (after_statements here r (statements a.items)) (after_statements here r (statements b.items))
     chosen which test =
-        ap (after_statement nodes r) choice_is
-        ∙ ap (λ (w : Bool). cond w (after_statements nodes r (statements a.items)) (after_statements nodes r (statements b.items))) test
+        ap (after_statement here r) choice_is
+        ∙ ap (λ (w : Bool). cond w (after_statements here r (statements a.items)) (after_statements here r (statements b.items))) test
 
     -- the first is run where the value holds
-    pub runs_first : (xs : List Stmt) → xs ≡ a.items → is_nonzero (value_in nodes r.variables (expression_of x)) ≡ true → after_statements nodes r (statements xs) ≡ after_statement nodes r (statement_of s)
-    runs_first xs same test = ap (λ (ys : List Stmt). after_statements nodes r (statements ys)) same ∙ sym (chosen true test)
+    pub runs_first : (xs : List Stmt) → xs ≡ a.items → is_nonzero (value_over here r.variables (expression_of x)) ≡ true → after_statements here r (statements xs) ≡ after_statement here r (statement_of s)
+    runs_first xs same test = ap (λ (ys : List Stmt). after_statements here r (statements ys)) same ∙ sym (chosen true test)
 
     -- and the second where it doesn't
-    pub runs_second : (xs : List Stmt) → xs ≡ b.items → is_nonzero (value_in nodes r.variables (expression_of x)) ≡ false → after_statements nodes r (statements xs) ≡ after_statement nodes r (statement_of s)
-    runs_second xs same test = ap (λ (ys : List Stmt). after_statements nodes r (statements ys)) same ∙ sym (chosen false test)
+    pub runs_second : (xs : List Stmt) → xs ≡ b.items → is_nonzero (value_over here r.variables (expression_of x)) ≡ false → after_statements here r (statements xs) ≡ after_statement here r (statement_of s)
+    runs_second xs same test = ap (λ (ys : List Stmt). after_statements here r (statements ys)) same ∙ sym (chosen false test)
 
   -- what both parts set is mentioned, the first part's in front
   pub mentions_both : (vs between : List Variable) (xs ys : List Stmt) → xs ≡ a.items → ys ≡ b.items → between ≡ mention_all vs (set_names (statements xs)) → mention_all between (set_names (statements ys)) ≡ mention_all vs (set_by_statement (statement_of s))

@@ -94,6 +94,10 @@ module _ (exact : ExactReading) (names : List (List ℕ)) where
             ∙ expression_in_is (take n ts) other n (length-take-le n ts within);
       }
 
+  pub expression_parted : (ts : LeftTokens) → ((expression_split ts).front ≡ take (viable_tokens names [] ts) ts) × ((expression_split ts).left ≡ drop (viable_tokens names [] ts) ts)
+  unfolding expression_split
+  expression_parted ts = (refl, refl)
+
 -- ---- what is spelled is read
 
 one_more : (a : LeftTokens) (t : List ℕ) (r : LeftTokens) → take (length a + 1) (a ++ t ∷ r) ≡ a ++ t ∷ []

@@ -66,6 +66,12 @@ module _ {A B : Type 0} (L : LeftTokens → A → Type 0) (N : LeftTokens → B 
     local = λ other same. ap (λ (r : ReadOfTokens A). then_reads r (λ a rest. Ok (f a, rest))) (s.local other same) ∙ outcome_as s.got other;
   }
 
+  -- at the same place
+  pub as_parted : (read : LeftTokens → ReadOfTokens A) (as_it : (front : LeftTokens) (a : A) → L front a → N front (f a)) (ts : LeftTokens) (s : Split read L ts)
+      → ((as_split read as_it ts s).front ≡ s.front) × ((as_split read as_it ts s).left ≡ s.left)
+  unfolding as_split
+  as_parted read as_it ts s = (refl, refl)
+
 -- ---- after a token
 
 module _ {B : Type 0} (text : List ℕ) (M : LeftTokens → B → Type 0) (N : LeftTokens → B → Type 0) (more : (back : LeftTokens) (b : B) → M back b → N (text ∷ back) b) where

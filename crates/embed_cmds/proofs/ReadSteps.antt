@@ -1,5 +1,6 @@
 -- Steps of reading, one after the other.
-use Rattle.std.proofs.Common.{◌≡◌, ℕ, suc, zero, ◌+◌, ◌-◌, List, [], ◌∷◌, codes, drop, map, slice_get, Option, Some, None, Result, Ok, Err, Bool, true, if◌then◌else◌, refl, sym, ap, ◌∙◌, arith}
+use Rattle.std.proofs.Common.{◌≡◌, ℕ, suc, zero, ◌+◌, ◌-◌, List, [], ◌∷◌, codes, drop, map, slice_get, Option, Some, None, Result, Ok, Err, Bool, true, false, if◌then◌else◌, refl, sym, ap, ◌∙◌, arith}
+use Rattle.std.proofs.lemmas.List.{drop-drop}
 use Rattle.std.specs.Global.{Vec}
 use Rattle.std.specs.Option.{option_and_then}
 use Rattle.expression_text.specs.declared.error.ExprError.{ExprError}
@@ -13,8 +14,8 @@ use Rattle.embed_cmds.specs.declared.program.Stmt.TheVariants as stmt
 use Rattle.embed_cmds.specs.inside.TreeLaws.{statement_of-if}
 use Rattle.embed_cmds.specs.declared.program.Stmt.{Stmt}
 use Rattle.embed_cmds.specs.inside.Parsed.{ReadAsTokens}
-use Rattle.embed_cmds.specs.Reading.{LeftTokens, ReadOfTokens, after_token, else_part, expression, if_statement, item, braced_part, program_in, separated_items, statement, string_of, string_or_value, then_reads}
-use Rattle.embed_cmds.specs.Tree.{SaidItem, Words, Value, Statement, Statements, End, Then, sequence, statement_of, statements}
+use Rattle.embed_cmds.specs.Reading.{LeftTokens, ReadOfTokens, after_token, else_part, expression, if_statement, item, names_event_node, node_or_value, braced_part, program_in, separated_items, statement, string_of, string_or_value, then_reads}
+use Rattle.embed_cmds.specs.Tree.{SaidItem, Words, Value, NodeOfEvent, Statement, Statements, End, Then, sequence, statement_of, statements}
 use Rattle.embed_cmds.proofs.ReadTokens.{at_end, at_token, drop_one, first_is}
 
 -- where a first step is refused, so is the whole
@@ -41,13 +42,27 @@ nothing_read : (names : List (List ℕ)) → then_reads (expression names []) as
 unfolding expression_spelled
 nothing_read names = refl
 
-value_at : (names ts : List (List ℕ)) (n : ℕ) (t : Option (List ℕ)) → slice_get ts n ≡ t → option_and_then string_of t ≡ None → item names (drop n ts) ≡ then_reads (expression names (drop n ts)) as_value
-value_at names ts n None e h = rw (at_end ts n e) (sym (nothing_read names))
-value_at names ts n (Some t) e h = rw (at_token ts n t e) (ap (λ (o : Option (List ℕ)). string_or_value names o t (drop (n + 1) ts)) h)
+item_at : (names ts : List (List ℕ)) (n : ℕ) (t : List ℕ) (b : Bool) → slice_get ts n ≡ Some t → string_of t ≡ None → names_event_node (drop n ts) ≡ b → item names (drop n ts) ≡ node_or_value names b (drop n ts)
+item_at names ts n t b e h is =
+    let here = at_token ts n t e in
+    let first : item names (t ∷ drop (n + 1) ts) ≡ node_or_value names (names_event_node (t ∷ drop (n + 1) ts)) (t ∷ drop (n + 1) ts) = ap (λ (o : Option (List ℕ)). string_or_value names o t (drop (n + 1) ts)) h in
+    ap (item names) here ∙ first ∙ ap (λ (us : LeftTokens). node_or_value names (names_event_node us) us) (sym here) ∙ ap (λ (b : Bool). node_or_value names b (drop n ts)) is
+
+value_at : (names ts : List (List ℕ)) (n : ℕ) (t : Option (List ℕ)) → slice_get ts n ≡ t → option_and_then string_of t ≡ None → names_event_node (drop n ts) ≡ false → item names (drop n ts) ≡ then_reads (expression names (drop n ts)) as_value
+value_at names ts n None e h is = rw (at_end ts n e) (sym (nothing_read names))
+value_at names ts n (Some t) e h is = item_at names ts n t false e h is
 
 -- one that is none
-pub item_value : (names ts : List (List ℕ)) (n : ℕ) → option_and_then string_of (slice_get ts n) ≡ None → item names (drop n ts) ≡ then_reads (expression names (drop n ts)) as_value
-item_value names ts n h = value_at names ts n (slice_get ts n) refl h
+pub item_value : (names ts : List (List ℕ)) (n : ℕ) → option_and_then string_of (slice_get ts n) ≡ None → names_event_node (drop n ts) ≡ false → item names (drop n ts) ≡ then_reads (expression names (drop n ts)) as_value
+item_value names ts n h is = value_at names ts n (slice_get ts n) refl h is
+
+node_at : (names ts : List (List ℕ)) (n : ℕ) (t : Option (List ℕ)) → slice_get ts n ≡ t → option_and_then string_of t ≡ None → names_event_node (drop n ts) ≡ true → item names (drop n ts) ≡ Ok (NodeOfEvent, drop (n + 2) ts)
+node_at names ts n None e h is = let never : ◌≡◌ {A = Bool} false true = ap names_event_node (sym (at_end ts n e)) ∙ is in absurd cc
+node_at names ts n (Some t) e h is = item_at names ts n t true e h is ∙ ap (λ (left : LeftTokens). Ok (NodeOfEvent, left)) (drop-drop 2 n ts)
+
+-- the node of the position's event
+pub item_node : (names ts : List (List ℕ)) (n : ℕ) → option_and_then string_of (slice_get ts n) ≡ None → names_event_node (drop n ts) ≡ true → item names (drop n ts) ≡ Ok (NodeOfEvent, drop (n + 2) ts)
+item_node names ts n h is = node_at names ts n (slice_get ts n) refl h is
 
 -- the statements of a list
 pub sequence_is : (list : List Stmt) → sequence (map {A = Stmt} statement_of list) ≡ statements list

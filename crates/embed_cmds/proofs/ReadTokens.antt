@@ -1,5 +1,5 @@
 -- What is at a number among tokens.
-use Rattle.std.proofs.Common.{◌≡◌, ℕ, suc, ◌+◌, ◌-◌, ◌<◌, ◌≤◌, ◌==◌, Bool, true, false, bytes_eq, cond, List, [], ◌∷◌, ◌++◌, length, drop, slice_get, Option, Some, None, option_map, unwrap_or, if◌then◌else◌, eq-eqb, Result, Ok, Err, inl, inr, refl, sym, ap, ◌∙◌, arith, add-one, length-drop}
+use Rattle.std.proofs.Common.{◌≡◌, ℕ, suc, ◌+◌, ◌-◌, ◌<◌, ◌≤◌, ◌==◌, ◌&&◌, not, codes, Bool, true, false, bytes_eq, cond, List, [], ◌∷◌, ◌++◌, length, drop, slice_get, Option, Some, None, option_map, unwrap_or, if◌then◌else◌, eq-eqb, Result, Ok, Err, inl, inr, refl, sym, ap, ◌∙◌, arith, add-one, length-drop}
 use Rattle.std.proofs.Math.Seq.{drop-cons}
 use Rattle.std.proofs.lemmas.List.{drop-drop, drop_all, length-map}
 use Rattle.std.proofs.lemmas.Option.{get_or_from_slice_get, slice_get_cases, slice_get_past, slice_get_within}
@@ -8,7 +8,7 @@ use Rattle.std.specs.Option.{option_and_then}
 use Rattle.std.specs.Result.{is_ok}
 use Rattle.watch_expr.specs.Lexing.{LexedLine, PlacedToken, column_of_token, token_texts}
 use Rattle.embed_cmds.specs.Parsing.{column_of}
-use Rattle.embed_cmds.specs.Reading.{LeftTokens, before_quote, after_token, read_or_stays, token_read_as}
+use Rattle.embed_cmds.specs.Reading.{LeftTokens, before_quote, after_token, names_event_node, read_or_stays, token_read_as}
 
 -- the tokens from one on, where it is there
 pub at_token : (ts : LeftTokens) (n : ℕ) (t : List ℕ) → slice_get ts n ≡ Some t → drop n ts ≡ t ∷ drop (n + 1) ts
@@ -99,3 +99,26 @@ quote_last bytes front b e is = sym (ap before_quote e ∙ (before_last front b 
 
 pub no_quote_last : (bytes front : List ℕ) (b : ℕ) → bytes ≡ front ++ b ∷ [] → (b ≡ 34 → ⊥) → None ≡ before_quote bytes
 no_quote_last bytes front b e not = sym (ap before_quote e ∙ (before_last front b ∙ ap (λ (t : Bool). quoted t front) (ne_eqb b 34 not)))
+
+-- ---- the node of the position's event
+
+and_none : (b : Bool) → (b && false) ≡ false
+and_none true = refl
+and_none false = refl
+
+-- what three tokens in a row say of it
+pub node_here : (ts : LeftTokens) → names_event_node ts
+    ≡ (is_ok (after_token (codes "@") ts) && (is_ok (after_token (codes "!") (drop 1 ts)) && not (is_ok (after_token (codes ".") (drop 2 ts)))))
+node_here [] = refl
+node_here (a ∷ []) = sym (and_none (is_ok (after_token (codes "@") (a ∷ []))))
+node_here (a ∷ b ∷ []) = λ i. sym (first_is (codes "@") a (b ∷ [])) i && (sym (first_is (codes "!") b []) i && true)
+node_here (a ∷ b ∷ d ∷ ts) = λ i. sym (first_is (codes "@") a (b ∷ d ∷ ts)) i && (sym (first_is (codes "!") b (d ∷ ts)) i && not (sym (first_is (codes ".") d ts) i))
+
+-- the same of the tokens from one on
+pub node_from : (ts : LeftTokens) (n : ℕ) (sign event : Bool) → sign ≡ is_ok (after_token (codes "@") (drop n ts))
+    → event ≡ (is_ok (after_token (codes "!") (drop (n + 1) ts)) && not (is_ok (after_token (codes ".") (drop (n + 1 + 1) ts)))) → (sign && event) ≡ names_event_node (drop n ts)
+node_from ts n sign event e f =
+    let two : n + 1 + 1 ≡ n + 2 = omega arith in
+    let second = ap (λ (us : LeftTokens). is_ok (after_token (codes "!") us)) (sym (drop-drop 1 n ts)) in
+    let third = ap (λ (k : ℕ). is_ok (after_token (codes ".") (drop k ts))) two ∙ ap (λ (us : LeftTokens). is_ok (after_token (codes ".") us)) (sym (drop-drop 2 n ts)) in
+    (λ i. e i && f i) ∙ (λ i. is_ok (after_token (codes "@") (drop n ts)) && (second i && not (third i))) ∙ sym (node_here (drop n ts))

@@ -5,24 +5,27 @@ use Rattle.std.proofs.Common.{ap, ◌∙◌, ◌⊎◌, inl, inr}
 use Rattle.std.specs.Coded.{Coded, code_by, coded×, coded⊎, coded_ℕ, coded_list}
 use Rattle.watch_expr.specs.Coding.{expression_code}
 use Rattle.watch_expr.specs.Expression.{Expression}
-use Rattle.embed_cmds.specs.Tree.{SaidItem, Words, Value, Statement, Set, Say, Stop, If, Statements, End, Then}
+use Rattle.embed_cmds.specs.Tree.{SaidItem, Words, Value, NodeOfEvent, Statement, Set, Say, Stop, If, Statements, End, Then}
 
 -- ---- items
 
-abbrev of_item : SaidItem → List ℕ ⊎ Expression
+abbrev of_item : SaidItem → List ℕ ⊎ (Expression ⊎ ℕ)
 of_item (Words bytes) = inl bytes
-of_item (Value x) = inr x
+of_item (Value x) = inr (inl x)
+of_item NodeOfEvent = inr (inr 0)
 
-abbrev item_in : List ℕ ⊎ Expression → SaidItem
+abbrev item_in : List ℕ ⊎ (Expression ⊎ ℕ) → SaidItem
 item_in (inl bytes) = Words bytes
-item_in (inr x) = Value x
+item_in (inr (inl x)) = Value x
+item_in (inr (inr n)) = NodeOfEvent
 
 pub item_back : (i : SaidItem) → item_in (of_item i) ≡ i
 item_back (Words bytes) = refl
 item_back (Value x) = refl
+item_back NodeOfEvent = refl
 
 abbrev item_code : Coded SaidItem
-item_code = code_by (List ℕ ⊎ Expression) (coded⊎ (coded_list coded_ℕ) expression_code) of_item item_in item_back
+item_code = code_by (List ℕ ⊎ (Expression ⊎ ℕ)) (coded⊎ (coded_list coded_ℕ) (coded⊎ expression_code coded_ℕ)) of_item item_in item_back
 
 -- ---- words
 

@@ -2,15 +2,17 @@
 use Rattle.std.specs.Prelude.{ℕ, List, [], ◌∷◌, ◌++◌, Bool, false, ◌||◌}
 use Rattle.std.specs.List.{list_any}
 use Rattle.watch_expr.specs.Faulty.{is_nested, lacks_node}
-use Rattle.embed_cmds.specs.Tree.{SaidItem, Words, Value, Statement, Set, Say, Stop, If, Statements, End, Then}
+use Rattle.embed_cmds.specs.Tree.{SaidItem, Words, Value, NodeOfEvent, Statement, Set, Say, Stop, If, Statements, End, Then}
 
 abbrev pub nests_item : SaidItem → Bool
 nests_item (Words bytes) = false
 nests_item (Value x) = is_nested x
+nests_item NodeOfEvent = false
 
 abbrev pub lacks_item : SaidItem → Bool
 lacks_item (Words bytes) = false
 lacks_item (Value x) = lacks_node false x
+lacks_item NodeOfEvent = false
 
 abbrev mutual
   pub nests_one : Statement → Bool

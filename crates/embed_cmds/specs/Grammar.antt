@@ -3,12 +3,14 @@ use Rattle.std.specs.Prelude.{◌≡◌, ℕ, true, codes, List, [], ◌∷◌, 
 use Rattle.watch_expr.specs.Grammar.{IsExpr}
 use Rattle.watch_expr.specs.Spelling.{is_word}
 use Rattle.watch_expr.specs.Expression.{Expression}
-use Rattle.embed_cmds.specs.Tree.{SaidItem, Words, Value, Statement, Set, Say, Stop, If, Statements, End, Then}
+use Rattle.embed_cmds.specs.Tree.{SaidItem, Words, Value, NodeOfEvent, Statement, Set, Say, Stop, If, Statements, End, Then}
 
--- with these names of nodes, the tokens spell the item: a string in its quotes, or an expression
+-- with these names of nodes, the tokens spell the item: a string in its quotes, an expression, or the node of the position's
+-- event
 pub data IsSayItem (names : List (List ℕ)) : List (List ℕ) → SaidItem → Type 0 where
   words : (body : List ℕ) → IsSayItem names ((34 ∷ (body ++ 34 ∷ [])) ∷ []) (Words body)
   value : {a : List (List ℕ)} {x : Expression} → IsExpr names a x → IsSayItem names a (Value x)
+  event_node : IsSayItem names (codes "@" ∷ codes "!" ∷ []) NodeOfEvent
 
 -- items with commas between them
 pub data AreSayItems (names : List (List ℕ)) : List (List ℕ) → List SaidItem → Type 0 where

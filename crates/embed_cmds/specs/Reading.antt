@@ -1,12 +1,12 @@
 -- What the tokens of a program spell, as a function that computes. The tokens are read from the first one on.
-use Rattle.std.specs.Prelude.{ℕ, zero, suc, ◌==◌, List, [], ◌∷◌, length, take, drop, codes, bytes_eq, Option, Some, None, option_map, Result, Ok, Err, if◌then◌else◌}
+use Rattle.std.specs.Prelude.{ℕ, zero, suc, ◌==◌, Bool, true, false, ◌&&◌, not, List, [], ◌∷◌, length, take, drop, codes, bytes_eq, Option, Some, None, option_map, Result, Ok, Err, if◌then◌else◌}
 use Rattle.std.specs.List.{find}
 use Rattle.watch_expr.specs.Computed.{expression_spelled, viable_tokens}
 use Rattle.watch_expr.specs.Spelling.{is_word}
 use Rattle.watch_expr.specs.Expression.{Expression}
 use Rattle.embed_cmds.specs.declared.keyword.Keyword.{Keyword}
 use Rattle.embed_cmds.specs.declared.keyword.Keyword.TheVariants as keyword
-use Rattle.embed_cmds.specs.Tree.{SaidItem, Words, Value, Statement, Set, Say, Stop, If, Statements, End, sequence}
+use Rattle.embed_cmds.specs.Tree.{SaidItem, Words, Value, NodeOfEvent, Statement, Set, Say, Stop, If, Statements, End, sequence}
 
 -- the tokens that are left
 abbrev pub LeftTokens : Type 0
@@ -95,10 +95,25 @@ separated_items sign one ts = separated_in sign one (length ts) ts
 
 -- ---- statements
 
--- a string, or the value of an expression
+-- a dot comes first
+abbrev pub begins_with_dot : LeftTokens → Bool
+begins_with_dot [] = false
+begins_with_dot (t ∷ ts) = bytes_eq t (codes ".")
+
+-- the node of the position's event comes first, and no place of it
+abbrev pub names_event_node : LeftTokens → Bool
+names_event_node [] = false
+names_event_node (a ∷ []) = false
+names_event_node (a ∷ b ∷ ts) = bytes_eq a (codes "@") && (bytes_eq b (codes "!") && not (begins_with_dot ts))
+
+abbrev pub node_or_value : List (List ℕ) → Bool → LeftTokens → ReadOfTokens SaidItem
+node_or_value names true ts = Ok (NodeOfEvent, drop 2 ts)
+node_or_value names false ts = then_reads (expression names ts) (λ x left. Ok (Value x, left))
+
+-- a string, the node of the position's event, or the value of an expression
 abbrev pub string_or_value : List (List ℕ) → Option (List ℕ) → List ℕ → LeftTokens → ReadOfTokens SaidItem
 string_or_value names (Some body) t ts = Ok (Words body, ts)
-string_or_value names None t ts = then_reads (expression names (t ∷ ts)) (λ x left. Ok (Value x, left))
+string_or_value names None t ts = node_or_value names (names_event_node (t ∷ ts)) (t ∷ ts)
 
 abbrev pub item : List (List ℕ) → LeftTokens → ReadOfTokens SaidItem
 item names [] = Err []

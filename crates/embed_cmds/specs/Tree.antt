@@ -7,10 +7,11 @@ use Rattle.embed_cmds.specs.declared.program.SayItem.TheVariants as said
 use Rattle.embed_cmds.specs.declared.program.Stmt.{Stmt, Row_of-Stmt, end_of-Stmt, more_of-Stmt}
 use Rattle.embed_cmds.specs.declared.program.Stmt as stmt
 
--- what a line says: the bytes of a string, or a value
+-- what a line says: the bytes of a string, a value, or the name of the node of the position's event
 pub data SaidItem : Type 0 where
   Words : (bytes : List ℕ) → SaidItem
   Value : (x : Expression) → SaidItem
+  NodeOfEvent : SaidItem
 
 mutual
   -- a statement with those inside it
@@ -33,6 +34,7 @@ sequence (first ∷ rest) = Then first (sequence rest)
 abbrev pub item_of : SayItem → SaidItem
 item_of (said.Words bytes) = Words bytes
 item_of (said.Value x) = Value (expression_of x)
+item_of said.OfEvent = NodeOfEvent
 
 abbrev mutual
   -- the statement that the value in memory is

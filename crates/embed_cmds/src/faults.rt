@@ -59,6 +59,7 @@ fn faults_of_item(item: &SayItem) -> ProgramFaults
     match item {
         SayItem::Words(_) => NONE,
         SayItem::Value(x) => faults_of_value(x),
+        SayItem::OfEvent => NONE,
     }
 }
 

@@ -2,7 +2,8 @@
 //!
 //! A program is read from the tokens of a line (`parse_program`), and run over the nodes of a group (`run_program`).
 //! Contracts see it as a list of statements (`specs/Tree`), and the variables as a list of names with their values, in the
-//! order in which they were first mentioned (`specs/Variables`). `specs/Grammar` says which tokens spell which program,
+//! order in which they were first mentioned (`specs/Variables`). Where a program runs, it knows the node of the event that led
+//! there (`EventNode`). `specs/Grammar` says which tokens spell which program,
 //! `specs/Faulty` what may be wrong with one, and `specs/Running` what one does to the variables and what it says. Each call
 //! gives exactly that, or wants memory. The law `exact_programs` says that tokens spell at most one program, which
 //! `specs/Reading` computes, and at which token they stop being the front of any.
@@ -15,11 +16,13 @@ pub mod laws;
 mod parser;
 mod program;
 mod run;
+mod stops;
 mod token;
 mod variables;
 
 pub use faults::{ProgramFaults, program_faults};
 pub use parser::parse_program;
 pub use program::{Program, SayItem, Stmt};
-pub use run::{push_value, run_program};
+pub use run::{EventNode, is_true, push_value, run_program};
+pub use stops::has_stop;
 pub use variables::Vars;

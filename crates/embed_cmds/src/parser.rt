@@ -9,7 +9,7 @@ ghost use Rattle.embed_cmds.specs.Tree.{item_of, statement_of, statements};
 use crate::faults::program_faults;
 use crate::keyword::Keyword;
 use crate::program::{Program, SayItem, Stmt};
-use crate::token::{expect, read_expression, read_keyword, read_word, stands, string_at};
+use crate::token::{expect, names_event_node, read_expression, read_keyword, read_word, stands, string_at};
 use fri_bytes::Bytes;
 use std::alloc::Global;
 use watch_expr::{ExprError, Tokens};
@@ -180,7 +180,7 @@ fn read_items(
     }
 }
 
-/// A string, or the value of an expression.
+/// A string, the node of the position's event by its name, or the value of an expression.
 fn read_item(
     alloc: Global,
     tokens: &Tokens<'_>,
@@ -194,6 +194,9 @@ fn read_item(
     if let Some(words) = string_at(tokens, at) {
         let words = Bytes::from_slice(alloc, words)?;
         return Ok((SayItem::Words(words), at + 1));
+    }
+    if names_event_node(tokens, at) {
+        return Ok((SayItem::OfEvent, at + 2));
     }
     let (value, next) = read_expression(alloc, tokens, at, names)?;
     Ok((SayItem::Value(value), next))

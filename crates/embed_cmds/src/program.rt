@@ -10,6 +10,8 @@ pub enum SayItem {
     Words(Bytes),
     /// The value of an expression.
     Value(Expr),
+    /// The name of the node of the event at whose position the program runs.
+    OfEvent,
 }
 
 /// A statement with those inside it.

@@ -1,11 +1,11 @@
 // Reads a token of a program, or those of an expression.
-ghost use Rattle.std.specs.Prelude.{◌≡◌, ◌≤◌, ◌<◌, ◌^◌, IfOk, IfSome, codes, drop, length, option_map, slice_get, true};
+ghost use Rattle.std.specs.Prelude.{◌≡◌, ◌+◌, ◌≤◌, ◌<◌, ◌^◌, ◌&&◌, IfOk, IfSome, codes, drop, length, not, option_map, slice_get, true};
 ghost use Rattle.std.specs.Option.{option_and_then};
 ghost use Rattle.std.specs.Result.{is_ok};
 ghost use Rattle.watch_expr.specs.Lexing.{token_texts};
 ghost use Rattle.watch_expr.specs.Expression.{expression_of};
 ghost use Rattle.embed_cmds.specs.inside.Parsed.{GoesAsToken, ReadAsTokens};
-ghost use Rattle.embed_cmds.specs.Reading.{before_quote as before_quote_of, after_token, expression, keyword_of, string_of, token_read_as, word_of};
+ghost use Rattle.embed_cmds.specs.Reading.{before_quote as before_quote_of, after_token, expression, keyword_of, names_event_node, string_of, token_read_as, word_of};
 
 use crate::keyword::{Keyword, keyword_from};
 use fri_bytes::Bytes;
@@ -96,6 +96,21 @@ fn before_quote(bytes: &[u8]) -> Option<&[u8]>
 {
     let (last, front) = bytes.split_last()?;
     if *last == b'"' { Some(front) } else { None }
+}
+
+/// Whether the node of the position's event is named there, and no place of it.
+pub(crate) fn names_event_node(tokens: &Tokens<'_>, at: usize) -> bool
+    ensures named { result ≡ names_event_node (drop at (token_texts tokens.now)) }
+    ensures small { result ≡ true → at < 2 ^ 63 }
+{
+    stands(tokens, at, "@") && is_event(tokens, at + 1)
+}
+
+// An exclamation mark, behind which no place follows.
+fn is_event(tokens: &Tokens<'_>, at: usize) -> bool
+    ensures { result ≡ (is_ok (after_token (codes "!") (drop at (token_texts tokens.now))) && not (is_ok (after_token (codes ".") (drop (at + 1) (token_texts tokens.now))))) }
+{
+    stands(tokens, at, "!") && !stands(tokens, at + 1, ".")
 }
 
 /// Reads an expression, of as many tokens as begin one.

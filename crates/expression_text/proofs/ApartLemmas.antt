@@ -1,5 +1,5 @@
 -- No comma, semicolon, brace or string is in an expression.
-use Rattle.std.proofs.Common.{◌≡◌, ℕ, Bool, true, false, not, ◌||◌, ◌==◌, inl, inr, ltb, List, [], ◌∷◌, ◌++◌, length, Option, Some, None, refl, sym, ap, ◌∙◌}
+use Rattle.std.proofs.Common.{◌≡◌, ℕ, Bool, true, false, not, cond, ◌||◌, ◌==◌, inl, inr, ltb, List, [], ◌∷◌, ◌++◌, length, Option, Some, None, refl, sym, ap, ◌∙◌}
 use Rattle.std.specs.Prelude.{bytes_eq, codes, slice_index, is_some}
 use Rattle.std.specs.Char.{is_ascii_digit}
 use Rattle.std.specs.List.{list_all}
@@ -11,12 +11,13 @@ use Rattle.expression_text.specs.declared.expr.Binary.{Binary}
 use Rattle.expression_text.specs.declared.expr.Binary.TheVariants as binary
 use Rattle.expression_text.specs.declared.expr.Agg.{Agg}
 use Rattle.expression_text.specs.declared.expr.Agg.TheVariants as agg
+use Rattle.expression_text.specs.declared.expr.NodeName.{NodeName}
 use Rattle.expression_text.specs.declared.expr.Width.{Width}
 use Rattle.expression_text.specs.declared.expr.Width.TheVariants as width
 use Rattle.expression_text.specs.declared.word.PlaceWord.TheVariants as place
 use Rattle.expression_text.specs.Expression.{Expression}
-use Rattle.expression_text.specs.Spelling.{is_word_byte, is_word, number_of, number_at_most, most_number, binary_sign, unary_sign, agg_word, place_word}
-use Rattle.expression_text.specs.Grammar.{IsExprAtLevel, higher, two, one, number, variable, brackets, over, load, global, clock, events, size}
+use Rattle.expression_text.specs.Spelling.{is_word_byte, is_word, node_of_word, node_spelled, number_of, number_at_most, most_number, binary_sign, unary_sign, agg_word, place_word}
+use Rattle.expression_text.specs.Grammar.{IsExprAtLevel, higher, two, one, number, variable, brackets, over, load, global, clock, events, size, last_thread, has_ended}
 use Rattle.expression_text.specs.Laws.{is_apart_token, NoneApart}
 use Rattle.expression_text.proofs.KnownWords.{same_bytes}
 
@@ -65,6 +66,16 @@ words = record { comma = refl; semicolon = refl; opening = refl; closing = refl;
 
 word_apart : (text : List ℕ) → is_word text ≡ true → not (is_apart_token text) ≡ true
 word_apart text e = refuted (is_apart_token text) (λ a. apart is_word words text e a)
+
+module _ (names : List (List ℕ)) where
+  abbrev is_node : List ℕ → Bool
+  is_node text = is_some (node_spelled names text)
+
+  node_apart : (text : List ℕ) (node : NodeName) → node_spelled names text ≡ Some node → not (is_apart_token text) ≡ true
+  node_apart text node e = refuted (is_apart_token text) (λ a. apart is_node nodes text (ap is_some e) a)
+    where
+      nodes : Unlike is_node
+      nodes = record { comma = refl; semicolon = refl; opening = refl; closing = refl; string = λ rest. ap (λ (b : Bool). is_some (cond b (Some (node_of_word names (34 ∷ rest))) None)) (words.string rest); none = refl }
 
 abbrev is_number : List ℕ → Bool
 is_number text = is_some (number_of text)
@@ -138,14 +149,16 @@ module _ (names : List (List ℕ)) where
   all_in (variable word e) = in_front word [] (word_apart word e) refl
   all_in (brackets {a} p) = joined a (codes ")" ∷ []) (all_in p) refl
   all_in (over {a} agg p) = in_front (agg_word agg) (codes "(" ∷ (a ++ codes ")" ∷ [])) (agg_apart agg) (joined a (codes ")" ∷ []) (all_in p) refl)
-  all_in (load {a} name width e p) =
-      in_front name (codes "." ∷ place_word (place.Load width) ∷ codes "[" ∷ (a ++ codes "]" ∷ [])) (word_apart name e)
+  all_in (load {a} name node width e p) =
+      in_front name (codes "." ∷ place_word (place.Load width) ∷ codes "[" ∷ (a ++ codes "]" ∷ [])) (node_apart names name node e)
       (in_front (place_word (place.Load width)) (codes "[" ∷ (a ++ codes "]" ∷ [])) (width_apart width) (joined a (codes "]" ∷ []) (all_in p) refl))
-  all_in (global name word n e f) =
-      in_front name (codes "." ∷ codes "global" ∷ codes "[" ∷ word ∷ codes "]" ∷ []) (word_apart name e) (in_front word (codes "]" ∷ []) (number_apart word n f) refl)
-  all_in (clock name e) = in_front name (codes "." ∷ codes "clock" ∷ []) (word_apart name e) refl
-  all_in (events name e) = in_front name (codes "." ∷ codes "events" ∷ []) (word_apart name e) refl
-  all_in (size name e) = in_front name (codes "." ∷ codes "size" ∷ []) (word_apart name e) refl
+  all_in (global name node word n e f) =
+      in_front name (codes "." ∷ codes "global" ∷ codes "[" ∷ word ∷ codes "]" ∷ []) (node_apart names name node e) (in_front word (codes "]" ∷ []) (number_apart word n f) refl)
+  all_in (clock name node e) = in_front name (codes "." ∷ codes "clock" ∷ []) (node_apart names name node e) refl
+  all_in (events name node e) = in_front name (codes "." ∷ codes "events" ∷ []) (node_apart names name node e) refl
+  all_in (size name node e) = in_front name (codes "." ∷ codes "size" ∷ []) (node_apart names name node e) refl
+  all_in (last_thread name node e) = in_front name (codes "." ∷ codes "thread" ∷ []) (node_apart names name node e) refl
+  all_in (has_ended name node e) = in_front name (codes "." ∷ codes "ended" ∷ []) (node_apart names name node e) refl
 
 pub none_in : NoneApart
 none_in names ts x h = all_in names h

@@ -80,6 +80,8 @@ place_again place.Global = refl
 place_again place.Clock = refl
 place_again place.Events = refl
 place_again place.Size = refl
+place_again place.Thread = refl
+place_again place.Ended = refl
 
 -- ---- what a token that is where an operand is wanted leads to
 

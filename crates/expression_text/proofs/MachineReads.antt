@@ -8,15 +8,16 @@ use Rattle.expression_text.specs.declared.expr.Binary.{Binary}
 use Rattle.expression_text.specs.declared.expr.Agg.{Agg}
 use Rattle.expression_text.specs.declared.expr.Width.{Width}
 use Rattle.expression_text.specs.declared.expr.NodeName.{NodeName}
+use Rattle.expression_text.specs.declared.expr.NodeName.TheVariants as node
 use Rattle.expression_text.specs.declared.stack.Opening.{Opening}
 use Rattle.expression_text.specs.declared.stack.Opening.TheVariants as opening
 use Rattle.expression_text.specs.declared.stack.Half.{Half}
 use Rattle.expression_text.specs.declared.stack.Half.TheVariants as half
 use Rattle.expression_text.specs.declared.word.PlaceWord.{PlaceWord}
 use Rattle.expression_text.specs.declared.word.PlaceWord.TheVariants as place
-use Rattle.expression_text.specs.Expression.{Expression, Number, One, Two, Over, Var, Load, Global, Clock, Events, Size}
-use Rattle.expression_text.specs.Spelling.{is_word, number_of, node_of_word, binary_sign, binary_of, unary_sign, unary_of, agg_word, agg_of, place_word, place_of}
-use Rattle.expression_text.specs.Grammar.{UNARY, FIRST, operator_level, left_level, IsExprAtLevel, higher, two, one, number, variable, brackets, over, load, global, clock, events, size, IsExpr, BeginsExpr}
+use Rattle.expression_text.specs.Expression.{Expression, Number, One, Two, Over, Var, Load, Global, Clock, Events, Size, LastThread, HasEnded}
+use Rattle.expression_text.specs.Spelling.{is_word, number_of, node_spelled, binary_sign, binary_of, unary_sign, unary_of, agg_word, agg_of, place_word, place_of}
+use Rattle.expression_text.specs.Grammar.{UNARY, FIRST, operator_level, left_level, IsExprAtLevel, higher, two, one, number, variable, brackets, over, load, global, clock, events, size, last_thread, has_ended, IsExpr, BeginsExpr}
 use Rattle.expression_text.specs.Machine.{PendingOperator, Left, Front, Inside, MachineState, Want, Have, Part, settle_operators, after_operator, closing, is_closed_with, enclose_expression, close, TokenWent, More, Whole, Opens, went_when, went_only_if, at_place, begin_as, begun_by_token, onward_token, lead_token, step_wanting_sign, step_wanting_number, have_as, machine_step, machine_steps, whole_expression, whole}
 use Rattle.expression_text.proofs.SettledOperators.{tested, left_high, left_low, Fits, fits_more, fits_unary, settle_stops, operator_goes, operator_gave}
 use Rattle.expression_text.proofs.KnownWords.{same_bytes, binary_is, binary_again, unary_is, agg_is, place_is, place_again, sign_read, agg_read, bracket_read, dollar_read, at_read, closing_again, zero_is}
@@ -73,17 +74,16 @@ module _ (names : List (List ℕ)) where
   agg_steps : (s : List PendingOperator) (a : Agg) (rest : List (List ℕ)) → machine_steps names (Some (Want s)) (agg_word a ∷ codes "(" ∷ rest) ≡ machine_steps names (Some (Want (Inside (opening.Call a) ∷ s))) rest
   agg_steps s a rest = ap (λ (o : Option MachineState). machine_steps names o (codes "(" ∷ rest)) (agg_read names s a)
 
-  place_steps : (s : List PendingOperator) (name : List ℕ) (p : PlaceWord) (rest : List (List ℕ)) → is_word name ≡ true → machine_steps names (Some (Want s)) (codes "@" ∷ name ∷ codes "." ∷ place_word p ∷ rest) ≡ machine_steps names (lead_token s (Some (at_place (node_of_word names name) p))) rest
-  place_steps s name p rest e =
-      let node = node_of_word names name in
+  place_steps : (s : List PendingOperator) (name : List ℕ) (node : NodeName) (p : PlaceWord) (rest : List (List ℕ)) → node_spelled names name ≡ Some node → machine_steps names (Some (Want s)) (codes "@" ∷ name ∷ codes "." ∷ place_word p ∷ rest) ≡ machine_steps names (lead_token s (Some (at_place node p))) rest
+  place_steps s name node p rest e =
       ap (λ (o : Option MachineState). machine_steps names o (name ∷ codes "." ∷ place_word p ∷ rest)) (at_read names s)
-      ∙ ap (λ (b : Bool). machine_steps names (lead_token s (went_only_if b (More (half.Node node)))) (codes "." ∷ place_word p ∷ rest)) e
+      ∙ ap (λ (o : Option NodeName). machine_steps names (lead_token s (went_when o (λ n. More (half.Node n)))) (codes "." ∷ place_word p ∷ rest)) e
       ∙ ap (λ (o : Option PlaceWord). machine_steps names (lead_token s (went_when o (at_place node))) rest) (place_again p)
 
-  global_steps : (s : List PendingOperator) (name word : List ℕ) (n : ℕ) → is_word name ≡ true → number_of word ≡ Some n → machine_steps names (Some (Want s)) (codes "@" ∷ name ∷ codes "." ∷ codes "global" ∷ codes "[" ∷ word ∷ codes "]" ∷ []) ≡ Some (Have s (Global (node_of_word names name) n))
-  global_steps s name word n e f =
-      place_steps s name place.Global (codes "[" ∷ word ∷ codes "]" ∷ []) e
-      ∙ ap (λ (o : Option ℕ). machine_steps names (lead_token s (went_when o (λ k. More (half.Indexed (node_of_word names name) k)))) (codes "]" ∷ [])) f
+  global_steps : (s : List PendingOperator) (name : List ℕ) (node : NodeName) (word : List ℕ) (n : ℕ) → node_spelled names name ≡ Some node → number_of word ≡ Some n → machine_steps names (Some (Want s)) (codes "@" ∷ name ∷ codes "." ∷ codes "global" ∷ codes "[" ∷ word ∷ codes "]" ∷ []) ≡ Some (Have s (Global node n))
+  global_steps s name node word n e f =
+      place_steps s name node place.Global (codes "[" ∷ word ∷ codes "]" ∷ []) e
+      ∙ ap (λ (o : Option ℕ). machine_steps names (lead_token s (went_when o (λ k. More (half.Indexed node k)))) (codes "]" ∷ [])) f
 
   pub read_again : {k : ℕ} {ts : List (List ℕ)} {x : Expression} → IsExprAtLevel names k ts x → (s : List PendingOperator) → Fits k s → Reads k s ts x
   read_again {k} {ts} {x} (higher h) s fits =
@@ -113,14 +113,16 @@ module _ (names : List (List ℕ)) where
   read_again (over {a} {x} agg p) s fits =
       let inner = closed (opening.Call agg) s a x (read_again p (Inside (opening.Call agg) ∷ s) tt) in
       record { after = s; last = Over agg x; reads = agg_steps s agg (a ++ codes ")" ∷ []) ∙ inner; settles = λ m le. refl }
-  read_again (load {a} {x} name width e p) s fits =
-      let o = opening.Load (node_of_word names name) width in
+  read_again (load {a} {x} name node width e p) s fits =
+      let o = opening.Load node width in
       let inner = closed o s a x (read_again p (Inside o ∷ s) tt) in
-      record { after = s; last = Load (node_of_word names name) width x; reads = place_steps s name (place.Load width) (codes "[" ∷ (a ++ codes "]" ∷ [])) e ∙ inner; settles = λ m le. refl }
-  read_again (global name word n e f) s fits = record { after = s; last = Global (node_of_word names name) n; reads = global_steps s name word n e f; settles = λ m le. refl }
-  read_again (clock name e) s fits = record { after = s; last = Clock (node_of_word names name); reads = place_steps s name place.Clock [] e; settles = λ m le. refl }
-  read_again (events name e) s fits = record { after = s; last = Events (node_of_word names name); reads = place_steps s name place.Events [] e; settles = λ m le. refl }
-  read_again (size name e) s fits = record { after = s; last = Size (node_of_word names name); reads = place_steps s name place.Size [] e; settles = λ m le. refl }
+      record { after = s; last = Load node width x; reads = place_steps s name node (place.Load width) (codes "[" ∷ (a ++ codes "]" ∷ [])) e ∙ inner; settles = λ m le. refl }
+  read_again (global name node word n e f) s fits = record { after = s; last = Global node n; reads = global_steps s name node word n e f; settles = λ m le. refl }
+  read_again (clock name node e) s fits = record { after = s; last = Clock node; reads = place_steps s name node place.Clock [] e; settles = λ m le. refl }
+  read_again (events name node e) s fits = record { after = s; last = Events node; reads = place_steps s name node place.Events [] e; settles = λ m le. refl }
+  read_again (size name node e) s fits = record { after = s; last = Size node; reads = place_steps s name node place.Size [] e; settles = λ m le. refl }
+  read_again (last_thread name node e) s fits = record { after = s; last = LastThread node; reads = place_steps s name node place.Thread [] e; settles = λ m le. refl }
+  read_again (has_ended name node e) s fits = record { after = s; last = HasEnded node; reads = place_steps s name node place.Ended [] e; settles = λ m le. refl }
 
   -- what is spelled is a whole expression
   pub whole_again : (ts : List (List ℕ)) (x : Expression) → IsExpr names ts x → (st : MachineState) × (machine_steps names (Some (Want [])) ts ≡ Some st) × (whole st ≡ Some x)
@@ -140,18 +142,18 @@ module _ (names : List (List ℕ)) where
   abbrev pub IsOpening : Opening → List (List ℕ) → Type 0
   IsOpening opening.Bracket ts = ts ≡ codes "(" ∷ []
   IsOpening (opening.Call agg) ts = ts ≡ agg_word agg ∷ codes "(" ∷ []
-  IsOpening (opening.Load node width) ts = (name : List ℕ) × (is_word name ≡ true) × (node_of_word names name ≡ node) × (ts ≡ codes "@" ∷ name ∷ codes "." ∷ place_word (place.Load width) ∷ codes "[" ∷ [])
+  IsOpening (opening.Load node width) ts = (name : List ℕ) × (node_spelled names name ≡ Some node) × (ts ≡ codes "@" ∷ name ∷ codes "." ∷ place_word (place.Load width) ∷ codes "[" ∷ [])
 
   -- the tokens that begin an operand
   abbrev pub IsHalf : Half → List (List ℕ) → Type 0
   IsHalf half.Dollar ts = ts ≡ codes "$" ∷ []
   IsHalf half.At ts = ts ≡ codes "@" ∷ []
-  IsHalf (half.Node n) ts = (name : List ℕ) × (is_word name ≡ true) × (node_of_word names name ≡ n) × (ts ≡ codes "@" ∷ name ∷ [])
-  IsHalf (half.Dotted n) ts = (name : List ℕ) × (is_word name ≡ true) × (node_of_word names name ≡ n) × (ts ≡ codes "@" ∷ name ∷ codes "." ∷ [])
-  IsHalf (half.Sized n width) ts = (name : List ℕ) × (is_word name ≡ true) × (node_of_word names name ≡ n) × (ts ≡ codes "@" ∷ name ∷ codes "." ∷ place_word (place.Load width) ∷ [])
-  IsHalf (half.GlobalOf n) ts = (name : List ℕ) × (is_word name ≡ true) × (node_of_word names name ≡ n) × (ts ≡ codes "@" ∷ name ∷ codes "." ∷ codes "global" ∷ [])
-  IsHalf (half.Indexing n) ts = (name : List ℕ) × (is_word name ≡ true) × (node_of_word names name ≡ n) × (ts ≡ codes "@" ∷ name ∷ codes "." ∷ codes "global" ∷ codes "[" ∷ [])
-  IsHalf (half.Indexed n k) ts = (name word : List ℕ) × (is_word name ≡ true) × (node_of_word names name ≡ n) × (number_of word ≡ Some k) × (ts ≡ codes "@" ∷ name ∷ codes "." ∷ codes "global" ∷ codes "[" ∷ word ∷ [])
+  IsHalf (half.Node n) ts = (name : List ℕ) × (node_spelled names name ≡ Some n) × (ts ≡ codes "@" ∷ name ∷ [])
+  IsHalf (half.Dotted n) ts = (name : List ℕ) × (node_spelled names name ≡ Some n) × (ts ≡ codes "@" ∷ name ∷ codes "." ∷ [])
+  IsHalf (half.Sized n width) ts = (name : List ℕ) × (node_spelled names name ≡ Some n) × (ts ≡ codes "@" ∷ name ∷ codes "." ∷ place_word (place.Load width) ∷ [])
+  IsHalf (half.GlobalOf n) ts = (name : List ℕ) × (node_spelled names name ≡ Some n) × (ts ≡ codes "@" ∷ name ∷ codes "." ∷ codes "global" ∷ [])
+  IsHalf (half.Indexing n) ts = (name : List ℕ) × (node_spelled names name ≡ Some n) × (ts ≡ codes "@" ∷ name ∷ codes "." ∷ codes "global" ∷ codes "[" ∷ [])
+  IsHalf (half.Indexed n k) ts = (name word : List ℕ) × (node_spelled names name ≡ Some n) × (number_of word ≡ Some k) × (ts ≡ codes "@" ∷ name ∷ codes "." ∷ codes "global" ∷ codes "[" ∷ word ∷ [])
   IsHalf (half.Named agg) ts = ts ≡ agg_word agg ∷ []
 
   -- the outcome of an operand that has begun
@@ -218,28 +220,11 @@ module _ (names : List (List ℕ)) where
   stood : (a b : MachineState) (w : List (List ℕ)) → ◌≡◌ {A = Option MachineState} (Some a) (Some b) → Stands a w → Stands b w
   stood a b w e h = subst (λ (t : MachineState). Stands t w) (let i : a ≡ b = cc in i) h
 
-  -- the places of a node that a name names
-  module _ (name : List ℕ) (n : NodeName) (is : is_word name ≡ true) (names_it : node_of_word names name ≡ n) where
-    load_of : {a : List (List ℕ)} {x : Expression} (width : Width) → IsExprAtLevel names 0 a x → IsExprAtLevel names FIRST (codes "@" ∷ name ∷ codes "." ∷ place_word (place.Load width) ∷ codes "[" ∷ (a ++ codes "]" ∷ [])) (Load n width x)
-    load_of {a} {x} width h = subst (λ (m : NodeName). IsExprAtLevel names FIRST (codes "@" ∷ name ∷ codes "." ∷ place_word (place.Load width) ∷ codes "[" ∷ (a ++ codes "]" ∷ [])) (Load m width x)) names_it (load name width is h)
-
-    global_of : (word : List ℕ) (k : ℕ) → number_of word ≡ Some k → IsExprAtLevel names FIRST (codes "@" ∷ name ∷ codes "." ∷ codes "global" ∷ codes "[" ∷ word ∷ codes "]" ∷ []) (Global n k)
-    global_of word k e = subst (λ (m : NodeName). IsExprAtLevel names FIRST (codes "@" ∷ name ∷ codes "." ∷ codes "global" ∷ codes "[" ∷ word ∷ codes "]" ∷ []) (Global m k)) names_it (global name word k is e)
-
-    clock_of : IsExprAtLevel names FIRST (codes "@" ∷ name ∷ codes "." ∷ codes "clock" ∷ []) (Clock n)
-    clock_of = subst (λ (m : NodeName). IsExprAtLevel names FIRST (codes "@" ∷ name ∷ codes "." ∷ codes "clock" ∷ []) (Clock m)) names_it (clock name is)
-
-    events_of : IsExprAtLevel names FIRST (codes "@" ∷ name ∷ codes "." ∷ codes "events" ∷ []) (Events n)
-    events_of = subst (λ (m : NodeName). IsExprAtLevel names FIRST (codes "@" ∷ name ∷ codes "." ∷ codes "events" ∷ []) (Events m)) names_it (events name is)
-
-    size_of : IsExprAtLevel names FIRST (codes "@" ∷ name ∷ codes "." ∷ codes "size" ∷ []) (Size n)
-    size_of = subst (λ (m : NodeName). IsExprAtLevel names FIRST (codes "@" ∷ name ∷ codes "." ∷ codes "size" ∷ []) (Size m)) names_it (size name is)
-
   -- what opens, what is in it and what closes it
   enclosed_closed : (o : Opening) (ts a : List (List ℕ)) (x : Expression) → IsOpening o ts → IsExprAtLevel names 0 a x → IsExprAtLevel names FIRST (ts ++ (a ++ closing o ∷ [])) (enclose_expression o x)
   enclosed_closed opening.Bracket ts a x i h = rw i (brackets h)
   enclosed_closed (opening.Call agg) ts a x i h = rw i (over agg h)
-  enclosed_closed (opening.Load node width) ts a x i h = rw i.3 (load_of i.0 node i.1 i.2 width h)
+  enclosed_closed (opening.Load node width) ts a x i h = rw i.2 (load i.0 node width i.1 h)
 
   enclosed_first : (o : Opening) (k : List ℕ) (ts a : List (List ℕ)) (x : Expression) → IsOpening o ts → IsExprAtLevel names 0 a x → is_closed_with o k ≡ true → IsExprAtLevel names FIRST (ts ++ (a ++ k ∷ [])) (enclose_expression o x)
   enclosed_first o k ts a x i h e = subst (λ (t : List ℕ). IsExprAtLevel names FIRST (ts ++ (a ++ t ∷ [])) (enclose_expression o x)) (sym (same_bytes k (closing o) e)) (enclosed_closed o ts a x i h)
@@ -295,26 +280,28 @@ module _ (names : List (List ℕ)) where
   begin_keeps : (k : List ℕ) (g : TokenWent) → begun_by_token k ≡ Some g → Came g (k ∷ [])
   begin_keeps k g e = begin_as_keeps (agg_of k) k g refl e
 
-  place_keeps : (name : List ℕ) (n : NodeName) (p : PlaceWord) → is_word name ≡ true → node_of_word names name ≡ n → Came (at_place n p) (codes "@" ∷ name ∷ codes "." ∷ place_word p ∷ [])
-  place_keeps name n (place.Load width) e f = (name, e, f, refl)
-  place_keeps name n place.Global e f = (name, e, f, refl)
-  place_keeps name n place.Clock e f = clock_of name n e f
-  place_keeps name n place.Events e f = events_of name n e f
-  place_keeps name n place.Size e f = size_of name n e f
+  place_keeps : (name : List ℕ) (n : NodeName) (p : PlaceWord) → node_spelled names name ≡ Some n → Came (at_place n p) (codes "@" ∷ name ∷ codes "." ∷ place_word p ∷ [])
+  place_keeps name n (place.Load width) e = (name, e, refl)
+  place_keeps name n place.Global e = (name, e, refl)
+  place_keeps name n place.Clock e = clock name n e
+  place_keeps name n place.Events e = events name n e
+  place_keeps name n place.Size e = size name n e
+  place_keeps name n place.Thread e = last_thread name n e
+  place_keeps name n place.Ended e = has_ended name n e
 
   onward_keeps : (h : Half) (k : List ℕ) (ts : List (List ℕ)) (g : TokenWent) → IsHalf h ts → onward_token names h k ≡ Some g → Came g (ts ++ k ∷ [])
   onward_keeps half.Dollar k ts g h e = let p = given_some (is_word k) _ g e in came (Whole (Var k)) g _ p.1 (rw h (variable k p.0))
-  onward_keeps half.At k ts g h e = let p = given_some (is_word k) _ g e in came (More (half.Node (node_of_word names k))) g _ p.1 (k, p.0, refl, rw h refl)
-  onward_keeps (half.Node n) k ts g h e = let p = single k (codes ".") _ g e in came (More (half.Dotted n)) g _ p.1 (h.0, h.1, h.2, rw (h.3, p.0) refl)
+  onward_keeps half.At k ts g h e = let p = when_some (node_spelled names k) _ g e in came (More (half.Node p.0)) g _ p.2 (k, p.1, rw h refl)
+  onward_keeps (half.Node n) k ts g h e = let p = single k (codes ".") _ g e in came (More (half.Dotted n)) g _ p.1 (h.0, h.1, rw (h.2, p.0) refl)
   onward_keeps (half.Dotted n) k ts g h e =
       let p = when_some (place_of k) _ g e in
       let parts : ts ++ k ∷ [] ≡ codes "@" ∷ h.0 ∷ codes "." ∷ place_word p.0 ∷ [] =
-      ap (λ (u : List (List ℕ)). u ++ k ∷ []) h.3 ∙ ap (λ (w : List ℕ). codes "@" ∷ h.0 ∷ codes "." ∷ w ∷ []) (place_is k p.0 p.1) in
-      came (at_place n p.0) g _ p.2 (subst (λ (u : List (List ℕ)). Came (at_place n p.0) u) (sym parts) (place_keeps h.0 n p.0 h.1 h.2))
-  onward_keeps (half.Sized n width) k ts g h e = let p = single k (codes "[") _ g e in came (Opens (opening.Load n width)) g _ p.1 (h.0, h.1, h.2, rw (h.3, p.0) refl)
-  onward_keeps (half.GlobalOf n) k ts g h e = let p = single k (codes "[") _ g e in came (More (half.Indexing n)) g _ p.1 (h.0, h.1, h.2, rw (h.3, p.0) refl)
-  onward_keeps (half.Indexing n) k ts g h e = let p = when_some (number_of k) _ g e in came (More (half.Indexed n p.0)) g _ p.2 (h.0, k, h.1, h.2, p.1, rw h.3 refl)
-  onward_keeps (half.Indexed n m) k ts g h e = let p = single k (codes "]") _ g e in came (Whole (Global n m)) g _ p.1 (rw (h.5, p.0) (global_of h.0 n h.2 h.3 h.1 m h.4))
+      ap (λ (u : List (List ℕ)). u ++ k ∷ []) h.2 ∙ ap (λ (w : List ℕ). codes "@" ∷ h.0 ∷ codes "." ∷ w ∷ []) (place_is k p.0 p.1) in
+      came (at_place n p.0) g _ p.2 (subst (λ (u : List (List ℕ)). Came (at_place n p.0) u) (sym parts) (place_keeps h.0 n p.0 h.1))
+  onward_keeps (half.Sized n width) k ts g h e = let p = single k (codes "[") _ g e in came (Opens (opening.Load n width)) g _ p.1 (h.0, h.1, rw (h.2, p.0) refl)
+  onward_keeps (half.GlobalOf n) k ts g h e = let p = single k (codes "[") _ g e in came (More (half.Indexing n)) g _ p.1 (h.0, h.1, rw (h.2, p.0) refl)
+  onward_keeps (half.Indexing n) k ts g h e = let p = when_some (number_of k) _ g e in came (More (half.Indexed n p.0)) g _ p.2 (h.0, k, h.1, p.1, rw h.2 refl)
+  onward_keeps (half.Indexed n m) k ts g h e = let p = single k (codes "]") _ g e in came (Whole (Global n m)) g _ p.1 (rw (h.4, p.0) (global h.0 n h.1 m h.2 h.3))
   onward_keeps (half.Named agg) k ts g h e = let p = single k (codes "(") _ g e in came (Opens (opening.Call agg)) g _ p.1 (rw (h, p.0) refl)
 
   lead_keeps : (s : List PendingOperator) (o : Option TokenWent) (b ts : List (List ℕ)) (st : MachineState) → Leads s b → ((g : TokenWent) → o ≡ Some g → Came g ts) → lead_token s o ≡ Some st → Stands st (b ++ ts)
@@ -377,13 +364,13 @@ module _ (names : List (List ℕ)) where
 
   half_finishes : (h : Half) (ts : List (List ℕ)) → IsHalf h ts → Completes ts
   half_finishes half.Dollar ts h = (codes "a" ∷ [], Var (codes "a"), rw h (variable (codes "a") refl))
-  half_finishes half.At ts h = (codes "a" ∷ codes "." ∷ codes "clock" ∷ [], Clock (node_of_word names (codes "a")), rw h (clock (codes "a") refl))
-  half_finishes (half.Node n) ts h = (codes "." ∷ codes "clock" ∷ [], Clock n, rw h.3 (clock_of h.0 n h.1 h.2))
-  half_finishes (half.Dotted n) ts h = (codes "clock" ∷ [], Clock n, rw h.3 (clock_of h.0 n h.1 h.2))
-  half_finishes (half.Sized n width) ts h = (codes "[" ∷ codes "0" ∷ codes "]" ∷ [], Load n width (Number 0), rw h.3 (load_of h.0 n h.1 h.2 width zero_in))
-  half_finishes (half.GlobalOf n) ts h = (codes "[" ∷ codes "0" ∷ codes "]" ∷ [], Global n 0, rw h.3 (global_of h.0 n h.1 h.2 (codes "0") 0 zero_is))
-  half_finishes (half.Indexing n) ts h = (codes "0" ∷ codes "]" ∷ [], Global n 0, rw h.3 (global_of h.0 n h.1 h.2 (codes "0") 0 zero_is))
-  half_finishes (half.Indexed n k) ts h = (codes "]" ∷ [], Global n k, rw h.5 (global_of h.0 n h.2 h.3 h.1 k h.4))
+  half_finishes half.At ts h = (codes "!" ∷ codes "." ∷ codes "clock" ∷ [], Clock node.OfEvent, rw h (clock (codes "!") node.OfEvent refl))
+  half_finishes (half.Node n) ts h = (codes "." ∷ codes "clock" ∷ [], Clock n, rw h.2 (clock h.0 n h.1))
+  half_finishes (half.Dotted n) ts h = (codes "clock" ∷ [], Clock n, rw h.2 (clock h.0 n h.1))
+  half_finishes (half.Sized n width) ts h = (codes "[" ∷ codes "0" ∷ codes "]" ∷ [], Load n width (Number 0), rw h.2 (load h.0 n width h.1 zero_in))
+  half_finishes (half.GlobalOf n) ts h = (codes "[" ∷ codes "0" ∷ codes "]" ∷ [], Global n 0, rw h.2 (global h.0 n (codes "0") 0 h.1 zero_is))
+  half_finishes (half.Indexing n) ts h = (codes "0" ∷ codes "]" ∷ [], Global n 0, rw h.2 (global h.0 n (codes "0") 0 h.1 zero_is))
+  half_finishes (half.Indexed n k) ts h = (codes "]" ∷ [], Global n k, rw h.4 (global h.0 n h.1 k h.2 h.3))
   half_finishes (half.Named agg) ts h = (codes "(" ∷ codes "0" ∷ codes ")" ∷ [], Over agg (Number 0), rw h (over agg zero_in))
 
   want_begins : (s : List PendingOperator) (w : List (List ℕ)) → Leads s w → BeginsExpr names w

@@ -13,7 +13,7 @@ use Rattle.expression_text.specs.declared.expr.Unary.{Unary}
 use Rattle.expression_text.specs.declared.expr.Unary.TheVariants as unary
 use Rattle.expression_text.specs.declared.expr.Width.{Width}
 use Rattle.expression_text.specs.declared.expr.Width.TheVariants as width
-use Rattle.expression_text.specs.Expression.{Expression, Number, Var, One, Two, Over, Load, Global, Clock, Events, Size}
+use Rattle.expression_text.specs.Expression.{Expression, Number, Var, One, Two, Over, Load, Global, Clock, Events, Size, LastThread, HasEnded}
 
 abbrev Word : Type 0
 Word = ℕ × List ℕ
@@ -124,15 +124,20 @@ abbrev of_node : NodeName → List ℕ
 of_node named.Each = []
 of_node (named.Named None) = 0 ∷ []
 of_node (named.Named (Some n)) = 1 ∷ (n ∷ [])
+of_node named.OfEvent = 2 ∷ []
 
 abbrev node_in : List ℕ → NodeName
 node_in [] = named.Each
-node_in (kind ∷ ns) = if nat_eq kind 0 then named.Named None else named.Named (Some (get_or ns 0 0))
+node_in (kind ∷ ns) =
+    if nat_eq kind 0 then named.Named None else
+    if nat_eq kind 1 then named.Named (Some (get_or ns 0 0)) else
+    named.OfEvent
 
 node_back : (name : NodeName) → node_in (of_node name) ≡ name
 node_back named.Each = refl
 node_back (named.Named None) = refl
 node_back (named.Named (Some n)) = refl
+node_back named.OfEvent = refl
 
 -- a number that is in front of a node
 abbrev first_in : List ℕ → ℕ
@@ -152,7 +157,9 @@ leaf_in kind ns =
     if nat_eq kind 2 then Global (node_in (rest_in ns)) (first_in ns) else
     if nat_eq kind 3 then Clock (node_in ns) else
     if nat_eq kind 4 then Events (node_in ns) else
-    Size (node_in ns)
+    if nat_eq kind 5 then Size (node_in ns) else
+    if nat_eq kind 10 then LastThread (node_in ns) else
+    HasEnded (node_in ns)
 
 -- an expression over the one read last, by its kind
 abbrev over_last : ℕ → List ℕ → List Expression → List Expression
@@ -199,6 +206,8 @@ write (Global name n) ws = (2, n ∷ of_node name) ∷ ws
 write (Clock name) ws = (3, of_node name) ∷ ws
 write (Events name) ws = (4, of_node name) ∷ ws
 write (Size name) ws = (5, of_node name) ∷ ws
+write (LastThread name) ws = (10, of_node name) ∷ ws
+write (HasEnded name) ws = (11, of_node name) ∷ ws
 
 pub read_write : (x : Expression) (ws : List Word) (read : List Expression) → read_words (write x ws) read ≡ read_words ws (x ∷ read)
 read_write (Number n) ws read = refl
@@ -218,6 +227,8 @@ read_write (Global name n) ws read = ap (λ m. read_words ws (Global m n ∷ rea
 read_write (Clock name) ws read = ap (λ m. read_words ws (Clock m ∷ read)) (node_back name)
 read_write (Events name) ws read = ap (λ m. read_words ws (Events m ∷ read)) (node_back name)
 read_write (Size name) ws read = ap (λ m. read_words ws (Size m ∷ read)) (node_back name)
+read_write (LastThread name) ws read = ap (λ m. read_words ws (LastThread m ∷ read)) (node_back name)
+read_write (HasEnded name) ws read = ap (λ m. read_words ws (HasEnded m ∷ read)) (node_back name)
 
 abbrev pub expression_code : Coded Expression
 expression_code = code_by (List Word) (coded_list (coded× coded_ℕ (coded_list coded_ℕ))) (λ x. write x []) tree_in (λ x. ap first_read (read_write x [] []))

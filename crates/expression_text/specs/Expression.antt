@@ -20,6 +20,8 @@ pub data Expression : Type 0 where
   Clock : (name : NodeName) → Expression
   Events : (name : NodeName) → Expression
   Size : (name : NodeName) → Expression
+  LastThread : (name : NodeName) → Expression
+  HasEnded : (name : NodeName) → Expression
 
 -- the expression that the value in memory is
 abbrev pub expression_of : Expr → Expression
@@ -33,3 +35,5 @@ expression_of (expr.Global name n) = Global name n
 expression_of (expr.Clock name) = Clock name
 expression_of (expr.Events name) = Events name
 expression_of (expr.Size name) = Size name
+expression_of (expr.LastThread name) = LastThread name
+expression_of (expr.HasEnded name) = HasEnded name

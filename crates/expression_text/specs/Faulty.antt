@@ -1,8 +1,8 @@
 -- What may be wrong with an expression that is of the grammar.
 use Rattle.std.specs.Prelude.{Bool, true, false, not, ◌||◌, Some, None}
 use Rattle.expression_text.specs.declared.expr.NodeName.{NodeName}
-use Rattle.expression_text.specs.declared.expr.NodeName.TheVariants.{Named, Each}
-use Rattle.expression_text.specs.Expression.{Expression, Number, Var, One, Two, Over, Load, Global, Clock, Events, Size}
+use Rattle.expression_text.specs.declared.expr.NodeName.TheVariants.{Named, Each, OfEvent}
+use Rattle.expression_text.specs.Expression.{Expression, Number, Var, One, Two, Over, Load, Global, Clock, Events, Size, LastThread, HasEnded}
 
 -- an aggregate is in it
 abbrev pub has_aggregate : Expression → Bool
@@ -16,6 +16,8 @@ has_aggregate (Global node n) = false
 has_aggregate (Clock node) = false
 has_aggregate (Events node) = false
 has_aggregate (Size node) = false
+has_aggregate (LastThread node) = false
+has_aggregate (HasEnded node) = false
 
 -- an aggregate is in an aggregate
 abbrev pub is_nested : Expression → Bool
@@ -29,12 +31,15 @@ is_nested (Global node n) = false
 is_nested (Clock node) = false
 is_nested (Events node) = false
 is_nested (Size node) = false
+is_nested (LastThread node) = false
+is_nested (HasEnded node) = false
 
 -- in an aggregate, or outside, this stands for no node
 abbrev pub is_unnamed : Bool → NodeName → Bool
 is_unnamed inside (Named None) = true
 is_unnamed inside (Named (Some n)) = false
 is_unnamed inside Each = not inside
+is_unnamed inside OfEvent = false
 
 -- in an aggregate, or outside, a name of it is that of no node
 abbrev pub lacks_node : Bool → Expression → Bool
@@ -48,6 +53,8 @@ lacks_node inside (Global node n) = is_unnamed inside node
 lacks_node inside (Clock node) = is_unnamed inside node
 lacks_node inside (Events node) = is_unnamed inside node
 lacks_node inside (Size node) = is_unnamed inside node
+lacks_node inside (LastThread node) = is_unnamed inside node
+lacks_node inside (HasEnded node) = is_unnamed inside node
 
 -- a variable is named
 abbrev pub names_variable : Expression → Bool
@@ -61,3 +68,29 @@ names_variable (Global node n) = false
 names_variable (Clock node) = false
 names_variable (Events node) = false
 names_variable (Size node) = false
+names_variable (LastThread node) = false
+names_variable (HasEnded node) = false
+
+abbrev pub is_of_event : NodeName → Bool
+is_of_event (Named _) = false
+is_of_event Each = false
+is_of_event OfEvent = true
+
+-- the node of the event that led to the position is named, which there is only where a point or its program asks
+abbrev pub names_event : Expression → Bool
+names_event (Number n) = false
+names_event (Var name) = false
+names_event (One op x) = names_event x
+names_event (Two op x y) = names_event x || names_event y
+names_event (Over agg x) = names_event x
+names_event (Load node width x) = is_of_event node || names_event x
+names_event (Global node n) = is_of_event node
+names_event (Clock node) = is_of_event node
+names_event (Events node) = is_of_event node
+names_event (Size node) = is_of_event node
+names_event (LastThread node) = is_of_event node
+names_event (HasEnded node) = is_of_event node
+
+-- a name of it is that of no node, where no point has led to the position that it is asked at
+abbrev pub lacks_some_node : Expression → Bool
+lacks_some_node x = lacks_node false x || names_event x

@@ -8,10 +8,11 @@ use Rattle.expression_text.specs.declared.expr.Binary.TheVariants as binary
 use Rattle.expression_text.specs.declared.expr.Agg.{Agg}
 use Rattle.expression_text.specs.declared.expr.Width.{Width}
 use Rattle.expression_text.specs.declared.expr.Expr.{Expr}
+use Rattle.expression_text.specs.declared.expr.NodeName.{NodeName}
 use Rattle.expression_text.specs.declared.word.PlaceWord.TheVariants as place
 use Rattle.expression_text.specs.Lexing.{LexedLine, token_texts, column_of_token}
-use Rattle.expression_text.specs.Spelling.{is_word, number_of, node_of_word, binary_sign, unary_sign, agg_word, place_word}
-use Rattle.expression_text.specs.Expression.{Expression, Number, Var, One, Two, Over, Load, Global, Clock, Events, Size, expression_of}
+use Rattle.expression_text.specs.Spelling.{is_word, number_of, node_spelled, binary_sign, unary_sign, agg_word, place_word}
+use Rattle.expression_text.specs.Expression.{Expression, Number, Var, One, Two, Over, Load, Global, Clock, Events, Size, LastThread, HasEnded, expression_of}
 
 -- The levels of expressions: or, and, comparison, sum, product, sign in front, and operand. What is spelled at a
 -- level is spelled at each lower one.
@@ -63,13 +64,15 @@ pub data IsExprAtLevel (names : List (List ℕ)) : ℕ → List (List ℕ) → E
   variable : (word : List ℕ) → is_word word ≡ true → IsExprAtLevel names FIRST (codes "$" ∷ word ∷ []) (Var word)
   brackets : {a : List (List ℕ)} {x : Expression} → IsExprAtLevel names 0 a x → IsExprAtLevel names FIRST (codes "(" ∷ (a ++ codes ")" ∷ [])) x
   over : {a : List (List ℕ)} {x : Expression} (agg : Agg) → IsExprAtLevel names 0 a x → IsExprAtLevel names FIRST (agg_word agg ∷ codes "(" ∷ (a ++ codes ")" ∷ [])) (Over agg x)
-  load : {a : List (List ℕ)} {x : Expression} (name : List ℕ) (width : Width) → is_word name ≡ true → IsExprAtLevel names 0 a x
-      → IsExprAtLevel names FIRST (codes "@" ∷ name ∷ codes "." ∷ place_word (place.Load width) ∷ codes "[" ∷ (a ++ codes "]" ∷ [])) (Load (node_of_word names name) width x)
-  global : (name word : List ℕ) (n : ℕ) → is_word name ≡ true → number_of word ≡ Some n
-      → IsExprAtLevel names FIRST (codes "@" ∷ name ∷ codes "." ∷ codes "global" ∷ codes "[" ∷ word ∷ codes "]" ∷ []) (Global (node_of_word names name) n)
-  clock : (name : List ℕ) → is_word name ≡ true → IsExprAtLevel names FIRST (codes "@" ∷ name ∷ codes "." ∷ codes "clock" ∷ []) (Clock (node_of_word names name))
-  events : (name : List ℕ) → is_word name ≡ true → IsExprAtLevel names FIRST (codes "@" ∷ name ∷ codes "." ∷ codes "events" ∷ []) (Events (node_of_word names name))
-  size : (name : List ℕ) → is_word name ≡ true → IsExprAtLevel names FIRST (codes "@" ∷ name ∷ codes "." ∷ codes "size" ∷ []) (Size (node_of_word names name))
+  load : {a : List (List ℕ)} {x : Expression} (name : List ℕ) (node : NodeName) (width : Width) → node_spelled names name ≡ Some node → IsExprAtLevel names 0 a x
+      → IsExprAtLevel names FIRST (codes "@" ∷ name ∷ codes "." ∷ place_word (place.Load width) ∷ codes "[" ∷ (a ++ codes "]" ∷ [])) (Load node width x)
+  global : (name : List ℕ) (node : NodeName) (word : List ℕ) (n : ℕ) → node_spelled names name ≡ Some node → number_of word ≡ Some n
+      → IsExprAtLevel names FIRST (codes "@" ∷ name ∷ codes "." ∷ codes "global" ∷ codes "[" ∷ word ∷ codes "]" ∷ []) (Global node n)
+  clock : (name : List ℕ) (node : NodeName) → node_spelled names name ≡ Some node → IsExprAtLevel names FIRST (codes "@" ∷ name ∷ codes "." ∷ codes "clock" ∷ []) (Clock node)
+  events : (name : List ℕ) (node : NodeName) → node_spelled names name ≡ Some node → IsExprAtLevel names FIRST (codes "@" ∷ name ∷ codes "." ∷ codes "events" ∷ []) (Events node)
+  size : (name : List ℕ) (node : NodeName) → node_spelled names name ≡ Some node → IsExprAtLevel names FIRST (codes "@" ∷ name ∷ codes "." ∷ codes "size" ∷ []) (Size node)
+  last_thread : (name : List ℕ) (node : NodeName) → node_spelled names name ≡ Some node → IsExprAtLevel names FIRST (codes "@" ∷ name ∷ codes "." ∷ codes "thread" ∷ []) (LastThread node)
+  has_ended : (name : List ℕ) (node : NodeName) → node_spelled names name ≡ Some node → IsExprAtLevel names FIRST (codes "@" ∷ name ∷ codes "." ∷ codes "ended" ∷ []) (HasEnded node)
 
 -- the tokens spell the expression
 abbrev pub IsExpr : List (List ℕ) → List (List ℕ) → Expression → Type 0

@@ -1,10 +1,11 @@
 -- What holds of lines and expressions, whatever they are.
-use Rattle.std.specs.Prelude.{◌≡◌, ◌↔◌, ℕ, Bool, true, not, ◌||◌, ◌==◌, codes, bytes_eq, slice_index, List, [], Some, Ok, Err}
+use Rattle.std.specs.Prelude.{◌≡◌, ◌↔◌, ℕ, Bool, true, not, ◌||◌, ◌==◌, codes, bytes_eq, slice_index, List, [], ◌∷◌, ◌++◌, Some, Ok, Err}
 use Rattle.std.specs.List.{list_all}
 use Rattle.expression_text.specs.Lexing.{PlacedToken, LexesTokens, IsBadAt}
 use Rattle.expression_text.specs.Computed.{cut_tokens, expression_spelled, begins_some_expression, viable_tokens}
 use Rattle.expression_text.specs.Grammar.{IsExpr, BeginsExpr, TakesExpr}
 use Rattle.expression_text.specs.Expression.{Expression}
+use Rattle.expression_text.specs.Spelling.{is_word}
 
 -- What is computed of a line is its tokens, or the column of the first byte that begins none. So a line has one of
 -- both, and in one way.
@@ -18,6 +19,10 @@ pub record ExactReading : Type 0 where
   pub expressions : (names ts : List (List ℕ)) (x : Expression) → (expression_spelled names ts ≡ Some x) ↔ IsExpr names ts x
   pub begins : (names ts : List (List ℕ)) → (begins_some_expression names ts ≡ true) ↔ BeginsExpr names ts
   pub viable : (names ts : List (List ℕ)) (n : ℕ) → TakesExpr names ts n → viable_tokens names [] ts ≡ n
+  -- the node of the position's event is named for one of its places alone
+  pub dotted : (names ts : List (List ℕ)) (x : Expression) → IsExpr names (codes "@" ∷ codes "!" ∷ ts) x → (more : List (List ℕ)) × (ts ≡ codes "." ∷ more)
+  -- no word follows an expression
+  pub ended : (names ts : List (List ℕ)) (word : List ℕ) (x : Expression) → is_word word ≡ true → IsExpr names ts x → BeginsExpr names (ts ++ word ∷ []) → ⊥
 
 -- a comma, a semicolon, a brace or a string
 abbrev pub is_apart_token : List ℕ → Bool

@@ -10,8 +10,8 @@ use Rattle.expression_text.specs.declared.stack.Half.{Half}
 use Rattle.expression_text.specs.declared.stack.Half.TheVariants as half
 use Rattle.expression_text.specs.declared.stack.Opening.{Opening}
 use Rattle.expression_text.specs.declared.stack.Opening.TheVariants as opening
-use Rattle.expression_text.specs.Expression.{Expression, Number, Var, One, Two, Over, Load, Global, Clock, Events, Size}
-use Rattle.expression_text.specs.Spelling.{is_word, number_of, node_of_word, binary_of, unary_of, agg_of, place_of}
+use Rattle.expression_text.specs.Expression.{Expression, Number, Var, One, Two, Over, Load, Global, Clock, Events, Size, LastThread, HasEnded}
+use Rattle.expression_text.specs.Spelling.{is_word, number_of, node_spelled, binary_of, unary_of, agg_of, place_of}
 use Rattle.expression_text.specs.Grammar.{operator_level, left_level}
 
 -- what waits for an operand
@@ -78,6 +78,8 @@ at_place node place.Global = More (half.GlobalOf node)
 at_place node place.Clock = Whole (Clock node)
 at_place node place.Events = Whole (Events node)
 at_place node place.Size = Whole (Size node)
+at_place node place.Thread = Whole (LastThread node)
+at_place node place.Ended = Whole (HasEnded node)
 
 abbrev pub begin_as : Option Agg → List ℕ → Option TokenWent
 begin_as (Some agg) t = Some (More (half.Named agg))
@@ -91,7 +93,7 @@ begun_by_token t = begin_as (agg_of t) t
 
 abbrev pub onward_token : List (List ℕ) → Half → List ℕ → Option TokenWent
 onward_token names half.Dollar t = went_only_if (is_word t) (Whole (Var t))
-onward_token names half.At t = went_only_if (is_word t) (More (half.Node (node_of_word names t)))
+onward_token names half.At t = went_when (node_spelled names t) (λ n. More (half.Node n))
 onward_token names (half.Node n) t = went_only_if (bytes_eq t (codes ".")) (More (half.Dotted n))
 onward_token names (half.Dotted n) t = went_when (place_of t) (at_place n)
 onward_token names (half.Sized n width) t = went_only_if (bytes_eq t (codes "[")) (Opens (opening.Load n width))

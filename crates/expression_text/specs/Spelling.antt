@@ -112,11 +112,14 @@ place_word place.Global = codes "global"
 place_word place.Clock = codes "clock"
 place_word place.Events = codes "events"
 place_word place.Size = codes "size"
+place_word place.Thread = codes "thread"
+place_word place.Ended = codes "ended"
 
 abbrev pub places : List PlaceWord
 places =
     place.Load width.U8 ∷ place.Load width.U16 ∷ place.Load width.U32 ∷ place.Load width.I8 ∷ place.Load width.I16
-    ∷ place.Load width.I32 ∷ place.Load width.I64 ∷ place.Global ∷ place.Clock ∷ place.Events ∷ place.Size ∷ []
+    ∷ place.Load width.I32 ∷ place.Load width.I64 ∷ place.Global ∷ place.Clock ∷ place.Events ∷ place.Size ∷ place.Thread
+    ∷ place.Ended ∷ []
 
 unfoldable pub place_of : List ℕ → Option PlaceWord
 place_of word = find (λ p. bytes_eq (place_word p) word) places
@@ -127,3 +130,8 @@ place_of word = find (λ p. bytes_eq (place_word p) word) places
 -- node with that name.
 unfoldable pub node_of_word : List (List ℕ) → List ℕ → NodeName
 node_of_word names word = if bytes_eq word (codes "_") then node.Each else node.Named (position (λ name. bytes_eq name word) names)
+
+-- The node that the token behind an at sign stands for: an exclamation mark for the node of the position's event, and a word
+-- for the node that it names.
+abbrev pub node_spelled : List (List ℕ) → List ℕ → Option NodeName
+node_spelled names text = if bytes_eq text (codes "!") then Some node.OfEvent else if is_word text then Some (node_of_word names text) else None

@@ -3,12 +3,13 @@
 use fri_bytes::Bytes;
 use std::alloc::{AllocError, Global};
 
-/// The node that a place belongs to: by its number, or none where no node has the name that was given; or
-/// the node that an aggregate stands at.
+/// The node that a place belongs to: by its number, or none where no node has the name that was given; the node that
+/// an aggregate stands at; or the node of the event that led to the position.
 #[derive(Clone, Copy, Debug, PartialEq, Eq)]
 pub enum NodeName {
     Named(Option<u32>),
     Each,
+    OfEvent,
 }
 
 /// An operator with one operand.
@@ -70,6 +71,8 @@ pub enum Expr {
     Clock(NodeName),
     Events(NodeName),
     Size(NodeName),
+    LastThread(NodeName),
+    HasEnded(NodeName),
 }
 
 impl Expr {
@@ -99,6 +102,8 @@ impl Expr {
             Expr::Clock(name) => Expr::Clock(*name),
             Expr::Events(name) => Expr::Events(*name),
             Expr::Size(name) => Expr::Size(*name),
+            Expr::LastThread(name) => Expr::LastThread(*name),
+            Expr::HasEnded(name) => Expr::HasEnded(*name),
         })
     }
 }

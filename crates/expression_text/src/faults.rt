@@ -1,7 +1,7 @@
 // What may be wrong with an expression that is of the grammar.
 ghost use Rattle.std.specs.Prelude.{◌≡◌, ◌||◌, ◌&&◌, false};
 ghost use Rattle.expression_text.specs.Expression.{expression_of};
-ghost use Rattle.expression_text.specs.Faulty.{has_aggregate, is_nested, lacks_node, is_unnamed, names_variable};
+ghost use Rattle.expression_text.specs.Faulty.{has_aggregate, is_nested, is_of_event, is_unnamed, lacks_node, names_event, names_variable};
 
 use crate::expr::{Expr, NodeName};
 
@@ -14,6 +14,8 @@ pub struct Faults {
     pub no_node: bool,
     /// A variable is named.
     pub variable: bool,
+    /// The node of the position's event is named.
+    pub event: bool,
 }
 
 /// Tells what may be wrong with the expression. It takes no memory.
@@ -21,6 +23,7 @@ pub fn find_faults(e: &Expr) -> Faults
     ensures nested { result.nested ≡ is_nested (expression_of e.now) }
     ensures no_node { result.no_node ≡ lacks_node false (expression_of e.now) }
     ensures variable { result.variable ≡ names_variable (expression_of e.now) }
+    ensures event { result.event ≡ names_event (expression_of e.now) }
 {
     faults_in(e, false)
 }
@@ -29,6 +32,7 @@ const NONE: Faults = Faults {
     nested: false,
     no_node: false,
     variable: false,
+    event: false,
 };
 
 impl Faults {
@@ -38,12 +42,14 @@ impl Faults {
           nested = self.nested || other.nested;
           no_node = self.no_node || other.no_node;
           variable = self.variable || other.variable;
+          event = self.event || other.event;
         } }
     {
         Faults {
             nested: self.nested || other.nested,
             no_node: self.no_node || other.no_node,
             variable: self.variable || other.variable,
+            event: self.event || other.event,
         }
     }
 }
@@ -53,6 +59,7 @@ fn faults_in(e: &Expr, inside: bool) -> Faults
     ensures nested { result.nested ≡ ((inside && has_aggregate (expression_of e.now)) || is_nested (expression_of e.now)) }
     ensures no_node { result.no_node ≡ lacks_node inside (expression_of e.now) }
     ensures variable { result.variable ≡ names_variable (expression_of e.now) }
+    ensures event { result.event ≡ names_event (expression_of e.now) }
 {
     match e {
         Expr::Number(_) => NONE,
@@ -72,16 +79,27 @@ fn faults_in(e: &Expr, inside: bool) -> Faults
         Expr::Clock(node) => node_faults(*node, inside),
         Expr::Events(node) => node_faults(*node, inside),
         Expr::Size(node) => node_faults(*node, inside),
+        Expr::LastThread(node) => node_faults(*node, inside),
+        Expr::HasEnded(node) => node_faults(*node, inside),
     }
 }
 
 fn node_faults(node: NodeName, inside: bool) -> Faults
-    ensures { result ≡ record { nested = false; no_node = is_unnamed inside node; variable = false } }
+    ensures { result ≡ record { nested = false; no_node = is_unnamed inside node; variable = false; event = is_of_event node } }
 {
-    let no_node = match node {
-        NodeName::Named(Some(_)) => false,
-        NodeName::Named(None) => true,
-        NodeName::Each => !inside,
-    };
-    Faults { no_node, ..NONE }
+    match node {
+        NodeName::Named(Some(_)) => NONE,
+        NodeName::Named(None) => Faults {
+            no_node: true,
+            ..NONE
+        },
+        NodeName::Each => Faults {
+            no_node: !inside,
+            ..NONE
+        },
+        NodeName::OfEvent => Faults {
+            event: true,
+            ..NONE
+        },
+    }
 }

@@ -210,7 +210,10 @@ fn named(names: &[Bytes], text: &[u8]) -> Option<Went>
     requires { length names.now < 2 ^ 32 }
     ensures { went_if result ≡ onward_token names.now Half.At text.now }
 {
-    more_if(is_word(text), Half::Node(read_node(names, text)))
+    match read_node(names, text) {
+        Some(node) => Some(Went::More(Half::Node(node))),
+        None => None,
+    }
 }
 
 fn placed(node: NodeName, text: &[u8]) -> Option<Went>
@@ -231,6 +234,8 @@ fn at(node: NodeName, place: PlaceWord) -> Went
         PlaceWord::Clock => Went::Whole(Expr::Clock(node)),
         PlaceWord::Events => Went::Whole(Expr::Events(node)),
         PlaceWord::Size => Went::Whole(Expr::Size(node)),
+        PlaceWord::Thread => Went::Whole(Expr::LastThread(node)),
+        PlaceWord::Ended => Went::Whole(Expr::HasEnded(node)),
     }
 }
 

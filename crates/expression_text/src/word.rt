@@ -1,7 +1,7 @@
 // The words and signs with a meaning of their own.
 ghost use Rattle.std.specs.Prelude.{◌≡◌, ◌<◌, ◌^◌, IfSome, bytes_eq, length, position};
 ghost use Rattle.std.specs.List.{list_all};
-ghost use Rattle.expression_text.specs.Spelling.{is_word as is_word_text, is_word_byte as is_byte_of_word, binary_sign, binary_of, unary_sign, unary_of, agg_word, agg_of, place_word, place_of, node_of_word};
+ghost use Rattle.expression_text.specs.Spelling.{is_word as is_word_text, is_word_byte as is_byte_of_word, binary_sign, binary_of, unary_sign, unary_of, agg_word, agg_of, place_word, place_of, node_of_word, node_spelled};
 
 use crate::expr::{Agg, Binary, NodeName, Unary, Width};
 use fri_bytes::Bytes;
@@ -14,6 +14,8 @@ pub(crate) enum PlaceWord {
     Clock,
     Events,
     Size,
+    Thread,
+    Ended,
 }
 
 const BINARIES: [Binary; 13] = [
@@ -36,7 +38,7 @@ const UNARIES: [Unary; 2] = [Unary::Minus, Unary::Not];
 
 const AGGS: [Agg; 4] = [Agg::Sum, Agg::Min, Agg::Max, Agg::Count];
 
-const PLACES: [PlaceWord; 11] = [
+const PLACES: [PlaceWord; 13] = [
     PlaceWord::Load(Width::U8),
     PlaceWord::Load(Width::U16),
     PlaceWord::Load(Width::U32),
@@ -48,6 +50,8 @@ const PLACES: [PlaceWord; 11] = [
     PlaceWord::Clock,
     PlaceWord::Events,
     PlaceWord::Size,
+    PlaceWord::Thread,
+    PlaceWord::Ended,
 ];
 
 fn sign_of_binary(op: Binary) -> &'static str
@@ -105,6 +109,8 @@ fn word_of_place(place: PlaceWord) -> &'static str
         PlaceWord::Clock => "clock",
         PlaceWord::Events => "events",
         PlaceWord::Size => "size",
+        PlaceWord::Thread => "thread",
+        PlaceWord::Ended => "ended",
     }
 }
 
@@ -151,9 +157,24 @@ pub(crate) fn read_place(word: &[u8]) -> Option<PlaceWord>
         .find(|place| word_of_place(*place).as_bytes() == word)
 }
 
-/// The node that the word names.
+/// The node that the token behind an at sign stands for, if it stands for one.
+pub(crate) fn read_node(names: &[Bytes], text: &[u8]) -> Option<NodeName>
+    requires { length names.now < 2 ^ 32 }
+    ensures { result ≡ node_spelled names.now text.now }
+{
+    if text == b"!".as_slice() {
+        return Some(NodeName::OfEvent);
+    }
+    if is_word(text) {
+        Some(node_of_word(names, text))
+    } else {
+        None
+    }
+}
+
+// The node that the word names.
 #[tactic(auto, unfolding(crate::specs::Spelling::node_of_word))]
-pub(crate) fn read_node(names: &[Bytes], word: &[u8]) -> NodeName
+fn node_of_word(names: &[Bytes], word: &[u8]) -> NodeName
     requires { length names.now < 2 ^ 32 }
     ensures { result ≡ node_of_word names.now word.now }
 {

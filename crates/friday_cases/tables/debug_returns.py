@@ -175,19 +175,18 @@ PROGRAMS = (
     ("goto 11", PLACES[11]),
     # A point with a program says the line of one without, and the program does not run.
     ("rcontinue", "break 1", "break 2", PLACES[9]),
-    ("rcontinue", "watch 3: 1 -> 0", PLACES[8]),
+    # One whose program has no `stop` is passed where it fires alone.
     ("rcontinue", "break 2", PLACES[7]),
     ("rcontinue", "break 2", PLACES[5]),
     ("rcontinue", "break 1", "break 2", "watch 3: 0 -> 1", PLACES[3]),
     ("rcontinue", "start", PLACES[0]),
     ("vars", "$n 1", "$m 1"),
     ("list", "1 break ping send", "2 break * send", "3 watch @ping.events == 2"),
-    # One whose program never stops fires all the same, and the programs are still there.
+    # A `stop` that is never reached counts, and the programs are still there.
     ("delete 2", "deleted 2"),
     ("do 1 if 0 { stop }", ),
     ("goto 11", PLACES[11]),
     ("rcontinue", "break 1", PLACES[9]),
-    ("rcontinue", "watch 3: 1 -> 0", PLACES[8]),
     ("rcontinue", "break 1", "watch 3: 0 -> 1", PLACES[3]),
     ("back", PLACES[2]),
     ("continue", "three", "three", "end", PLACES[11]),

@@ -3,6 +3,7 @@ use Rattle.std.proofs.Common.{◌≡◌, ℕ, Bool, true, false, cond, ◌||◌,
 use Rattle.call_table.specs.declared.kind.Kind.{Kind}
 use Rattle.group_state.specs.Place.{events_of_replays}
 use Rattle.embed_cmds.specs.Faulty.{set_names}
+use Rattle.watch_expr.specs.Expression.{Expression}
 use Rattle.embed_cmds.specs.Tree.{Statements}
 use Rattle.embed_cmds.specs.Variables.{is_mentioned, mention_all}
 use Rattle.shell_lines.specs.Lines.{At, Back, Break, LineCommand, Continue, Delete, Do, Events, Everywhere, Goto, ListPoints, ListVariables, Mem, Print, Quit, Rcontinue, WhichNodes, SetTo, Step, Threads, Watch}
@@ -18,8 +19,8 @@ module _ (state : SessionState) where
   either true a c h k = h
   either false a c h k = k
 
-  adding : (line : List ℕ) (trigger : Trigger) → Keeps (adds_point state line trigger)
-  adding line trigger = either (nat_lt (length state.points) most_points) _ _ refl refl
+  adding : (line : List ℕ) (trigger : Trigger) (condition : Option Expression) → Keeps (adds_point state line trigger condition)
+  adding line trigger condition = either (nat_lt (length state.points) most_points) _ _ refl refl
 
   deleting : (n : ℕ) → Keeps (deletes_point state n)
   deleting n = either (has_point state.points n) _ _ refl refl
@@ -31,10 +32,10 @@ module _ (state : SessionState) where
   setting : (name : List ℕ) (value : Option ℤ) → Keeps (sets_variable state name value)
   setting name value = either (is_mentioned state.variables name || nat_lt (length state.variables) most_variables) _ _ refl refl
 
-  breaking : (line : List ℕ) (kind : Kind) (scope : WhichNodes) → Keeps (breaks_at state line kind scope)
-  breaking line kind Everywhere = adding line _
-  breaking line kind (At None) = refl
-  breaking line kind (At (Some n)) = adding line _
+  breaking : (line : List ℕ) (kind : Option Kind) (condition : Option Expression) (scope : WhichNodes) → Keeps (breaks_at state line kind condition scope)
+  breaking line kind condition Everywhere = adding line _ condition
+  breaking line kind condition (At None) = refl
+  breaking line kind condition (At (Some n)) = adding line _ condition
 
   pub kept_start : (line : List ℕ) (c : LineCommand) → Keeps (command_answer state line c)
   kept_start line (Goto k) = either (nat_le k (length (events_of_replays state.place.start))) _ _ refl refl
@@ -44,13 +45,13 @@ module _ (state : SessionState) where
   kept_start line (Mem n addr len) = refl
   kept_start line (Threads n) = refl
   kept_start line (Events n) = refl
-  kept_start line (Watch x) = adding line _
-  kept_start line (Break scope kind) = breaking line kind scope
+  kept_start line (Watch x condition) = adding line _ condition
+  kept_start line (Break scope kind condition) = breaking line kind condition scope
   kept_start line (Delete n) = deleting n
   kept_start line (Do n body) = attaching body (index_of_point state.points n)
   kept_start line ListPoints = refl
   kept_start line (SetTo name x) = setting name _
   kept_start line ListVariables = refl
-  kept_start line Continue = refl
+  kept_start line (Continue most) = refl
   kept_start line Rcontinue = refl
   kept_start line Quit = refl

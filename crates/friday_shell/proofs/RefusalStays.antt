@@ -7,6 +7,7 @@ use Rattle.group_state.specs.Moves.{last_event_of}
 use Rattle.group_state.specs.Place.{GroupPlace, events_of_replays, node_names}
 use Rattle.group_texts.specs.Texts.{event_ending, position_line}
 use Rattle.embed_cmds.specs.Faulty.{set_names}
+use Rattle.watch_expr.specs.Expression.{Expression}
 use Rattle.embed_cmds.specs.Tree.{Statements}
 use Rattle.embed_cmds.specs.Variables.{is_mentioned, mention_all}
 use Rattle.shell_lines.specs.Lines.{At, Back, Break, LineCommand, Continue, Delete, Do, Events, Everywhere, Goto, ListPoints, ListVariables, Mem, Print, Quit, Rcontinue, WhichNodes, SetTo, Step, Threads, Watch}
@@ -172,8 +173,8 @@ module _ (state : SessionState) where
   walking : (w : Walk) → Stays (walks_on state w)
   walking w = apart (walks_on state w) (no_position w.text (place_at state.place.start w.at))
 
-  adding : (line : List ℕ) (trigger : Trigger) → Stays (adds_point state line trigger)
-  adding line trigger = either (nat_lt (length state.points) most_points) _ _ (other_byte_first _ (λ e. absurd (omega (arith, e)))) (same _)
+  adding : (line : List ℕ) (trigger : Trigger) (condition : Option Expression) → Stays (adds_point state line trigger condition)
+  adding line trigger condition = either (nat_lt (length state.points) most_points) _ _ (other_byte_first _ (λ e. absurd (omega (arith, e)))) (same _)
 
   deleting : (n : ℕ) → Stays (deletes_point state n)
   deleting n = either (has_point state.points n) _ _ (other_byte_first _ (λ e. absurd (omega (arith, e)))) (same _)
@@ -185,10 +186,10 @@ module _ (state : SessionState) where
   setting : (name : List ℕ) (value : Option ℤ) → Stays (sets_variable state name value)
   setting name value = either (is_mentioned state.variables name || nat_lt (length state.variables) most_variables) _ _ (other_byte_first _ (λ e. absurd (omega (arith, e)))) (same _)
 
-  breaking : (line : List ℕ) (kind : Kind) (scope : WhichNodes) → Stays (breaks_at state line kind scope)
-  breaking line kind Everywhere = adding line _
-  breaking line kind (At None) = same []
-  breaking line kind (At (Some n)) = adding line _
+  breaking : (line : List ℕ) (kind : Option Kind) (condition : Option Expression) (scope : WhichNodes) → Stays (breaks_at state line kind condition scope)
+  breaking line kind condition Everywhere = adding line _ condition
+  breaking line kind condition (At None) = same []
+  breaking line kind condition (At (Some n)) = adding line _ condition
 
   commanding : (line : List ℕ) (c : LineCommand) → Stays (command_answer state line c)
   commanding line (Goto k) = either (nat_le k (length (events_of_replays state.place.start))) _ _ (arriving [] k) (same _)
@@ -198,14 +199,14 @@ module _ (state : SessionState) where
   commanding line (Mem n addr len) = same _
   commanding line (Threads n) = same _
   commanding line (Events n) = same _
-  commanding line (Watch x) = adding line _
-  commanding line (Break scope kind) = breaking line kind scope
+  commanding line (Watch x condition) = adding line _ condition
+  commanding line (Break scope kind condition) = breaking line kind condition scope
   commanding line (Delete n) = deleting n
   commanding line (Do n body) = attaching body (index_of_point state.points n)
   commanding line ListPoints = same _
   commanding line (SetTo name x) = setting name _
   commanding line ListVariables = same _
-  commanding line Continue = walking (walk_from state.place state.points state.variables)
+  commanding line (Continue most) = walking (walk_from state.place state.points state.variables most)
   commanding line Rcontinue = let r = return_from state.place state.points in arriving r.text r.at
   commanding line Quit = other_byte_first _ (λ e. absurd (omega (arith, e)))
 

@@ -5,6 +5,7 @@ use Rattle.fri_text.specs.Hex.{hex_word}
 use Rattle.call_table.specs.declared.kind.Kind.{Kind}
 use Rattle.proc_replay.specs.Replaying.{Replaying}
 use Rattle.guest_process.specs.State.{State}
+use Rattle.watch_expr.specs.Expression.{Expression}
 use Rattle.watch_expr.specs.View.{bytes_of_node}
 use Rattle.group_state.specs.Place.{GroupPlace, events_of_replays, node_names, states_of_nodes}
 use Rattle.group_state.specs.Nodes.{nodes_at}
@@ -74,10 +75,10 @@ abbrev pub most_points : ℕ
 most_points = 64
 
 -- a point more, with the line that made it, unless there are as many as there may be
-abbrev pub adds_point : SessionState → List ℕ → Trigger → LineAnswer
-adds_point state text trigger =
+abbrev pub adds_point : SessionState → List ℕ → Trigger → Option Expression → LineAnswer
+adds_point state text trigger condition =
     if nat_lt (length state.points) most_points
-    then record { text = codes "point " ++ (decimal (state.made + 1) ++ codes "\n"); state = with_point state text trigger; quits = false }
+    then record { text = codes "point " ++ (decimal (state.made + 1) ++ codes "\n"); state = with_point state text trigger condition; quits = false }
     else refuses_line state refusal.TooMany
 
 abbrev pub deletes_point : SessionState → ℕ → LineAnswer
@@ -125,10 +126,10 @@ abbrev pub variable_text : Variable → List ℕ
 variable_text v = codes "$" ++ (v.0 ++ (codes " " ++ value_text v.1))
 
 -- of a breakpoint for a node that no process is, nothing is said either
-abbrev pub breaks_at : SessionState → List ℕ → Kind → WhichNodes → LineAnswer
-breaks_at state text kind Everywhere = adds_point state text (OnCall None kind)
-breaks_at state text kind (At None) = says_text state []
-breaks_at state text kind (At (Some n)) = adds_point state text (OnCall (Some n) kind)
+abbrev pub breaks_at : SessionState → List ℕ → Option Kind → Option Expression → WhichNodes → LineAnswer
+breaks_at state text kind condition Everywhere = adds_point state text (OnCall None kind) condition
+breaks_at state text kind condition (At None) = says_text state []
+breaks_at state text kind condition (At (Some n)) = adds_point state text (OnCall (Some n) kind) condition
 
 -- what a command answers, whose line without outer blanks is this
 abbrev pub command_answer : SessionState → List ℕ → LineCommand → LineAnswer
@@ -139,14 +140,14 @@ command_answer state line (Print x) = says_text state (value_text (value_in (nod
 command_answer state line (Mem node addr len) = says_text state (memory_text state.place node addr len)
 command_answer state line (Threads node) = says_text state (threads_of state.place node)
 command_answer state line (Events n) = says_text state (last_lines state.place n)
-command_answer state line (Watch x) = adds_point state line (OnChange x)
-command_answer state line (Break scope kind) = breaks_at state line kind scope
+command_answer state line (Watch x c) = adds_point state line (OnChange x) c
+command_answer state line (Break scope kind c) = breaks_at state line kind c scope
 command_answer state line (Delete n) = deletes_point state n
 command_answer state line (Do n body) = attaches_program state n body
 command_answer state line ListPoints = says_text state (flat_map point_text state.points)
 command_answer state line (SetTo name x) = sets_variable state name (value_in (nodes_at state.place) state.variables x)
 command_answer state line ListVariables = says_text state (flat_map variable_text state.variables)
-command_answer state line Continue = walks_on state (walk_from state.place state.points state.variables)
+command_answer state line (Continue most) = walks_on state (walk_from state.place state.points state.variables most)
 command_answer state line Rcontinue = returns_back state (return_from state.place state.points)
 command_answer state line Quit = record { text = []; state = state; quits = true }
 

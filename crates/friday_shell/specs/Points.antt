@@ -1,6 +1,7 @@
 -- What a session keeps.
-use Rattle.std.specs.Prelude.{ℕ, ◌+◌, List, [], ◌∷◌, ◌++◌}
+use Rattle.std.specs.Prelude.{ℕ, ◌+◌, List, [], ◌∷◌, ◌++◌, Option}
 use Rattle.group_state.specs.Place.{GroupPlace}
+use Rattle.watch_expr.specs.Expression.{Expression}
 use Rattle.embed_cmds.specs.Variables.{Variable}
 use Rattle.shell_points.specs.Points.{Point, Trigger, new_point}
 
@@ -13,8 +14,8 @@ pub record SessionState : Type 0 where
   pub variables : List Variable
 
 -- one point more, with a number that none had before
-abbrev pub with_point : SessionState → List ℕ → Trigger → SessionState
-with_point state text trigger = record state {
-  points = state.points ++ new_point (state.made + 1) text trigger ∷ [];
+abbrev pub with_point : SessionState → List ℕ → Trigger → Option Expression → SessionState
+with_point state text trigger condition = record state {
+  points = state.points ++ new_point (state.made + 1) text trigger condition ∷ [];
   made = state.made + 1;
 }

@@ -10,7 +10,7 @@ use Rattle.friday_shell.specs.Points.{SessionState}
 -- A command that ends at position `to`: `continue` does from where the session is to there, `rcontinue` over the positions
 -- from 0 to the one before where the session is, and no other does.
 abbrev pub command_ticks : SessionState → LineCommand → ℕ → ℕ
-command_ticks state Continue to = watch_ticks state.place.start (watched_expressions state.points) state.place.at (to - state.place.at)
+command_ticks state (Continue most) to = watch_ticks state.place.start (watched_expressions state.points) state.place.at (to - state.place.at)
 command_ticks state Rcontinue to = watch_ticks state.place.start (watched_expressions state.points) 0 (state.place.at - 1)
 command_ticks state _ to = 0
 

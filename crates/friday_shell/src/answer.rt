@@ -1,9 +1,9 @@
 // What a command answers.
-ghost use Rattle.std.specs.Prelude.{◌≡◌, ◌≢◌, ℕ, suc, ◌+◌, ◌<◌, ◌≤◌, ◌++◌, IfOk, OnOk, List, [], drop, length, min, take, false, true};
+ghost use Rattle.std.specs.Prelude.{◌≡◌, ℕ, suc, ◌+◌, ◌<◌, ◌≤◌, ◌++◌, IfOk, OnOk, List, [], drop, length, min, take, false, true};
 ghost use Rattle.friday_shell.specs.Answer.{command_answer};
 ghost use Rattle.friday_shell.specs.Points.{SessionState};
 ghost use Rattle.friday_shell.specs.declared.state.PointsAndVariables.{PointsAndVariables as Kept};
-ghost use Rattle.friday_shell.specs.inside.Meanings.{PerformsCommand, WritesNext, leaves_group, session_state, state_with};
+ghost use Rattle.friday_shell.specs.inside.Meanings.{PerformsCommand, WritesNext, is_walk, leaves_group, session_state, state_with};
 ghost use Rattle.friday_shell.specs.Ticks.{command_ticks};
 ghost use Rattle.group_state.specs.Place.{events_of_replays};
 ghost use Rattle.group_texts.specs.Texts.{event_lines, last_lines, position_line};
@@ -70,7 +70,7 @@ fn leaves_group(command: &DebuggerCommand) -> bool
             | DebuggerCommand::Step(_)
             | DebuggerCommand::Back(_)
             | DebuggerCommand::Events(_)
-            | DebuggerCommand::Continue
+            | DebuggerCommand::Continue(_)
             | DebuggerCommand::Rcontinue
     )
 }
@@ -90,8 +90,12 @@ fn stay(
         DebuggerCommand::Print(expression) => print(alloc, state, &expression),
         DebuggerCommand::Mem(node, addr, len) => show_memory(alloc, &state.group, node, addr, len),
         DebuggerCommand::Threads(node) => show_threads(alloc, &state.group, node),
-        DebuggerCommand::Watch(expression) => add(alloc, state, line, Trigger::Watch(expression)),
-        DebuggerCommand::Break(scope, kind) => add_breakpoint(alloc, state, line, scope, kind),
+        DebuggerCommand::Watch(expression, condition) => {
+            add(alloc, state, line, Trigger::Watch(expression), condition)
+        }
+        DebuggerCommand::Break(scope, kind, condition) => {
+            add_breakpoint(alloc, state, line, scope, kind, condition)
+        }
         DebuggerCommand::Delete(number) => delete(alloc, state, number),
         DebuggerCommand::Do(number, program) => attach(alloc, state, number, program),
         DebuggerCommand::List => state.kept.points.list(alloc),
@@ -114,8 +118,8 @@ fn go<'m, 'a, L: Ledger>(
         PerformsCommand (command_answer (session_state state.entry) line (command_meant command.now)) (session_state done.0) done.1) }
     ensures ticks { IfOk result (λ done. steps.new ≡ steps.old + command_ticks (session_state state.entry) (command_meant command.now) done.0.group.at) }
 {
-    if matches!(command, DebuggerCommand::Continue) {
-        return go_on(alloc, state, steps);
+    if let DebuggerCommand::Continue(most) = command {
+        return go_on(alloc, state, *most, steps);
     }
     let State { group, kept } = state;
     let (group, text) = go_there(alloc, group, &kept, command, steps)?;
@@ -131,7 +135,7 @@ fn go_there<'m, 'a, L: Ledger>(
     steps: &mut Steps<L>,
 ) -> Result<(Group<'m, 'a>, Text), AllocError>
     requires moves { leaves_group (command_meant command.now) ≡ false }
-    requires other { command_meant command.now ≢ Continue }
+    requires other { is_walk (command_meant command.now) ≡ false }
     ensures answer { (line : List ℕ) → IfOk result (λ went.
         PerformsCommand (command_answer (state_with group.entry kept.now) line (command_meant command.now)) (state_with went.0 kept.now) went.1) }
     ensures ticks { IfOk result (λ went. steps.new ≡ steps.old + command_ticks (state_with group.entry kept.now) (command_meant command.now) went.0.at) }
@@ -214,14 +218,15 @@ fn back<'m, 'a>(
     go_to(alloc, group, position)
 }
 
-// Goes on to where a point fires.
+// Goes on to where a point fires, and over so many positions at most.
 fn go_on<'m, 'a, L: Ledger>(
     alloc: Global,
     state: State<'m, 'a>,
+    most: Option<u64>,
     steps: &mut Steps<L>,
 ) -> Result<(State<'m, 'a>, Text), AllocError>
-    ensures answer { IfOk result (λ done. PerformsCommand (command_answer (session_state state.entry) [] Continue) (session_state done.0) done.1) }
-    ensures ticks { IfOk result (λ done. steps.new ≡ steps.old + command_ticks (session_state state.entry) Continue done.0.group.at) }
+    ensures answer { IfOk result (λ done. PerformsCommand (command_answer (session_state state.entry) [] (Continue most)) (session_state done.0) done.1) }
+    ensures ticks { IfOk result (λ done. steps.new ≡ steps.old + command_ticks (session_state state.entry) (Continue most) done.0.group.at) }
 {
     let State { group, kept } = state;
     let PointsAndVariables {
@@ -229,7 +234,7 @@ fn go_on<'m, 'a, L: Ledger>(
         made,
         variables,
     } = kept;
-    let walked = points.walk(alloc, group, variables, steps)?;
+    let walked = points.walk(alloc, group, variables, most, steps)?;
     let kept = PointsAndVariables {
         points,
         made,

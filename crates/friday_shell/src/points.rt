@@ -4,7 +4,7 @@ ghost use Rattle.embed_cmds.specs.Tree.{program_body};
 ghost use Rattle.friday_shell.specs.Answer.{adds_point, attaches_program, breaks_at, deletes_point};
 ghost use Rattle.friday_shell.specs.inside.Meanings.{PerformsCommand, session_state};
 ghost use Rattle.shell_lines.specs.Spelled.{scope as scope_meant};
-ghost use Rattle.shell_points.specs.Meanings.{trigger as trigger_meant};
+ghost use Rattle.shell_points.specs.Meanings.{held_condition as condition_meant, trigger as trigger_meant};
 
 use crate::state::State;
 use crate::variables::MOST_VARIABLES;
@@ -14,6 +14,7 @@ use lib_calls::Kind;
 use shell_lines::{LineRefusal, WhichNodes, refused};
 use shell_points::Trigger;
 use std::alloc::{AllocError, Global};
+use watch_expr::Expr;
 
 // How many points are held at most.
 const MOST_POINTS: usize = 64;
@@ -24,15 +25,16 @@ pub(crate) fn add(
     state: &mut State<'_, '_>,
     line: &[u8],
     trigger: Trigger,
+    condition: Option<Expr>,
 ) -> Result<Text, AllocError>
-    ensures { IfOk result (λ text. PerformsCommand (adds_point (session_state state.old) line.now (trigger_meant trigger)) (session_state state.new) text) }
+    ensures { IfOk result (λ text. PerformsCommand (adds_point (session_state state.old) line.now (trigger_meant trigger) (condition_meant condition)) (session_state state.new) text) }
 {
     let kept = &mut state.kept;
     if kept.points.count() >= MOST_POINTS {
         return refused(alloc, LineRefusal::TooMany);
     }
     kept.made = kept.made.checked_add(1).ok_or(AllocError)?;
-    kept.points.add(alloc, kept.made, line, trigger)?;
+    kept.points.add(alloc, kept.made, line, trigger, condition)?;
     numbered(alloc, "point ", kept.made)
 }
 
@@ -42,13 +44,18 @@ pub(crate) fn add_breakpoint(
     state: &mut State<'_, '_>,
     line: &[u8],
     scope: WhichNodes,
-    kind: Kind,
+    kind: Option<Kind>,
+    condition: Option<Expr>,
 ) -> Result<Text, AllocError>
-    ensures { IfOk result (λ text. PerformsCommand (breaks_at (session_state state.old) line.now kind (scope_meant scope)) (session_state state.new) text) }
+    ensures { IfOk result (λ text. PerformsCommand (breaks_at (session_state state.old) line.now kind (condition_meant condition) (scope_meant scope)) (session_state state.new) text) }
 {
     match scope {
-        WhichNodes::Everywhere => add(alloc, state, line, Trigger::Break(None, kind)),
-        WhichNodes::At(Some(node)) => add(alloc, state, line, Trigger::Break(Some(node), kind)),
+        WhichNodes::Everywhere => {
+            add(alloc, state, line, Trigger::Break(None, kind), condition)
+        }
+        WhichNodes::At(Some(node)) => {
+            add(alloc, state, line, Trigger::Break(Some(node), kind), condition)
+        }
         WhichNodes::At(None) => Ok(Text::new(alloc)),
     }
 }

@@ -1,7 +1,8 @@
 -- The replays at a position have the events ahead that the order has after it.
-use Rattle.std.proofs.Common.{◌≡◌, ℕ, zero, suc, ◌+◌, ◌*◌, ◌≤◌, ◌<◌, ◌^◌, List, [], ◌∷◌, ◌++◌, map, length, length-append, take, drop, get_or, set, Some, None, refl, sym, ap, subst, ◌∙◌, add-one, arith, mul-le-mul_right}
+use Rattle.std.proofs.Common.{◌≡◌, ℕ, zero, suc, ◌+◌, ◌*◌, ◌≤◌, ◌<◌, ◌^◌, true, false, nat_le, inl, inr, List, [], ◌∷◌, ◌++◌, map, length, length-append, take, drop, get_or, set, Some, None, refl, sym, ap, subst, ◌∙◌, add-one, arith, mul-le-mul_right}
 use Rattle.std.specs.Prelude.{All, option_map, slice_get}
 use Rattle.std.specs.List.{AllByRecursion}
+use Rattle.std.proofs.lemmas.Bool.Decides.{leb_tells}
 use Rattle.std.proofs.lemmas.List.{length-map}
 use Rattle.std.proofs.lemmas.List.Elements.{recursion_from_All}
 use Rattle.std.proofs.lemmas.Option.{slice_get-map, slice_get_past, slice_get_read}
@@ -42,6 +43,14 @@ no_front : {X : Type 0} (xs : List X) (k : ℕ) → drop k xs ≡ [] → slice_g
 no_front [] k is = refl
 no_front (a ∷ xs) zero is = absurd (cc)
 no_front (a ∷ xs) (suc k) is = no_front xs k is
+
+pub none_left : {X : Type 0} (xs : List X) (k : ℕ) → slice_get xs k ≡ None → nat_le (length xs) k ≡ true
+none_left [] k is = refl
+none_left (a ∷ xs) zero is = absurd (cc)
+none_left (a ∷ xs) (suc k) is = none_left xs k is
+
+pub some_left : {X : Type 0} (xs : List X) (k : ℕ) → k < length xs → nat_le (length xs) k ≡ false
+some_left xs k within = elim (leb_tells (length xs) k) [ inl t ↦ absurd (omega (arith, t.1, within)) | inr f ↦ f.0 ]
 
 -- what the turn of the node that comes next gives
 pub record Goes (start : List Replaying) (at node : ℕ) : Type 0 where

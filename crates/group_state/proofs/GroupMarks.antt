@@ -101,7 +101,12 @@ same_page a b page same inside = subst (λ (b : Node). SamePage a.memory b.memor
 same_node : (old new : List Node) (l : Location) → slice_get new (node_of l) ≡ slice_get old (node_of l) → SameAtPlace old new l
 same_node old new (location.Page node page) same = λ a b is_a is_b inside. same_page a b page (same_Some a b (sym is_a ∙ sym same ∙ is_b)) inside
 same_node old new (location.Global node n) same = ap (λ o. o >>= λ (s : Node). slice_get s.globals n) same
-same_node old new (location.Motion node) same = (ap (option_map (λ (s : Node). s.clock)) same, ap (option_map (λ (s : Node). s.events)) same)
+same_node old new (location.Motion node) same = (
+  ap (option_map (λ (s : Node). s.clock)) same,
+  ap (option_map (λ (s : Node). s.events)) same,
+  ap (λ o. o >>= λ (s : Node). s.last_thread) same,
+  ap (option_map (λ (s : Node). s.ended)) same,
+)
 same_node old new (location.Size node) same = ap (option_map (λ (s : Node). size_of s.memory)) same
 
 -- a node that went on without touching it

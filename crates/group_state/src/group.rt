@@ -1,5 +1,5 @@
 // A group at a position.
-ghost use Rattle.std.specs.Prelude.{◌≡◌, ◌≤◌, ◌-◌, ℕ, Some, None, IfOk, IsTrue, IsFalse, OnOk, ◌↔◌, length, map, option_map, slice_get};
+ghost use Rattle.std.specs.Prelude.{◌≡◌, ◌≤◌, ◌-◌, ℕ, Some, None, IfOk, IsTrue, IsFalse, OnOk, ◌↔◌, length, map, nat_le, option_map, slice_get};
 ghost use Rattle.group_state.specs.Place.{AreGroupReplays, ReplaysFit, GroupPlace, events_of_replays, states_of_nodes};
 ghost use Rattle.group_state.specs.inside.At.{IsSoundCourse, place_of_course};
 ghost use Rattle.group_state.specs.Moves.{IsAtPosition, GroupMoves, event_of, last_event_of};
@@ -125,6 +125,21 @@ impl<'m, 'a> Course<'m, 'a> {
         Ok(false)
     }
 
+    // Whether no event is left.
+    fn is_last(&self) -> bool
+        requires { IsSoundCourse self.now }
+        ensures { result ≡ nat_le (length (events_of_replays self.now.start.items)) self.now.here.at }
+    {
+        group_order::laws::merges::<Entry>();
+        proc_replay::laws::replays();
+        guest_process::laws::rises();
+        guest_process::laws::states_fit();
+        match self.merge.next_node() {
+            Some(_) => false,
+            None => true,
+        }
+    }
+
     // The replay of a node, at the position.
     fn replay(&self, node: u32) -> Option<&Replayer<'m, 'a>>
         requires { IsSoundCourse self.now }
@@ -218,6 +233,13 @@ impl<'m, 'a> Group<'m, 'a> {
         ensures fits { ReplaysFit self.now.start }
     {
         self.course().here.at
+    }
+
+    /// Whether this is the last position.
+    pub fn is_last(&self) -> bool
+        ensures { result ≡ nat_le (length (events_of_replays self.now.start)) self.now.at }
+    {
+        self.course().is_last()
     }
 
     /// The event that was made last. None comes exactly at position 0.

@@ -35,7 +35,7 @@ use Rattle.guest_process.proofs.MadeThreads.{found_at, has_room}
 use Rattle.guest_process.proofs.LegalEntries.{call_told, fits_at}
 
 -- what the thread changes that goes on after the answer
-goes : KeepsModule → (S : State) (e : Entry) → StateFits S → (w : Waiting) → Keeps WaitingFits e.thread (with_event_counted (effects_of_answer w.kind S e.thread w.call (answer_of e)) e.clock) (next_at_thread S e (Some w))
+goes : KeepsModule → (S : State) (e : Entry) → StateFits S → (w : Waiting) → Keeps WaitingFits e.thread (with_event_counted (effects_of_answer w.kind S e.thread w.call (answer_of e)) e.thread e.clock) (next_at_thread S e (Some w))
 goes keeps S e s w =
     let S' = effects_of_answer w.kind S e.thread w.call (answer_of e) in
     let n = affected WaitingFits w.kind S e.thread w.call (answer_of e) s.threads (begin_fits S.store.«module») in

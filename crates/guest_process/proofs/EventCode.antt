@@ -103,22 +103,22 @@ runs_out S t (Some thread) =
     stopped_out (record S { store = run.store }) t run.stop
 
 exits_by : (k : Kind) (S : State) (t : ℕ) (w : Waiting) (a : Answer) (signal clock : ℕ) → kind_numbered w.call.kind ≡ Some k → ends_process k ≡ true
-    → exited_process (with_event_counted (with_thread (acted_on_answer (Some k) S t w.call a) t Lent) clock) t w.call.a0 ≡ thread_runs_on k (effects_of_answer k S t w.call a) t w.strand a.reply signal clock
+    → exited_process (with_event_counted (with_thread (acted_on_answer (Some k) S t w.call a) t Lent) t clock) t w.call.a0 ≡ thread_runs_on k (effects_of_answer k S t w.call a) t w.strand a.reply signal clock
 exits_by Exit S t w a signal clock e h =
-    ap (λ S'. exited_process (with_event_counted (with_thread S' t Lent) clock) t w.call.a0) (exit_written S w.call a e)
-    ∙ ap (λ S'. record (with_event_counted S' clock) { end = Exited (cast_signed w32 (w.call.a0 % 2 ^ 32)) }) (with_again S t Over)
+    ap (λ S'. exited_process (with_event_counted (with_thread S' t Lent) t clock) t w.call.a0) (exit_written S w.call a e)
+    ∙ ap (λ S'. record (with_event_counted S' t clock) { end = Exited (cast_signed w32 (w.call.a0 % 2 ^ 32)) }) (with_again S t Over)
 exits_by _ S t w a signal clock e h = cc
 
 -- how a thread goes on that was taken out of the state after its answer
 abbrev pub goes_out : Kind → State → ℕ → Strand → ℕ → ℕ → ℕ → State
 goes_out k S t strand reply signal clock =
-    after_running (with_event_counted (with_thread S t Lent) clock) t (with_handler_frame S.store.«module» (answered_strand strand (reply_value k reply)) signal (handler S.handlers signal))
+    after_running (with_event_counted (with_thread S t Lent) t clock) t (with_handler_frame S.store.«module» (answered_strand strand (reply_value k reply)) signal (handler S.handlers signal))
 
 runs_by : (k : Kind) (S : State) (t : ℕ) (strand : Strand) (reply signal clock : ℕ) → ends_process k ≡ false → goes_out k S t strand reply signal clock ≡ thread_runs_on k S t strand reply signal clock
 runs_by k S t strand reply signal clock h =
     let thread = with_handler_frame S.store.«module» (answered_strand strand (reply_value k reply)) signal (handler S.handlers signal) in
-    runs_out (with_event_counted S clock) t thread
-    ∙ ap (λ ends. cond ends (with_event_counted S clock) (after_running (with_event_counted S clock) t thread)) (sym h)
+    runs_out (with_event_counted S t clock) t thread
+    ∙ ap (λ ends. cond ends (with_event_counted S t clock) (after_running (with_event_counted S t clock) t thread)) (sym h)
 
 -- ---- what is done before the thread is taken out
 
@@ -167,10 +167,10 @@ acted_handlers S e o sound =
 
 -- the event of a thread that calls `exit`
 pub exits : (S : State) (e : Entry) (w : Waiting) → StateFits S → reason S e ≡ None → thread_at S e.thread ≡ Some w → ends_process w.kind ≡ true
-    → awaits_event (exited_process (with_event_counted (with_thread (acted_on_answer (kind_of S e.thread) S e.thread e.call (answer_of e)) e.thread Lent) e.clock) e.thread w.call.a0) ≡ next S e
+    → awaits_event (exited_process (with_event_counted (with_thread (acted_on_answer (kind_of S e.thread) S e.thread e.call (answer_of e)) e.thread Lent) e.thread e.clock) e.thread w.call.a0) ≡ next S e
 exits S e w s legal at h =
-    ap awaits_event (ap (λ o. exited_process (with_event_counted (with_thread (acted_on_answer (option_map (λ w. w.kind) o) S e.thread e.call (answer_of e)) e.thread Lent) e.clock) e.thread w.call.a0) at
-    ∙ ap (λ call. exited_process (with_event_counted (with_thread (acted_on_answer (Some w.kind) S e.thread call (answer_of e)) e.thread Lent) e.clock) e.thread w.call.a0) (call_told S e w (legal_at S e w legal at))
+    ap awaits_event (ap (λ o. exited_process (with_event_counted (with_thread (acted_on_answer (option_map (λ w. w.kind) o) S e.thread e.call (answer_of e)) e.thread Lent) e.thread e.clock) e.thread w.call.a0) at
+    ∙ ap (λ call. exited_process (with_event_counted (with_thread (acted_on_answer (Some w.kind) S e.thread call (answer_of e)) e.thread Lent) e.thread e.clock) e.thread w.call.a0) (call_told S e w (legal_at S e w legal at))
     ∙ exits_by w.kind S e.thread w (answer_of e) e.signal e.clock (fits_at S e.thread w s at).kind h)
     ∙ ap (next_at_thread S e) (sym at)
 

@@ -73,7 +73,7 @@ counts_at S e None h = cc
 counts_at S e (Some w) h =
     let k = w.kind in
     let S' = effects_of_answer k S e.thread w.call (answer_of e) in
-    event_events (ends_process k) (with_event_counted S' e.clock) e.thread (with_handler_frame S'.store.«module» (answered_strand w.strand (reply_value k e.reply)) e.signal (handler S'.handlers e.signal))
+    event_events (ends_process k) (with_event_counted S' e.thread e.clock) e.thread (with_handler_frame S'.store.«module» (answered_strand w.strand (reply_value k e.reply)) e.signal (handler S'.handlers e.signal))
     ∙ ap (λ n. n + 1) (answer_events k S e.thread w.call (answer_of e))
 
 pub counts : CountsEvents

@@ -155,7 +155,7 @@ module _ (laws : MarkLaws) where
       let after = effects_of_answer w.kind S e.thread w.call (answer_of e) in
       let ran = thread_runs_on w.kind after e.thread w.strand e.reply e.signal e.clock in
       let thread = with_handler_frame after.store.«module» (answered_strand w.strand (reply_value w.kind e.reply)) e.signal (handler after.handlers e.signal) in
-      laws.follow S.store after.store ran.store (effects_marks w.kind S e.thread w.call (answer_of e)) (event_marks (ends_process w.kind) (with_event_counted after e.clock) e.thread thread)
+      laws.follow S.store after.store ran.store (effects_marks w.kind S e.thread w.call (answer_of e)) (event_marks (ends_process w.kind) (with_event_counted after e.thread e.clock) e.thread thread)
 
   more_within : (ss : List ℕ) (n m : ℕ) → n ≤ m → AreWithin n ss → AreWithin m ss
   more_within [] n m le w = tt

@@ -137,10 +137,10 @@ module _ (P : Waiting → Type 0) where
   awaits_kept t S S' k = record { who = k.who; count = k.count; «module» = k.«module»; room = k.room; threads = k.threads; others = k.others; holders = k.holders; handlers = k.handlers; clock = k.clock; events = k.events }
 
   -- as it goes on after the answer
-  pub went_on : KeepsModule → (k : Kind) (S : State) (t : ℕ) (w : Waiting) (reply signal clock : ℕ) → Each P S.crew.threads → Stand S.store.«module» → Keeps P t (with_event_counted S clock) (thread_goes_on k S t w.strand reply signal clock)
+  pub went_on : KeepsModule → (k : Kind) (S : State) (t : ℕ) (w : Waiting) (reply signal clock : ℕ) → Each P S.crew.threads → Stand S.store.«module» → Keeps P t (with_event_counted S t clock) (thread_goes_on k S t w.strand reply signal clock)
   went_on keeps k S t w reply signal clock f g =
-      awaits_kept t (with_event_counted S clock) (thread_runs_on k S t w.strand reply signal clock)
-      (event_kept keeps (ends_process k) (with_event_counted S clock) t (with_handler_frame S.store.«module» (answered_strand w.strand (reply_value k reply)) signal (handler S.handlers signal)) f g)
+      awaits_kept t (with_event_counted S t clock) (thread_runs_on k S t w.strand reply signal clock)
+      (event_kept keeps (ends_process k) (with_event_counted S t clock) t (with_handler_frame S.store.«module» (answered_strand w.strand (reply_value k reply)) signal (handler S.handlers signal)) f g)
 
   -- ---- the answer
 
@@ -180,7 +180,7 @@ module _ (P : Waiting → Type 0) where
       (λ e. let over = set_kept S t Over S.end f tt in record { who = refl; count = refl; «module» = refl; room = λ few. omega (arith, over.room, few); threads = over.threads; clock = refl; events = refl })
 
   -- all of an event, from its clock on
-  pub event_affects : KeepsModule → (k : Kind) (S : State) (t : ℕ) (c : Call) (a : Answer) (w : Waiting) (signal clock : ℕ) → Each P S.crew.threads → Begins S.store.«module» → Stand S.store.«module» → Affects P (with_event_counted S clock) (thread_goes_on k (effects_of_answer k S t c a) t w.strand a.reply signal clock)
+  pub event_affects : KeepsModule → (k : Kind) (S : State) (t : ℕ) (c : Call) (a : Answer) (w : Waiting) (signal clock : ℕ) → Each P S.crew.threads → Begins S.store.«module» → Stand S.store.«module» → Affects P (with_event_counted S t clock) (thread_goes_on k (effects_of_answer k S t c a) t w.strand a.reply signal clock)
   event_affects keeps k S t c a w signal clock f b g =
       let n = affected k S t c a f b in
       let l = went_on keeps k (effects_of_answer k S t c a) t w a.reply signal clock n.threads (subst Stand (sym n.«module») g) in

@@ -62,7 +62,7 @@ pub begin_fits : (m : Module) (thread : Thread) → WaitingFits (waiting_at m th
 begin_fits m thread = record { kind = numbered Begin; arguments = record { first = zero_fits _; second = zero_fits _; third = zero_fits _ } }
 
 -- what an event of a thread that stands so changes
-event_keeps : KeepsModule → (S : State) (e : Entry) → StateFits S → (w : Waiting) → Affects WaitingFits (counted_at S e.clock) (next_at_thread S e (Some w))
+event_keeps : KeepsModule → (S : State) (e : Entry) → StateFits S → (w : Waiting) → Affects WaitingFits (counted_at S e.thread e.clock) (next_at_thread S e (Some w))
 event_keeps keeps S e s w = event_affects WaitingFits keeps w.kind S e.thread w.call (answer_of e) w e.signal e.clock s.threads (begin_fits S.store.«module») (stand_fits S.store.«module»)
 
 -- its clock is the next one, and no tag bears one past 2 ^ 62

@@ -91,15 +91,16 @@ abbrev pub after_running : State → ℕ → Option Thread → State
 after_running S t None = trapped_thread S t Exhausted
 after_running S t (Some thread) = process_after_burst S t (burst instruction_budget thread S.store)
 
-abbrev pub with_event_counted : State → ℕ → State
-with_event_counted S clock = record S { clock = clock; events = S.events + 1 }
+-- one event more, of thread t
+abbrev pub with_event_counted : State → ℕ → ℕ → State
+with_event_counted S t clock = record S { clock = clock; events = S.events + 1; last_thread = Some t }
 
 -- the reply's value goes on the operand stack, then a signal's handler is entered, then the thread runs
 abbrev pub thread_runs_on : Kind → State → ℕ → Strand → ℕ → ℕ → ℕ → State
 thread_runs_on kind S t strand reply signal clock =
     if ends_process kind
-    then with_event_counted S clock
-    else after_running (with_event_counted S clock) t (with_handler_frame S.store.«module» (answered_strand strand (reply_value kind reply)) signal (handler S.handlers signal))
+    then with_event_counted S t clock
+    else after_running (with_event_counted S t clock) t (with_handler_frame S.store.«module» (answered_strand strand (reply_value kind reply)) signal (handler S.handlers signal))
 
 -- and the event is over
 abbrev pub thread_goes_on : Kind → State → ℕ → Strand → ℕ → ℕ → ℕ → State

@@ -36,6 +36,7 @@ begun_process m who count store thread = awaits_event (record {
   handlers = no_handlers;
   clock = 0;
   events = 0;
+  last_thread = None;
   end = Running;
 })
 

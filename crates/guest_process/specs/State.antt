@@ -10,7 +10,8 @@ use Rattle.guest_process.specs.declared.waiting.Waiting.{Waiting}
 
 -- its number and its group's size; its module with memory, globals and table; the threads that were
 -- made, each of which is at a pending call or has ended, and the locks that they hold; the function
--- that handles each signal; the clock of its last event, or 0; how many events it has had; and how it ended
+-- that handles each signal; the clock of its last event, or 0; how many events it has had, and the thread of the last;
+-- and how it ended
 pub record State : Type 0 where
   pub who : ℕ
   pub count : ℕ
@@ -19,6 +20,7 @@ pub record State : Type 0 where
   pub handlers : List (Option ℕ)
   pub clock : ℕ
   pub events : ℕ
+  pub last_thread : Option ℕ
   pub end : End
 
 -- the thread with this number and its pending call, where it is live

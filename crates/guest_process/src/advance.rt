@@ -57,6 +57,7 @@ impl<'m> Body<'m> {
         };
         self.clock = entry.clock;
         self.events += 1;
+        self.last_thread = Some(entry.thread);
         if ends_process(waiting.kind) {
             self.exit(entry.thread, waiting.call.a0);
             return Ok(());

@@ -30,6 +30,7 @@ pub(crate) struct Body<'m> {
     pub(crate) handlers: Handlers,
     pub(crate) clock: u64,
     pub(crate) events: u64,
+    pub(crate) last_thread: Option<u16>,
     pub(crate) end: End,
 }
 
@@ -102,6 +103,7 @@ impl<'m> Body<'m> {
             handlers: self.handlers,
             clock: self.clock,
             events: self.events,
+            last_thread: self.last_thread,
             end: self.end,
         })
     }

@@ -209,6 +209,13 @@ impl<'m> Process<'m> {
         self.body.events
     }
 
+    /// The thread of the last event. `None` comes exactly before the first.
+    pub fn last_thread(&self) -> Option<u16>
+        ensures { result ≡ self.now.last_thread }
+    {
+        self.body.last_thread
+    }
+
     /// How many threads were made.
     pub fn threads(&self) -> u16
         ensures { result ≡ length self.now.crew.threads }
@@ -268,6 +275,7 @@ fn begin<'m>(
         handlers: Handlers::new(),
         clock: 0,
         events: 0,
+        last_thread: None,
         end: End::Running,
     };
     let body = Box::new(alloc, body)?;

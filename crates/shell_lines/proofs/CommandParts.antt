@@ -1,7 +1,9 @@
--- The parts of commands that are expressions, programs, and counts that may be left out.
-use Rattle.std.proofs.Common.{◌≡◌, ℕ, suc, ◌+◌, ◌-◌, ◌<◌, ◌≤◌, Bool, true, false, cond, List, [], ◌∷◌, ◌++◌, length, take, drop, Option, Some, None, Result, Ok, Err, refl, sym, ap, ◌∙◌, subst, append_assoc, append-nil, arith}
+-- The parts of commands that are expressions and programs, and the counts and conditions that may be left out.
+use Rattle.std.proofs.Common.{◌≡◌, ℕ, suc, ◌+◌, ◌-◌, ◌<◌, ◌≤◌, Bool, true, false, cond, if◌then◌else◌, nat_le, List, [], ◌∷◌, ◌++◌, length, take, drop, Option, Some, None, Result, Ok, Err, inl, inr, bytes_eq, refl, sym, ap, ◌∙◌, subst, append_assoc, append-nil, add-one, arith}
 use Rattle.std.proofs.Math.Seq.{drop-append_seam, take-append_seam}
+use Rattle.std.proofs.lemmas.Bool.Decides.{leb_tells}
 use Rattle.std.proofs.lemmas.List.{length-append}
+use Rattle.std.proofs.lemmas.Slice.Eq.{bytes_eq-Decides}
 use Rattle.std.specs.Prelude.{codes}
 use Rattle.watch_expr.specs.Computed.{begins_some_expression, expression_spelled, viable_tokens}
 use Rattle.watch_expr.specs.Expression.{Expression, Var}
@@ -11,10 +13,22 @@ use Rattle.embed_cmds.specs.Grammar.{BeginsProgram, NoProgramGoesOn, IsProgram, 
 use Rattle.embed_cmds.specs.Laws.{ExactPrograms}
 use Rattle.embed_cmds.specs.Reading.{program_of}
 use Rattle.embed_cmds.specs.Tree.{End, Statements, Stop as StopStatement, Then as ThenStatement}
-use Rattle.shell_lines.specs.Lines.{LineCommand, count_or, ends_at, expression_from, expression_or_at, located_program, number_from, program_from, then_takes, token_at}
-use Rattle.shell_lines.proofs.TokenForms.{Ends, Form, Stop, Then, Tokens, ends_form, goes_on, then_form}
+use Rattle.shell_lines.specs.Grammar.{IsCondition, left_out, given}
+use Rattle.shell_lines.specs.Lines.{LineCommand, condition_from, count_or, ends_at, expression_from, expression_or_at, located_program, number_from, program_from, sign_of, then_takes, token_at}
+use Rattle.shell_lines.proofs.TokenForms.{Ends, Form, Maybe, Stop, Then, Tokens, as_form, ends_form, maybe_form, retold, then_form}
 
-drop_front : (front rest : Tokens) (k : ℕ) → length front ≡ k → drop k (front ++ rest) ≡ rest
+pub same_bytes : (a b : List ℕ) → bytes_eq a b ≡ true → a ≡ b
+same_bytes a b e = (bytes_eq-Decides a b).0 e
+
+-- the word itself, where it passes
+pub passed : {A : Type 0} (b : Bool) (a c : A) → cond b (Some a) None ≡ Some c → (b ≡ true) × (a ≡ c)
+passed true a c e = (refl, cc)
+passed false a c e = absurd cc
+
+pub sign_is : (sign text found : List ℕ) → sign_of sign text ≡ Some found → text ≡ sign
+sign_is sign text found e = same_bytes text sign (passed (bytes_eq text sign) text found e).0
+
+pub drop_front : (front rest : Tokens) (k : ℕ) → length front ≡ k → drop k (front ++ rest) ≡ rest
 drop_front front rest k here = subst (λ (n : ℕ). drop n (front ++ rest) ≡ rest) here (drop-append_seam front rest)
 
 -- ---- expressions
@@ -24,10 +38,10 @@ abbrev pub Value : Tokens → (Expression → LineCommand) → Tokens → LineCo
 Value names command ts c = (x : Expression) × IsExpr names ts x × (command x ≡ c)
 
 -- so many of the tokens begin some expression after those before, and no more do
-record Takes (names before ts : Tokens) (n : ℕ) : Type 0 where
-  within : n ≤ length ts
-  begins : BeginsExpr names (before ++ take n ts)
-  longest : n < length ts → BeginsExpr names (before ++ take (suc n) ts) → ⊥
+pub record Takes (names before ts : Tokens) (n : ℕ) : Type 0 where
+  pub within : n ≤ length ts
+  pub begins : BeginsExpr names (before ++ take n ts)
+  pub longest : n < length ts → BeginsExpr names (before ++ take (suc n) ts) → ⊥
 
 module _ (law : ExactReading) (names : Tokens) where
   abbrev more_taken : Tokens → List ℕ → Tokens → ℕ
@@ -49,11 +63,11 @@ module _ (law : ExactReading) (names : Tokens) where
     longest = λ lt b. let never : ◌≡◌ {A = Bool} true false = sym ((law.begins names (before ++ t ∷ [])).1 b) ∙ e in cc;
   }
 
-  takes : (before ts : Tokens) → BeginsExpr names before → Takes names before ts (viable_tokens names before ts)
+  pub takes : (before ts : Tokens) → BeginsExpr names before → Takes names before ts (viable_tokens names before ts)
   takes before [] begun = record { within = omega arith; begins = subst (λ (us : Tokens). BeginsExpr names us) (sym (append-nil before)) begun; longest = λ lt. absurd (omega (arith, lt)) }
   takes before (t ∷ ts) begun = takes_by before t ts begun (begins_some_expression names (before ++ t ∷ [])) refl (λ more. takes (before ++ t ∷ []) ts more)
 
-  some_variable : IsExpr names (codes "$" ∷ codes "a" ∷ []) (Var (codes "a"))
+  pub some_variable : IsExpr names (codes "$" ∷ codes "a" ∷ []) (Var (codes "a"))
   some_variable = higher (higher (higher (higher (higher (higher (variable (codes "a") refl))))))
 
   module _ (k : ℕ) (command : Expression → LineCommand) where
@@ -103,10 +117,10 @@ module _ (law : ExactReading) (names : Tokens) where
 
 -- ---- programs
 
-front_taken : (front left : Tokens) → take (length front) (front ++ left) ≡ front
+pub front_taken : (front left : Tokens) → take (length front) (front ++ left) ≡ front
 front_taken front left = take-append_seam front left
 
-one_more : (front left : Tokens) (t : List ℕ) → take (suc (length front)) (front ++ t ∷ left) ≡ front ++ t ∷ []
+pub one_more : (front left : Tokens) (t : List ℕ) → take (suc (length front)) (front ++ t ∷ left) ≡ front ++ t ∷ []
 one_more [] left t = refl
 one_more (u ∷ front) left t = ap (λ (us : Tokens). u ∷ us) (one_more front left t)
 
@@ -169,58 +183,74 @@ module _ (law : ExactPrograms) (names : Tokens) (k : ℕ) (command : Statements 
   pub body_form : Form k (λ ts. then_takes (program_from names ts k) (λ p. Ok (command p))) (Body names command)
   body_form = record { spells = body_spells; reads = body_reads; stops = body_stops; some = (codes "stop" ∷ [], command (ThenStatement StopStatement End), (ThenStatement StopStatement End, last stop, refl)) }
 
--- ---- a count that may be left out
-
-abbrev Counted : ℕ → ℕ → (ℕ → LineCommand) → Tokens → LineCommand → Type 0
-Counted least most command = Then (number_from least most) (λ n. Ends (command n))
+-- ---- what may be left out
 
 -- none, or a number in a range
-abbrev pub Count : ℕ → ℕ → ℕ → (ℕ → LineCommand) → Tokens → LineCommand → Type 0
-Count least most absent command [] c = command absent ≡ c
-Count least most absent command (t ∷ ts) c = Counted least most command (t ∷ ts) c
+abbrev pub Count : ℕ → ℕ → LineCommand → (ℕ → LineCommand) → Tokens → LineCommand → Type 0
+Count least most absent command = Maybe absent (Then (number_from least most) (λ n. Ends (command n)))
 
-counts_too : (least most absent : ℕ) (command : ℕ → LineCommand) (ts : Tokens) (c : LineCommand) → Counted least most command ts c → Count least most absent command ts c
-counts_too least most absent command [] c r = absurd r
-counts_too least most absent command (t ∷ ts) c r = r
+module _ (least most : ℕ) (absent : LineCommand) (command : ℕ → LineCommand) (sample : List ℕ) (n : ℕ) (counts : number_from least most sample ≡ Some n) where
+  abbrev counted : Tokens → Result LineCommand ℕ
+  counted ts = then_takes (token_at (number_from least most) ts 1) (λ n. ends_at ts 2 (command n))
 
-module _ (least most absent : ℕ) (command : ℕ → LineCommand) (sample : List ℕ) (n : ℕ) (counts : number_from least most sample ≡ Some n) where
-  abbrev count_reader : Tokens → Result LineCommand ℕ
-  count_reader ts = then_takes (count_or least most absent ts) (λ n. ends_at ts 2 (command n))
+  pub count_form : Form 1 (λ ts. if nat_le (length ts) 1 then Ok absent else counted ts) (Count least most absent command)
+  count_form =
+      maybe_form 1 absent counted (Then (number_from least most) (λ n. Ends (command n))) (λ c r. r)
+      (then_form ℕ (number_from least most) (λ n ts. ends_at ts 2 (command n)) 1 (λ n. Ends (command n)) (λ n. ends_form 2 (command n)) sample n counts)
 
-  counted_form : Form 1 (λ ts. then_takes (token_at (number_from least most) ts 1) (λ n. ends_at ts 2 (command n))) (Counted least most command)
-  counted_form = then_form ℕ (number_from least most) (λ n ts. ends_at ts 2 (command n)) 1 (λ n. Ends (command n)) (λ n. ends_form 2 (command n)) sample n counts
+-- a count that is absent is as one that is given
+counts_as : (ts : Tokens) (absent : ℕ) (r : Result ℕ ℕ) (command : ℕ → LineCommand) (b : Bool) → nat_le (length ts) 1 ≡ b
+    → then_takes (cond b (Ok absent) r) (λ n. ends_at ts 2 (command n)) ≡ cond b (Ok (command absent)) (then_takes r (λ n. ends_at ts 2 (command n)))
+counts_as ts absent r command false is = refl
+counts_as ts absent r command true is = elim (leb_tells (length ts) 2) [
+  | inl t ↦ ap (λ (b : Bool). cond b (Ok (command absent)) (Err 2)) t.0
+  | inr f ↦ elim (leb_tells (length ts) 1) [ inl t ↦ absurd (omega (arith, t.1, f.1)) | inr g ↦ let never : ◌≡◌ {A = Bool} true false = sym is ∙ g.0 in absurd cc ]
+]
 
-  left_out : (front : Tokens) → length front ≡ 1 → count_reader (front ++ []) ≡ Ok (command absent)
-  left_out [] here = absurd (omega (arith, here))
-  left_out (t ∷ []) here = refl
-  left_out (t ∷ (u ∷ front)) here = absurd (omega (arith, here))
+pub count_or_form : (least most absent : ℕ) (command : ℕ → LineCommand) (sample : List ℕ) (n : ℕ) → number_from least most sample ≡ Some n
+    → Form 1 (λ ts. then_takes (count_or least most absent ts) (λ n. ends_at ts 2 (command n))) (Count least most (command absent) command)
+count_or_form least most absent command sample n counts =
+    as_form (λ ts. then_takes (count_or least most absent ts) (λ n. ends_at ts 2 (command n)))
+    (λ ts. counts_as ts absent (token_at (number_from least most) ts 1) command (nat_le (length ts) 1) refl) (count_form least most (command absent) command sample n counts)
 
-  there_is : (front rest : Tokens) (t : List ℕ) → length front ≡ 1 → count_reader (front ++ t ∷ rest) ≡ then_takes (token_at (number_from least most) (front ++ t ∷ rest) 1) (λ n. ends_at (front ++ t ∷ rest) 2 (command n))
-  there_is front rest t here =
-      ap (λ (b : Bool). then_takes (cond b (Ok absent) (token_at (number_from least most) (front ++ t ∷ rest) 1)) (λ n. ends_at (front ++ t ∷ rest) 2 (command n))) (goes_on front rest t 1 here)
+-- they are a condition, which makes the command
+abbrev pub Conditioned : Tokens → (Option Expression → LineCommand) → Tokens → LineCommand → Type 0
+Conditioned names command ts c = (o : Option Expression) × IsCondition names ts o × (command o ≡ c)
 
-  count_spells : (front rest : Tokens) (c : LineCommand) → length front ≡ 1 → count_reader (front ++ rest) ≡ Ok c → Count least most absent command rest c
-  count_spells front [] c here e = let same : ◌≡◌ {A = Result LineCommand ℕ} (Ok (command absent)) (Ok c) = sym (left_out front here) ∙ e in cc
-  count_spells front (t ∷ rest) c here e = counted_form.spells front (t ∷ rest) c here (sym (there_is front rest t here) ∙ e)
+module _ (law : ExactReading) (names : Tokens) (k : ℕ) (command : Option Expression → LineCommand) where
+  abbrev Given : Tokens → LineCommand → Type 0
+  Given = Then (sign_of (codes "if")) (λ _. Value names (λ x. command (Some x)))
 
-  count_reads : (front rest : Tokens) (c : LineCommand) → length front ≡ 1 → Count least most absent command rest c → count_reader (front ++ rest) ≡ Ok c
-  count_reads front [] c here r = left_out front here ∙ ap (λ (d : LineCommand). Ok d) r
-  count_reads front (t ∷ rest) c here r = there_is front rest t here ∙ counted_form.reads front (t ∷ rest) c here r
+  abbrev given_reader : Tokens → Result LineCommand ℕ
+  given_reader ts = then_takes (token_at (sign_of (codes "if")) ts k) (λ _. then_takes (expression_from names ts (suc k)) (λ x. Ok (command (Some x))))
 
-  count_stops : (front rest : Tokens) (n : ℕ) → length front ≡ 1 → count_reader (front ++ rest) ≡ Err n → (m : ℕ) × (n ≡ 1 + m) × Stop (Count least most absent command) rest m
-  count_stops front [] n here e = let never : ◌≡◌ {A = Result LineCommand ℕ} (Ok (command absent)) (Err n) = sym (left_out front here) ∙ e in absurd cc
-  count_stops front (t ∷ rest) n here e =
-      let s = counted_form.stops front (t ∷ rest) n here (sym (there_is front rest t here) ∙ e) in (
-        s.0,
-        s.1,
-        record {
-          within = s.2.within;
-          more = s.2.more;
-          whole = s.2.whole;
-          begins = counts_too least most absent command (take s.0 (t ∷ rest) ++ s.2.more) s.2.whole s.2.begins;
-          longest = s.2.longest;
-        },
-      )
+  given_form : Form k (λ ts. given_reader ts) Given
+  given_form =
+      then_form (List ℕ) (sign_of (codes "if")) (λ _ ts. then_takes (expression_from names ts (suc k)) (λ x. Ok (command (Some x)))) k (λ _. Value names (λ x. command (Some x)))
+      (λ _. value_form law names (suc k) (λ x. command (Some x))) (codes "if") (codes "if") refl
 
-  pub count_form : Form 1 (λ ts. then_takes (count_or least most absent ts) (λ n. ends_at ts 2 (command n))) (Count least most absent command)
-  count_form = record { spells = count_spells; reads = count_reads; stops = count_stops; some = ([], command absent, refl) }
+  pushed : (b : Bool) (r : Result (List ℕ) ℕ) (e : Result Expression ℕ)
+      → then_takes (cond b (Ok None) (then_takes r (λ _. then_takes e (λ x. Ok (Some x))))) (λ o. Ok (command o)) ≡ cond b (Ok (command None)) (then_takes r (λ _. then_takes e (λ x. Ok (command (Some x)))))
+  pushed true r e = refl
+  pushed false (Ok sign) (Ok x) = refl
+  pushed false (Ok sign) (Err n) = refl
+  pushed false (Err n) e = refl
+
+  same_reader : (ts : Tokens) → then_takes (condition_from names ts k) (λ o. Ok (command o)) ≡ cond (nat_le (length ts) k) (Ok (command None)) (given_reader ts)
+  same_reader ts =
+      pushed (nat_le (length ts) k) (token_at (sign_of (codes "if")) ts k) (expression_from names ts (k + 1))
+      ∙ ap (λ (m : ℕ). cond (nat_le (length ts) k) (Ok (command None)) (then_takes (token_at (sign_of (codes "if")) ts k) (λ _. then_takes (expression_from names ts m) (λ x. Ok (command (Some x)))))) (add-one k)
+
+  is_condition : (ts : Tokens) (c : LineCommand) → Maybe (command None) Given ts c → Conditioned names command ts c
+  is_condition [] c h = (None, left_out, h)
+  is_condition (t ∷ ts) c h = (Some h.2.0, subst (λ (u : List ℕ). IsCondition names (u ∷ ts) (Some h.2.0)) (sym (sign_is (codes "if") t h.0 h.1)) (given h.2.1), h.2.2)
+
+  by_condition : (ts : Tokens) (c : LineCommand) (o : Option Expression) → IsCondition names ts o → command o ≡ c → Maybe (command None) Given ts c
+  by_condition us c o left_out e = e
+  by_condition us c o (given {ts} {x} h) e = (codes "if", refl, (x, h, e))
+
+  pub condition_form : Form k (λ ts. then_takes (condition_from names ts k) (λ o. Ok (command o))) (Conditioned names command)
+  condition_form =
+      retold is_condition (λ ts c h. by_condition ts c h.0 h.1 h.2)
+      (as_form (λ ts. then_takes (condition_from names ts k) (λ o. Ok (command o))) same_reader
+      (maybe_form k (command None) given_reader Given (λ c r. r) given_form))

@@ -2,7 +2,6 @@
 use Rattle.std.proofs.Common.{◌≡◌, ◌↔◌, ◌⊎◌, ℕ, zero, suc, ◌+◌, ◌<◌, ◌≤◌, Bool, true, false, ◌&&◌, cond, nat_le, nat_lt, List, [], ◌∷◌, ◌++◌, length, take, drop, Option, Some, None, Result, Ok, Err, bytes_eq, codes, inl, inr, refl, sym, ap, ◌∙◌, subst, append_assoc, arith}
 use Rattle.std.proofs.lemmas.Bool.Decides.{leb_tells}
 use Rattle.std.proofs.lemmas.List.{take-append-drop}
-use Rattle.std.proofs.lemmas.Slice.Eq.{bytes_eq-Decides}
 use Rattle.std.specs.Char.{is_ascii_hexdigit}
 use Rattle.std.specs.List.{find, list_all}
 use Rattle.std.specs.Prelude.{option_map}
@@ -10,21 +9,18 @@ use Rattle.std.specs.Str.Parse.{digits_value}
 use Rattle.fri_text.specs.Decimal.{decimal_of}
 use Rattle.call_table.specs.Table.{kind_named, row}
 use Rattle.call_table.specs.declared.kind.Kind.{Kind}
-use Rattle.call_table.specs.declared.kind.Kind.TheVariants as kinds_of
 use Rattle.watch_expr.specs.Laws.{ExactReading}
 use Rattle.watch_expr.specs.Spelling.{number_at_most, hex_number_of, is_word, most_number, number_of}
 use Rattle.embed_cmds.specs.Laws.{ExactPrograms}
 use Rattle.embed_cmds.specs.Reading.{word_of}
 use Rattle.shell_lines.specs.declared.command.Verb.{Verb}
 use Rattle.shell_lines.specs.declared.command.Verb.TheVariants as verb
-use Rattle.shell_lines.specs.Grammar.{IsCommand, BeginsCommand, StopsAtToken, goto, step_once, step, back_once, back, print, mem, threads, last_events, events, watch, break, break_everywhere, delete, attach, list, set, vars, continue, rcontinue, quit}
+use Rattle.shell_lines.specs.Grammar.{IsCommand, BeginsCommand, StopsAtToken, goto, step_once, step, back_once, back, print, mem, threads, last_events, events, watch, break, delete, attach, list, set, vars, continue, continue_most, rcontinue, quit, IsScope, one_node, everywhere, AreCalls, of_kind, all}
 use Rattle.shell_lines.specs.Laws.{ExactCommands}
-use Rattle.shell_lines.specs.Lines.{At, Back, Break, LineCommand, Continue, Delete, Do, Events, Everywhere, Goto, ListPoints, ListVariables, Mem, Print, Quit, Rcontinue, WhichNodes, SetTo, Step, Threads, Watch, command_of_verb, command_spelled, ends_at, expression_from, node_called, node_named, number_from, number_in_range, program_from, scope_named, sign_of, then_takes, token_at, verb_of, verb_word, verbs}
+use Rattle.shell_lines.specs.Lines.{At, Back, Break, LineCommand, Continue, Delete, Do, Events, Everywhere, Goto, ListPoints, ListVariables, Mem, Print, Quit, Rcontinue, WhichNodes, SetTo, Step, Threads, calls_named, command_of_verb, command_spelled, condition_from, ends_at, expression_from, node_called, node_named, number_from, number_in_range, program_from, scope_named, sign_of, then_takes, token_at, verb_of, verb_word, verbs}
 use Rattle.shell_lines.proofs.TokenForms.{Ends, Form, Stop, Then, Tokens, as_form, ends_form, then_form}
-use Rattle.shell_lines.proofs.CommandParts.{Body, Count, Value, body_form, count_form, value_form}
-
-same_bytes : (a b : List ℕ) → bytes_eq a b ≡ true → a ≡ b
-same_bytes a b e = (bytes_eq-Decides a b).0 e
+use Rattle.shell_lines.proofs.CommandParts.{Body, Conditioned, Count, Value, body_form, condition_form, count_form, count_or_form, passed, same_bytes, sign_is, value_form}
+use Rattle.shell_lines.proofs.WatchForms.{Watched, watch_form}
 
 -- ---- numbers
 
@@ -125,14 +121,6 @@ verb_again verb.Continue = refl
 verb_again verb.Rcontinue = refl
 verb_again verb.Quit = refl
 
--- the word itself, where it passes
-passed : {A : Type 0} (b : Bool) (a c : A) → cond b (Some a) None ≡ Some c → (b ≡ true) × (a ≡ c)
-passed true a c e = (refl, cc)
-passed false a c e = absurd cc
-
-sign_is : (sign text found : List ℕ) → sign_of sign text ≡ Some found → text ≡ sign
-sign_is sign text found e = same_bytes text sign (passed (bytes_eq text sign) text found e).0
-
 word_is : (text name : List ℕ) → word_of text ≡ Some name → (is_word text ≡ true) × (text ≡ name)
 word_is text name e = passed (is_word text) text name e
 
@@ -150,42 +138,83 @@ module _ (names : Tokens) where
   mapped None s e = absurd cc
   mapped (Some node) s e = (node, refl, cc)
 
-  scope_is : (text : List ℕ) (s : WhichNodes) → scope_named names text ≡ Some s → ((text ≡ codes "*") × (Everywhere ≡ s)) ⊎ ((is_word text ≡ true) × (At (node_called names text) ≡ s))
+  scope_is : (text : List ℕ) (s : WhichNodes) → scope_named names text ≡ Some s → IsScope names text s
   scope_is text s e = by (bytes_eq text (codes "*")) refl e
     where
-      by : (b : Bool) → bytes_eq text (codes "*") ≡ b → cond b (Some Everywhere) (option_map At (node_named names text)) ≡ Some s
-          → ((text ≡ codes "*") × (Everywhere ≡ s)) ⊎ ((is_word text ≡ true) × (At (node_called names text) ≡ s))
-      by true star e = inl (same_bytes text (codes "*") star, cc)
+      by : (b : Bool) → bytes_eq text (codes "*") ≡ b → cond b (Some Everywhere) (option_map At (node_named names text)) ≡ Some s → IsScope names text s
+      by true star e =
+          let all : Everywhere ≡ s = cc in
+          subst (λ (p : WhichNodes). IsScope names text p) all (subst (λ (t : List ℕ). IsScope names t Everywhere) (sym (same_bytes text (codes "*") star)) everywhere)
       by false star e =
           let m = mapped (node_named names text) s e in
           let n = node_is text m.0 m.1 in
-          inr (n.0, ap At n.1 ∙ m.2)
+          subst (λ (p : WhichNodes). IsScope names text p) (ap At n.1 ∙ m.2) (one_node text n.0)
 
-  scope_again : (text : List ℕ) → is_word text ≡ true → scope_named names text ≡ Some (At (node_called names text))
-  scope_again text e = by (bytes_eq text (codes "*")) refl
+  word_scope : (text : List ℕ) → is_word text ≡ true → scope_named names text ≡ Some (At (node_called names text))
+  word_scope text e = by (bytes_eq text (codes "*")) refl
     where
       by : (b : Bool) → bytes_eq text (codes "*") ≡ b → cond b (Some Everywhere) (option_map At (node_named names text)) ≡ Some (At (node_called names text))
       by true star = let never : ◌≡◌ {A = Bool} false true = sym (ap is_word (same_bytes text (codes "*") star)) ∙ e in absurd cc
       by false star = ap (λ (o : Option (Option ℕ)). option_map At o) (node_again text e)
 
+  scope_again : (text : List ℕ) (s : WhichNodes) → IsScope names text s → scope_named names text ≡ Some s
+  scope_again text s (one_node word is) = word_scope word is
+  scope_again text s everywhere = refl
+
+-- ---- calls
+
+no_star : kind_named (codes "*") ≡ None
+unfolding kind_named
+no_star = refl
+
+module _ (kinds : (kind : Kind) (name : List ℕ) → (kind_named name ≡ Some kind) ↔ ((row kind).name ≡ name)) where
+  each_kind : (text : List ℕ) (o : Option Kind) (calls : Option Kind) → kind_named text ≡ o → option_map (λ kind. Some kind) o ≡ Some calls → AreCalls text calls
+  each_kind text None calls is e = absurd cc
+  each_kind text (Some kind) calls is e =
+      let same : Some kind ≡ calls = cc in
+      subst (λ (p : Option Kind). AreCalls text p) same (subst (λ (t : List ℕ). AreCalls t (Some kind)) ((kinds kind text).0 is) (of_kind kind))
+
+  calls_are : (text : List ℕ) (calls : Option Kind) → calls_named text ≡ Some calls → AreCalls text calls
+  calls_are text calls e = by (bytes_eq text (codes "*")) refl e
+    where
+      by : (b : Bool) → bytes_eq text (codes "*") ≡ b → cond b (Some None) (option_map (λ kind. Some kind) (kind_named text)) ≡ Some calls → AreCalls text calls
+      by true star e =
+          let same : None ≡ calls = cc in
+          subst (λ (p : Option Kind). AreCalls text p) same (subst (λ (t : List ℕ). AreCalls t None) (sym (same_bytes text (codes "*") star)) all)
+      by false star e = each_kind text (kind_named text) calls refl e
+
+  kind_again : (kind : Kind) → calls_named (row kind).name ≡ Some (Some kind)
+  kind_again kind = by (bytes_eq (row kind).name (codes "*")) refl
+    where
+      named : kind_named (row kind).name ≡ Some kind
+      named = (kinds kind (row kind).name).1 refl
+
+      by : (b : Bool) → bytes_eq (row kind).name (codes "*") ≡ b → cond b (Some None) (option_map (λ kind. Some kind) (kind_named (row kind).name)) ≡ Some (Some kind)
+      by true star = let never : ◌≡◌ {A = Option Kind} None (Some kind) = sym no_star ∙ sym (ap kind_named (same_bytes (row kind).name (codes "*") star)) ∙ named in absurd cc
+      by false star = ap (option_map (λ kind. Some kind)) named
+
+  calls_again : (text : List ℕ) (calls : Option Kind) → AreCalls text calls → calls_named text ≡ Some calls
+  calls_again text calls (of_kind kind) = kind_again kind
+  calls_again text calls all = refl
+
 -- ---- what follows a verb
 
 abbrev Behind : Tokens → Verb → Tokens → LineCommand → Type 0
 Behind names verb.Goto = Then (number_from 0 most_number) (λ k. Ends (Goto k))
-Behind names verb.Step = Count 0 most_number 1 Step
-Behind names verb.Back = Count 0 most_number 1 Back
+Behind names verb.Step = Count 0 most_number (Step 1) Step
+Behind names verb.Back = Count 0 most_number (Back 1) Back
 Behind names verb.Print = Value names Print
 Behind names verb.Mem = Then (node_named names) (λ node. Then (number_from 0 most_number) (λ addr. Then (number_from 1 256) (λ len. Ends (Mem node addr len))))
 Behind names verb.Threads = Then (node_named names) (λ node. Ends (Threads node))
-Behind names verb.Events = Count 1 1000 10 Events
-Behind names verb.Watch = Value names Watch
-Behind names verb.Break = Then (scope_named names) (λ scope. Then kind_named (λ kind. Ends (Break scope kind)))
+Behind names verb.Events = Count 1 1000 (Events 10) Events
+Behind names verb.Watch = Watched names
+Behind names verb.Break = Then (scope_named names) (λ scope. Then calls_named (λ kind. Conditioned names (Break scope kind)))
 Behind names verb.Delete = Then (number_from 0 most_number) (λ n. Ends (Delete n))
 Behind names verb.Do = Then (number_from 0 most_number) (λ n. Body names (Do n))
 Behind names verb.List = Ends ListPoints
 Behind names verb.Set = Then (sign_of (codes "$")) (λ _. Then word_of (λ name. Value names (SetTo name)))
 Behind names verb.Vars = Ends ListVariables
-Behind names verb.Continue = Ends Continue
+Behind names verb.Continue = Count 1 most_number (Continue None) (λ n. Continue (Some n))
 Behind names verb.Rcontinue = Ends Rcontinue
 Behind names verb.Quit = Ends Quit
 
@@ -216,10 +245,10 @@ module _ (reading : ExactReading) (programs : ExactPrograms) (kinds : (kind : Ki
 
   break_form : Form 1 (λ ts. command_of_verb names ts verb.Break) (Behind names verb.Break)
   break_form =
-      then_form WhichNodes (scope_named names) (λ scope ts. then_takes (token_at kind_named ts 2) (λ kind. ends_at ts 3 (Break scope kind)))
-      1 (λ scope. Then kind_named (λ kind. Ends (Break scope kind)))
-      (λ scope. then_form Kind kind_named (λ kind ts. ends_at ts 3 (Break scope kind)) 2 (λ kind. Ends (Break scope kind)) (λ kind. ends_form 3 (Break scope kind))
-      (row kinds_of.Begin).name kinds_of.Begin ((kinds kinds_of.Begin (row kinds_of.Begin).name).1 refl))
+      then_form WhichNodes (scope_named names) (λ scope ts. then_takes (token_at calls_named ts 2) (λ kind. then_takes (condition_from names ts 3) (λ c. Ok (Break scope kind c))))
+      1 (λ scope. Then calls_named (λ kind. Conditioned names (Break scope kind)))
+      (λ scope. then_form (Option Kind) calls_named (λ kind ts. then_takes (condition_from names ts 3) (λ c. Ok (Break scope kind c))) 2 (λ kind. Conditioned names (Break scope kind))
+      (λ kind. condition_form reading names 3 (Break scope kind)) (codes "*") None refl)
       (codes "*") Everywhere refl
 
   set_form : Form 1 (λ ts. command_of_verb names ts verb.Set) (Behind names verb.Set)
@@ -234,13 +263,13 @@ module _ (reading : ExactReading) (programs : ExactPrograms) (kinds : (kind : Ki
 
   verb_form : (v : Verb) → Form 1 (λ ts. command_of_verb names ts v) (Behind names v)
   verb_form verb.Goto = number_form Goto
-  verb_form verb.Step = count_form 0 most_number 1 Step (codes "0") 0 (any_number (codes "0") 0 zero_word)
-  verb_form verb.Back = count_form 0 most_number 1 Back (codes "0") 0 (any_number (codes "0") 0 zero_word)
+  verb_form verb.Step = count_or_form 0 most_number 1 Step (codes "0") 0 (any_number (codes "0") 0 zero_word)
+  verb_form verb.Back = count_or_form 0 most_number 1 Back (codes "0") 0 (any_number (codes "0") 0 zero_word)
   verb_form verb.Print = value_form reading names 1 Print
   verb_form verb.Mem = mem_form
   verb_form verb.Threads = then_form (Option ℕ) (node_named names) (λ node ts. ends_at ts 2 (Threads node)) 1 (λ node. Ends (Threads node)) (λ node. ends_form 2 (Threads node)) (codes "a") (node_called names (codes "a")) refl
-  verb_form verb.Events = count_form 1 1000 10 Events (codes "1") 1 (number_again 1 1000 (codes "1") 1 one_word (omega arith) (omega arith))
-  verb_form verb.Watch = value_form reading names 1 Watch
+  verb_form verb.Events = count_or_form 1 1000 10 Events (codes "1") 1 (number_again 1 1000 (codes "1") 1 one_word (omega arith) (omega arith))
+  verb_form verb.Watch = watch_form reading names
   verb_form verb.Break = break_form
   verb_form verb.Delete = number_form Delete
   verb_form verb.Do =
@@ -249,7 +278,7 @@ module _ (reading : ExactReading) (programs : ExactPrograms) (kinds : (kind : Ki
   verb_form verb.List = ends_form 1 ListPoints
   verb_form verb.Set = set_form
   verb_form verb.Vars = ends_form 1 ListVariables
-  verb_form verb.Continue = ends_form 1 Continue
+  verb_form verb.Continue = count_form 1 most_number (Continue None) (λ n. Continue (Some n)) (codes "1") 1 (number_again 1 most_number (codes "1") 1 one_word (omega arith) (omega arith))
   verb_form verb.Rcontinue = ends_form 1 Rcontinue
   verb_form verb.Quit = ends_form 1 Quit
 
@@ -266,14 +295,6 @@ module _ (reading : ExactReading) (programs : ExactPrograms) (kinds : (kind : Ki
 
   any : (word : List ℕ) (n : ℕ) → number_from 0 most_number word ≡ Some n → number_of word ≡ Some n
   any word n e = (in_range 0 most_number (number_of word) n e).0
-
-  breaks : (text name : List ℕ) (s : WhichNodes) (kind : Kind) (c : LineCommand) → scope_named names text ≡ Some s → kind_named name ≡ Some kind → Break s kind ≡ c → IsCommand names (codes "break" ∷ text ∷ name ∷ []) c
-  breaks text name s kind c is named e =
-      let called : (row kind).name ≡ name = (kinds kind name).0 named in
-      subst (λ (w : List ℕ). IsCommand names (codes "break" ∷ text ∷ w ∷ []) c) called (elim (scope_is names text s is) [
-        | inl star ↦ subst (λ (t : List ℕ). IsCommand names (codes "break" ∷ t ∷ (row kind).name ∷ []) c) (sym star.0) (read_as (break_everywhere kind) (ap (λ (s : WhichNodes). Break s kind) star.1 ∙ e))
-        | inr node ↦ read_as (break text kind node.0) (ap (λ (s : WhichNodes). Break s kind) node.1 ∙ e)
-      ])
 
   spelled_by : (v : Verb) (rest : Tokens) (c : LineCommand) → Behind names v rest c → IsCommand names (verb_word v ∷ rest) c
   spelled_by verb.Goto [] c h = absurd h
@@ -300,11 +321,10 @@ module _ (reading : ExactReading) (programs : ExactPrograms) (kinds : (kind : Ki
   spelled_by verb.Events [] c h = read_as last_events h
   spelled_by verb.Events (w ∷ []) c h = let n = in_range 1 1000 (number_of w) h.0 h.1 in read_as (events w h.0 n.0 n.1 n.2) h.2
   spelled_by verb.Events (w ∷ (t ∷ rest)) c h = absurd h.2
-  spelled_by verb.Watch rest c h = read_as (watch h.1) h.2
+  spelled_by verb.Watch rest c h = subst (λ (us : Tokens). IsCommand names (codes "watch" ∷ us) c) (sym h.parts) (read_as (watch h.watched h.meets) h.does)
   spelled_by verb.Break [] c h = absurd h
   spelled_by verb.Break (a ∷ []) c h = absurd h.2
-  spelled_by verb.Break (a ∷ (b ∷ [])) c h = breaks a b h.0 h.2.0 c h.1 h.2.1 h.2.2
-  spelled_by verb.Break (a ∷ (b ∷ (t ∷ rest))) c h = absurd h.2.2
+  spelled_by verb.Break (a ∷ (b ∷ rest)) c h = read_as (break (scope_is names a h.0 h.1) (calls_are kinds b h.2.0 h.2.1) h.2.2.1) h.2.2.2
   spelled_by verb.Delete [] c h = absurd h
   spelled_by verb.Delete (w ∷ []) c h = read_as (delete w h.0 (any w h.0 h.1)) h.2
   spelled_by verb.Delete (w ∷ (t ∷ rest)) c h = absurd h.2
@@ -321,7 +341,8 @@ module _ (reading : ExactReading) (programs : ExactPrograms) (kinds : (kind : Ki
   spelled_by verb.Vars [] c h = read_as vars h
   spelled_by verb.Vars (t ∷ rest) c h = absurd h
   spelled_by verb.Continue [] c h = read_as continue h
-  spelled_by verb.Continue (t ∷ rest) c h = absurd h
+  spelled_by verb.Continue (w ∷ []) c h = let n = in_range 1 most_number (number_of w) h.0 h.1 in read_as (continue_most w h.0 n.0 n.1) h.2
+  spelled_by verb.Continue (w ∷ (t ∷ rest)) c h = absurd h.2
   spelled_by verb.Rcontinue [] c h = read_as rcontinue h
   spelled_by verb.Rcontinue (t ∷ rest) c h = absurd h
   spelled_by verb.Quit [] c h = read_as quit h
@@ -342,15 +363,15 @@ module _ (reading : ExactReading) (programs : ExactPrograms) (kinds : (kind : Ki
   is_whole (threads node word) = (verb.Threads, verb_again verb.Threads, (node_called names node, node_again names node word, refl))
   is_whole last_events = (verb.Events, verb_again verb.Events, refl)
   is_whole (events w n e low high) = (verb.Events, verb_again verb.Events, (n, number_again 1 1000 w n e low high, refl))
-  is_whole (watch {ts} {x} h) = (verb.Watch, verb_again verb.Watch, (x, h, refl))
-  is_whole (break node kind word) = (verb.Break, verb_again verb.Break, (At (node_called names node), scope_again names node word, (kind, (kinds kind (row kind).name).1 refl, refl)))
-  is_whole (break_everywhere kind) = (verb.Break, verb_again verb.Break, (Everywhere, refl, (kind, (kinds kind (row kind).name).1 refl, refl)))
+  is_whole (watch {ts} {us} {x} {c} h i) = (verb.Watch, verb_again verb.Watch, record { front = ts; back = us; x = x; o = c; parts = refl; watched = h; meets = i; does = refl })
+  is_whole (break {nodes} {calls} {us} {scope} {kind} {c} h i j) = (verb.Break, verb_again verb.Break, (scope, scope_again names nodes scope h, (kind, calls_again kinds calls kind i, (c, j, refl))))
   is_whole (delete w n e) = (verb.Delete, verb_again verb.Delete, (n, any_number w n e, refl))
   is_whole (attach {ts} {p} w n e h) = (verb.Do, verb_again verb.Do, (n, any_number w n e, (p, h, refl)))
   is_whole list = (verb.List, verb_again verb.List, refl)
   is_whole (set {ts} {x} name word h) = (verb.Set, verb_again verb.Set, (codes "$", refl, (name, word_again name word, (x, h, refl))))
   is_whole vars = (verb.Vars, verb_again verb.Vars, refl)
   is_whole continue = (verb.Continue, verb_again verb.Continue, refl)
+  is_whole (continue_most w n e low) = (verb.Continue, verb_again verb.Continue, (n, number_again 1 most_number w n e low (number_small w n e), refl))
   is_whole rcontinue = (verb.Rcontinue, verb_again verb.Rcontinue, refl)
   is_whole quit = (verb.Quit, verb_again verb.Quit, refl)
 

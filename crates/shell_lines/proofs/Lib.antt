@@ -5,3 +5,4 @@ pub mod OuterBlanks
 pub mod CommandParts
 pub mod ProgramFaults
 pub mod ViableTokens
+pub mod WatchForms

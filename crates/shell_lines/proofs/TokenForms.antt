@@ -44,6 +44,27 @@ as_form g same form = record {
   some = form.some;
 }
 
+-- the same function, and the same tokens in other words
+pub retold : {k : ℕ} {f : Tokens → Result LineCommand ℕ} {R S : Tokens → LineCommand → Type 0} → ((ts : Tokens) (c : LineCommand) → R ts c → S ts c)
+    → ((ts : Tokens) (c : LineCommand) → S ts c → R ts c) → Form k f R → Form k f S
+retold to from form = record {
+  spells = λ front rest c here e. to rest c (form.spells front rest c here e);
+  reads = λ front rest c here r. form.reads front rest c here (from rest c r);
+  stops = λ front rest n here e.
+      let s = form.stops front rest n here e in (
+        s.0,
+        s.1,
+        record {
+          within = s.2.within;
+          more = s.2.more;
+          whole = s.2.whole;
+          begins = to (take s.0 rest ++ s.2.more) s.2.whole s.2.begins;
+          longest = λ lt more c r. s.2.longest lt more c (from (take (suc s.0) rest ++ more) c r);
+        },
+      );
+  some = (form.some.0, form.some.1, to form.some.0 form.some.1 form.some.2);
+}
+
 -- ---- no token more
 
 ends_here : (front : Tokens) (k : ℕ) → length front ≡ k → nat_le (length (front ++ [])) k ≡ true
@@ -166,3 +187,50 @@ module _ (A : Type 0) (meaning : List ℕ → Option A) (next : A → Tokens →
 
       pub then_form : Form k (λ ts. then_takes (token_at meaning ts k) (λ a. next a ts)) (Then meaning R)
       then_form = record { spells = then_spells; reads = then_reads; stops = then_stops; some = some_more }
+
+-- ---- none, or some
+
+-- no token, or these
+abbrev pub Maybe : LineCommand → (Tokens → LineCommand → Type 0) → Tokens → LineCommand → Type 0
+Maybe absent R [] c = absent ≡ c
+Maybe absent R (t ∷ ts) c = R (t ∷ ts) c
+
+module _ (k : ℕ) (absent : LineCommand) (f : Tokens → Result LineCommand ℕ) (R : Tokens → LineCommand → Type 0) (some_token : (c : LineCommand) → R [] c → ⊥) (form : Form k f R) where
+  abbrev maybe_reader : Tokens → Result LineCommand ℕ
+  maybe_reader ts = cond (nat_le (length ts) k) (Ok absent) (f ts)
+
+  these_too : (ts : Tokens) (c : LineCommand) → R ts c → Maybe absent R ts c
+  these_too [] c r = absurd (some_token c r)
+  these_too (t ∷ ts) c r = r
+
+  left_out : (front : Tokens) → length front ≡ k → maybe_reader (front ++ []) ≡ Ok absent
+  left_out front here = ap (λ (b : Bool). cond b (Ok absent) (f (front ++ []))) (ends_here front k here)
+
+  there_is : (front rest : Tokens) (t : List ℕ) → length front ≡ k → maybe_reader (front ++ t ∷ rest) ≡ f (front ++ t ∷ rest)
+  there_is front rest t here = ap (λ (b : Bool). cond b (Ok absent) (f (front ++ t ∷ rest))) (goes_on front rest t k here)
+
+  maybe_spells : (front rest : Tokens) (c : LineCommand) → length front ≡ k → maybe_reader (front ++ rest) ≡ Ok c → Maybe absent R rest c
+  maybe_spells front [] c here e = let same : ◌≡◌ {A = Result LineCommand ℕ} (Ok absent) (Ok c) = sym (left_out front here) ∙ e in cc
+  maybe_spells front (t ∷ rest) c here e = form.spells front (t ∷ rest) c here (sym (there_is front rest t here) ∙ e)
+
+  maybe_reads : (front rest : Tokens) (c : LineCommand) → length front ≡ k → Maybe absent R rest c → maybe_reader (front ++ rest) ≡ Ok c
+  maybe_reads front [] c here r = left_out front here ∙ ap (λ (d : LineCommand). Ok d) r
+  maybe_reads front (t ∷ rest) c here r = there_is front rest t here ∙ form.reads front (t ∷ rest) c here r
+
+  maybe_stops : (front rest : Tokens) (n : ℕ) → length front ≡ k → maybe_reader (front ++ rest) ≡ Err n → (m : ℕ) × (n ≡ k + m) × Stop (Maybe absent R) rest m
+  maybe_stops front [] n here e = let never : ◌≡◌ {A = Result LineCommand ℕ} (Ok absent) (Err n) = sym (left_out front here) ∙ e in absurd cc
+  maybe_stops front (t ∷ rest) n here e =
+      let s = form.stops front (t ∷ rest) n here (sym (there_is front rest t here) ∙ e) in (
+        s.0,
+        s.1,
+        record {
+          within = s.2.within;
+          more = s.2.more;
+          whole = s.2.whole;
+          begins = these_too (take s.0 (t ∷ rest) ++ s.2.more) s.2.whole s.2.begins;
+          longest = s.2.longest;
+        },
+      )
+
+  pub maybe_form : Form k (λ ts. cond (nat_le (length ts) k) (Ok absent) (f ts)) (Maybe absent R)
+  maybe_form = record { spells = maybe_spells; reads = maybe_reads; stops = maybe_stops; some = ([], absent, refl) }

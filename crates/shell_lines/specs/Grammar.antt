@@ -1,5 +1,5 @@
 -- The grammar of commands, over the texts of a line's tokens: a line for each form that a command has.
-use Rattle.std.specs.Prelude.{◌≡◌, ℕ, ◌+◌, ◌≤◌, ◌<◌, true, codes, List, [], ◌∷◌, ◌++◌, length, take, Some}
+use Rattle.std.specs.Prelude.{◌≡◌, ℕ, ◌+◌, ◌≤◌, ◌<◌, true, codes, List, [], ◌∷◌, ◌++◌, length, take, Option, Some, None}
 use Rattle.call_table.specs.Table.{row}
 use Rattle.call_table.specs.declared.kind.Kind.{Kind}
 use Rattle.watch_expr.specs.Expression.{Expression}
@@ -8,7 +8,22 @@ use Rattle.watch_expr.specs.Spelling.{is_word, number_of}
 use Rattle.embed_cmds.specs.Grammar.{IsProgram}
 use Rattle.embed_cmds.specs.Tree.{Statements}
 use Rattle.shell_lines.specs.Limits.{most_shown_bytes, most_shown_events}
-use Rattle.shell_lines.specs.Lines.{At, Back, Break, LineCommand, Continue, Delete, Do, Events, Everywhere, Goto, ListPoints, ListVariables, Mem, Print, Quit, Rcontinue, SetTo, Step, Threads, Watch, node_called}
+use Rattle.shell_lines.specs.Lines.{At, Back, Break, LineCommand, Continue, Delete, Do, Events, Everywhere, Goto, ListPoints, ListVariables, Mem, Print, Quit, Rcontinue, SetTo, Step, Threads, Watch, WhichNodes, node_called}
+
+-- the token says which nodes: one by its name, or a star for all
+pub data IsScope (names : List (List ℕ)) : List ℕ → WhichNodes → Type 0 where
+  one_node : (word : List ℕ) → is_word word ≡ true → IsScope names word (At (node_called names word))
+  everywhere : IsScope names (codes "*") Everywhere
+
+-- the token says which calls: those of one kind, or a star for all
+pub data AreCalls : List ℕ → Option Kind → Type 0 where
+  of_kind : (kind : Kind) → AreCalls (row kind).name (Some kind)
+  all : AreCalls (codes "*") None
+
+-- the tokens are a condition, which may be left out
+pub data IsCondition (names : List (List ℕ)) : List (List ℕ) → Option Expression → Type 0 where
+  left_out : IsCondition names [] None
+  given : {ts : List (List ℕ)} {x : Expression} → IsExpr names ts x → IsCondition names (codes "if" ∷ ts) (Some x)
 
 -- With these names of processes, the tokens spell the command.
 pub data IsCommand (names : List (List ℕ)) : List (List ℕ) → LineCommand → Type 0 where
@@ -23,15 +38,16 @@ pub data IsCommand (names : List (List ℕ)) : List (List ℕ) → LineCommand �
   threads : (node : List ℕ) → is_word node ≡ true → IsCommand names (codes "threads" ∷ node ∷ []) (Threads (node_called names node))
   last_events : IsCommand names (codes "events" ∷ []) (Events 10)
   events : (word : List ℕ) (n : ℕ) → number_of word ≡ Some n → 1 ≤ n → n ≤ most_shown_events → IsCommand names (codes "events" ∷ word ∷ []) (Events n)
-  watch : {ts : List (List ℕ)} {x : Expression} → IsExpr names ts x → IsCommand names (codes "watch" ∷ ts) (Watch x)
-  break : (node : List ℕ) (kind : Kind) → is_word node ≡ true → IsCommand names (codes "break" ∷ node ∷ (row kind).name ∷ []) (Break (At (node_called names node)) kind)
-  break_everywhere : (kind : Kind) → IsCommand names (codes "break" ∷ codes "*" ∷ (row kind).name ∷ []) (Break Everywhere kind)
+  watch : {ts us : List (List ℕ)} {x : Expression} {c : Option Expression} → IsExpr names ts x → IsCondition names us c → IsCommand names (codes "watch" ∷ (ts ++ us)) (Watch x c)
+  break : {nodes calls : List ℕ} {us : List (List ℕ)} {scope : WhichNodes} {kind : Option Kind} {c : Option Expression}
+      → IsScope names nodes scope → AreCalls calls kind → IsCondition names us c → IsCommand names (codes "break" ∷ nodes ∷ calls ∷ us) (Break scope kind c)
   delete : (word : List ℕ) (n : ℕ) → number_of word ≡ Some n → IsCommand names (codes "delete" ∷ word ∷ []) (Delete n)
   attach : {ts : List (List ℕ)} {p : Statements} (word : List ℕ) (n : ℕ) → number_of word ≡ Some n → IsProgram names ts p → IsCommand names (codes "do" ∷ word ∷ ts) (Do n p)
   list : IsCommand names (codes "list" ∷ []) ListPoints
   set : {ts : List (List ℕ)} {x : Expression} (name : List ℕ) → is_word name ≡ true → IsExpr names ts x → IsCommand names (codes "set" ∷ codes "$" ∷ name ∷ ts) (SetTo name x)
   vars : IsCommand names (codes "vars" ∷ []) ListVariables
-  continue : IsCommand names (codes "continue" ∷ []) Continue
+  continue : IsCommand names (codes "continue" ∷ []) (Continue None)
+  continue_most : (word : List ℕ) (n : ℕ) → number_of word ≡ Some n → 1 ≤ n → IsCommand names (codes "continue" ∷ word ∷ []) (Continue (Some n))
   rcontinue : IsCommand names (codes "rcontinue" ∷ []) Rcontinue
   quit : IsCommand names (codes "quit" ∷ []) Quit
 

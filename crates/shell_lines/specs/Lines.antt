@@ -1,10 +1,10 @@
 -- The commands that lines spell.
-use Rattle.std.specs.Prelude.{ℕ, ◌+◌, ◌-◌, Bool, false, ◌&&◌, nat_le, is_none, List, [], ◌∷◌, length, drop, codes, bytes_eq, position, slice_get, Option, Some, None, option_and_then, option_map, Result, Ok, Err, if◌then◌else◌}
+use Rattle.std.specs.Prelude.{ℕ, ◌+◌, ◌-◌, Bool, false, ◌&&◌, ◌||◌, nat_le, is_none, List, [], ◌∷◌, length, take, drop, codes, bytes_eq, position, slice_get, Option, Some, None, option_and_then, option_map, Result, Ok, Err, if◌then◌else◌}
 use Rattle.std.specs.List.{find}
 use Rattle.watch_expr.specs.Computed.{expression_spelled, viable_tokens}
 use Rattle.call_table.specs.Table.{kind_named}
 use Rattle.call_table.specs.declared.kind.Kind.{Kind}
-use Rattle.watch_expr.specs.Faulty.{is_nested, lacks_node, names_variable}
+use Rattle.watch_expr.specs.Faulty.{is_nested, lacks_node, lacks_some_node, names_variable}
 use Rattle.watch_expr.specs.Spelling.{is_word, most_number, number_of}
 use Rattle.watch_expr.specs.Expression.{Expression}
 use Rattle.embed_cmds.specs.Faulty.{lacks_names, nests_aggregates}
@@ -19,7 +19,8 @@ pub data WhichNodes : Type 0 where
   Everywhere : WhichNodes
   At : (node : Option ℕ) → WhichNodes
 
--- a command. A node is given by its number, or none where no process has the name
+-- a command. A node is given by its number, or none where no process has the name. A watchpoint and a breakpoint may have a
+-- condition; a breakpoint may be for a kind of call or for all, and `continue` may go so many positions at most
 pub data LineCommand : Type 0 where
   Goto : (position : ℕ) → LineCommand
   Step : (count : ℕ) → LineCommand
@@ -28,14 +29,14 @@ pub data LineCommand : Type 0 where
   Mem : (node : Option ℕ) → (addr len : ℕ) → LineCommand
   Threads : (node : Option ℕ) → LineCommand
   Events : (count : ℕ) → LineCommand
-  Watch : (x : Expression) → LineCommand
-  Break : (scope : WhichNodes) → (kind : Kind) → LineCommand
+  Watch : (x : Expression) → (condition : Option Expression) → LineCommand
+  Break : (scope : WhichNodes) → (kind : Option Kind) → (condition : Option Expression) → LineCommand
   Delete : (number : ℕ) → LineCommand
   Do : (number : ℕ) → (program : Statements) → LineCommand
   ListPoints : LineCommand
   SetTo : (name : List ℕ) → (x : Expression) → LineCommand
   ListVariables : LineCommand
-  Continue : LineCommand
+  Continue : (most : Option ℕ) → LineCommand
   Rcontinue : LineCommand
   Quit : LineCommand
 
@@ -88,6 +89,10 @@ node_named names text = if is_word text then Some (node_called names text) else 
 abbrev pub scope_named : List (List ℕ) → List ℕ → Option WhichNodes
 scope_named names text = if bytes_eq text (codes "*") then Some Everywhere else option_map At (node_named names text)
 
+-- a star, or a word that names a kind of call
+abbrev pub calls_named : List ℕ → Option (Option Kind)
+calls_named text = if bytes_eq text (codes "*") then Some None else option_map (λ kind. Some kind) (kind_named text)
+
 -- this sign
 abbrev pub sign_of : List ℕ → List ℕ → Option (List ℕ)
 sign_of sign text = if bytes_eq text sign then Some text else None
@@ -123,6 +128,24 @@ expression_or_at n (Some x) = Ok x
 abbrev pub expression_from : List (List ℕ) → List (List ℕ) → ℕ → Result Expression ℕ
 expression_from names texts from = expression_or_at (from + viable_tokens names [] (drop from texts)) (expression_spelled names (drop from texts))
 
+abbrev pub expression_and_end : ℕ → Option Expression → Result (Expression × ℕ) ℕ
+expression_and_end n None = Err n
+expression_and_end n (Some x) = Ok (x, n)
+
+-- so many tokens from this one on
+abbrev pub expression_of_tokens : List (List ℕ) → List (List ℕ) → ℕ → ℕ → Result (Expression × ℕ) ℕ
+expression_of_tokens names texts from n = expression_and_end (from + n) (expression_spelled names (take n (drop from texts)))
+
+-- the expression of as many tokens from this one on as begin one, and the number of the token after it
+abbrev pub expression_before : List (List ℕ) → List (List ℕ) → ℕ → Result (Expression × ℕ) ℕ
+expression_before names texts from = expression_of_tokens names texts from (viable_tokens names [] (drop from texts))
+
+-- all tokens from this one on are a condition: there are none, or an `if` and an expression
+abbrev pub condition_from : List (List ℕ) → List (List ℕ) → ℕ → Result (Option Expression) ℕ
+condition_from names texts at =
+    if nat_le (length texts) at then Ok None
+    else then_takes (token_at (sign_of (codes "if")) texts at) (λ _. then_takes (expression_from names texts (at + 1)) (λ x. Ok (Some x)))
+
 -- where a program was read or not, of all these tokens
 abbrev pub located_program : List (List ℕ) → Result Statements (List (List ℕ)) → Result Statements ℕ
 located_program texts (Ok program) = Ok program
@@ -136,6 +159,12 @@ program_from names texts from = located_program texts (program_of names (drop fr
 abbrev pub count_or : ℕ → ℕ → ℕ → List (List ℕ) → Result ℕ ℕ
 count_or least most absent texts = if nat_le (length texts) 1 then Ok absent else token_at (number_from least most) texts 1
 
+-- what follows `continue`: nothing, or how many positions it goes at most
+abbrev pub continue_in : List (List ℕ) → Result LineCommand ℕ
+continue_in texts =
+    if nat_le (length texts) 1 then Ok (Continue None)
+    else then_takes (token_at (number_from 1 most_number) texts 1) (λ n. ends_at texts 2 (Continue (Some n)))
+
 abbrev pub command_of_verb : List (List ℕ) → List (List ℕ) → Verb → Result LineCommand ℕ
 command_of_verb names texts verb.Goto = then_takes (token_at (number_from 0 most_number) texts 1) (λ k. ends_at texts 2 (Goto k))
 command_of_verb names texts verb.Step = then_takes (count_or 0 most_number 1 texts) (λ n. ends_at texts 2 (Step n))
@@ -146,9 +175,11 @@ command_of_verb names texts verb.Mem =
     then_takes (token_at (number_from 1 most_shown_bytes) texts 3) (λ len. ends_at texts 4 (Mem node addr len))))
 command_of_verb names texts verb.Threads = then_takes (token_at (node_named names) texts 1) (λ node. ends_at texts 2 (Threads node))
 command_of_verb names texts verb.Events = then_takes (count_or 1 most_shown_events 10 texts) (λ n. ends_at texts 2 (Events n))
-command_of_verb names texts verb.Watch = then_takes (expression_from names texts 1) (λ x. Ok (Watch x))
+command_of_verb names texts verb.Watch =
+    then_takes (expression_before names texts 1) (λ p. then_takes (condition_from names texts p.1) (λ c. Ok (Watch p.0 c)))
 command_of_verb names texts verb.Break =
-    then_takes (token_at (scope_named names) texts 1) (λ scope. then_takes (token_at kind_named texts 2) (λ kind. ends_at texts 3 (Break scope kind)))
+    then_takes (token_at (scope_named names) texts 1) (λ scope. then_takes (token_at calls_named texts 2) (λ kind.
+    then_takes (condition_from names texts 3) (λ c. Ok (Break scope kind c))))
 command_of_verb names texts verb.Delete = then_takes (token_at (number_from 0 most_number) texts 1) (λ n. ends_at texts 2 (Delete n))
 command_of_verb names texts verb.Do =
     then_takes (token_at (number_from 0 most_number) texts 1) (λ n. then_takes (program_from names texts 2) (λ p. Ok (Do n p)))
@@ -156,7 +187,7 @@ command_of_verb names texts verb.List = ends_at texts 1 ListPoints
 command_of_verb names texts verb.Set =
     then_takes (variable_at texts 1) (λ name. then_takes (expression_from names texts 3) (λ x. Ok (SetTo name x)))
 command_of_verb names texts verb.Vars = ends_at texts 1 ListVariables
-command_of_verb names texts verb.Continue = ends_at texts 1 Continue
+command_of_verb names texts verb.Continue = continue_in texts
 command_of_verb names texts verb.Rcontinue = ends_at texts 1 Rcontinue
 command_of_verb names texts verb.Quit = ends_at texts 1 Quit
 
@@ -166,17 +197,22 @@ command_spelled names texts = then_takes (token_at verb_of texts 0) (command_of_
 
 -- ---- what is wrong with a command that is of the grammar
 
+-- there is a condition, and this is so of it
+abbrev pub is_in_condition : (Expression → Bool) → Option Expression → Bool
+is_in_condition test None = false
+is_in_condition test (Some x) = test x
+
 -- an aggregate is in an aggregate
 abbrev pub has_nested : LineCommand → Bool
 has_nested (Print x) = is_nested x
-has_nested (Watch x) = is_nested x
-has_nested (Break scope kind) = false
+has_nested (Watch x c) = is_nested x || is_in_condition is_nested c
+has_nested (Break scope kind c) = is_in_condition is_nested c
 has_nested (Delete n) = false
 has_nested (Do n program) = nests_aggregates program
 has_nested ListPoints = false
 has_nested (SetTo name x) = is_nested x
 has_nested ListVariables = false
-has_nested Continue = false
+has_nested (Continue n) = false
 has_nested Rcontinue = false
 has_nested (Goto k) = false
 has_nested (Step n) = false
@@ -192,15 +228,15 @@ scopes_none (At node) = is_none node
 
 -- it names no node where it is to name one
 abbrev pub names_none : LineCommand → Bool
-names_none (Print x) = lacks_node false x
-names_none (Watch x) = lacks_node false x
-names_none (Break scope kind) = scopes_none scope
+names_none (Print x) = lacks_some_node x
+names_none (Watch x c) = lacks_some_node x || is_in_condition (lacks_node false) c
+names_none (Break scope kind c) = scopes_none scope || is_in_condition (lacks_node false) c
 names_none (Delete n) = false
 names_none (Do n program) = lacks_names program
 names_none ListPoints = false
-names_none (SetTo name x) = lacks_node false x
+names_none (SetTo name x) = lacks_some_node x
 names_none ListVariables = false
-names_none Continue = false
+names_none (Continue n) = false
 names_none Rcontinue = false
 names_none (Mem node addr len) = is_none node
 names_none (Threads node) = is_none node
@@ -210,17 +246,17 @@ names_none (Back n) = false
 names_none (Events n) = false
 names_none Quit = false
 
--- a watchpoint names a variable
+-- a point names a variable, also in its condition
 abbrev pub watches_variable : LineCommand → Bool
-watches_variable (Watch x) = names_variable x
+watches_variable (Watch x c) = names_variable x || is_in_condition names_variable c
 watches_variable (Print x) = false
-watches_variable (Break scope kind) = false
+watches_variable (Break scope kind c) = is_in_condition names_variable c
 watches_variable (Delete n) = false
 watches_variable (Do n program) = false
 watches_variable ListPoints = false
 watches_variable (SetTo name x) = false
 watches_variable ListVariables = false
-watches_variable Continue = false
+watches_variable (Continue n) = false
 watches_variable Rcontinue = false
 watches_variable (Goto k) = false
 watches_variable (Step n) = false

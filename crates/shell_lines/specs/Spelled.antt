@@ -1,5 +1,7 @@
 -- The line, and the command, that the values of the code spell.
-use Rattle.watch_expr.specs.Expression.{expression_of}
+use Rattle.std.specs.Prelude.{Option, option_map}
+use Rattle.expression_text.specs.declared.expr.Expr.{Expr}
+use Rattle.watch_expr.specs.Expression.{Expression, expression_of}
 use Rattle.embed_cmds.specs.Tree.{program_body}
 use Rattle.shell_lines.specs.declared.command.DebuggerCommand.{DebuggerCommand as Spelled}
 use Rattle.shell_lines.specs.declared.command.DebuggerCommand.TheVariants as spelled
@@ -14,6 +16,9 @@ abbrev pub scope : ScopeSpelled → WhichNodes
 scope scopes.Everywhere = Everywhere
 scope (scopes.At n) = At n
 
+abbrev pub condition : Option Expr → Option Expression
+condition x = option_map expression_of x
+
 abbrev pub command : Spelled → LineCommand
 command (spelled.Goto position) = Goto position
 command (spelled.Step count) = Step count
@@ -22,14 +27,14 @@ command (spelled.Print x) = Print (expression_of x)
 command (spelled.Mem node addr len) = Mem node addr len
 command (spelled.Threads node) = Threads node
 command (spelled.Events count) = Events count
-command (spelled.Watch x) = Watch (expression_of x)
-command (spelled.Break place kind) = Break (scope place) kind
+command (spelled.Watch x c) = Watch (expression_of x) (condition c)
+command (spelled.Break place kind c) = Break (scope place) kind (condition c)
 command (spelled.Delete n) = Delete n
 command (spelled.Do n p) = Do n (program_body p)
 command spelled.List = ListPoints
 command (spelled.Set name x) = SetTo name (expression_of x)
 command spelled.Vars = ListVariables
-command spelled.Continue = Continue
+command (spelled.Continue most) = Continue most
 command spelled.Rcontinue = Rcontinue
 command spelled.Quit = Quit
 

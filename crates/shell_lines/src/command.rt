@@ -34,7 +34,8 @@ pub enum WhichNodes {
     At(Option<u32>),
 }
 
-/// A command. A node is given by its number, or none where no process has the name.
+/// A command. A node is given by its number, or none where no process has the name. A watchpoint and a breakpoint may have a
+/// condition, and a breakpoint that names no kind of call is for all of them.
 #[derive(Drop)]
 pub enum DebuggerCommand {
     Goto(u64),
@@ -44,14 +45,14 @@ pub enum DebuggerCommand {
     Mem(Option<u32>, u64, u64),
     Threads(Option<u32>),
     Events(u64),
-    Watch(Expr),
-    Break(WhichNodes, Kind),
+    Watch(Expr, Option<Expr>),
+    Break(WhichNodes, Option<Kind>, Option<Expr>),
     Delete(u64),
     Do(u64, Program),
     List,
     Set(Bytes, Expr),
     Vars,
-    Continue,
+    Continue(Option<u64>),
     Rcontinue,
     Quit,
 }

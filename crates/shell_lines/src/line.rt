@@ -1,11 +1,13 @@
 // What a line of a session is.
-ghost use Rattle.std.specs.Prelude.{◌≡◌, ◌<◌, ◌≤◌, ◌^◌, IfOk, Ok, length, not, true};
+ghost use Rattle.std.specs.Prelude.{◌≡◌, ◌<◌, ◌≤◌, ◌^◌, IfOk, Ok, false, length, not, true};
 ghost use Rattle.std.specs.List.{find};
-ghost use Rattle.shell_lines.specs.Lines.{has_nested, names_none, scopes_none, watches_variable};
+ghost use Rattle.shell_lines.specs.Lines.{has_nested, is_in_condition, names_none, scopes_none, watches_variable};
 ghost use Rattle.shell_lines.specs.Meaning.{is_silent, judged_command, line_meaning, trimmed, without_end_blanks, without_front_blanks};
 ghost use Rattle.shell_lines.specs.declared.line.Line.TheVariants.{Silent};
 ghost use Rattle.shell_lines.specs.inside.Reading.{SpellsCommand};
-ghost use Rattle.shell_lines.specs.Spelled.{command, meaning, scope};
+ghost use Rattle.shell_lines.specs.Spelled.{command, condition as condition_meant, meaning, scope};
+ghost use Rattle.watch_expr.specs.Expression.{expression_of};
+ghost use Rattle.watch_expr.specs.Faulty.{is_nested, lacks_node, lacks_some_node, names_variable};
 ghost use Rattle.watch_expr.specs.Lexing.{is_blank};
 
 use crate::command::{DebuggerCommand, WhichNodes};
@@ -14,7 +16,7 @@ use crate::verbs::read_command;
 use embed_cmds::program_faults;
 use fri_bytes::Bytes;
 use std::alloc::{AllocError, Global};
-use watch_expr::{ExprError, find_faults, is_blank, lex};
+use watch_expr::{Expr, ExprError, Faults, find_faults, is_blank, lex};
 
 // How many bytes a line has at most.
 const MOST_LINE: usize = 4096;
@@ -77,13 +79,43 @@ fn front(bytes: &[u8]) -> Option<u8>
     bytes.iter().copied().find(|b| !is_blank(*b))
 }
 
+const NONE: Faults = Faults {
+    nested: false,
+    no_node: false,
+    variable: false,
+    event: false,
+};
+
+// What may be wrong with a condition, in which the node of the position's event may be named.
+fn condition_faults(condition: &Option<Expr>) -> Faults
+    ensures nested { result.nested ≡ is_in_condition is_nested (condition_meant condition.now) }
+    ensures no_node { result.no_node ≡ is_in_condition (lacks_node false) (condition_meant condition.now) }
+    ensures variable { result.variable ≡ is_in_condition names_variable (condition_meant condition.now) }
+{
+    match condition {
+        Some(expression) => find_faults(expression),
+        None => NONE,
+    }
+}
+
+// Whether a name in an expression that is no condition is that of no node.
+fn lacks_node(expression: &Expr) -> bool
+    ensures { result ≡ lacks_some_node (expression_of expression.now) }
+{
+    let faults = find_faults(expression);
+    faults.no_node || faults.event
+}
+
 // Whether an aggregate is in an aggregate.
 fn has_nested(spelled: &DebuggerCommand) -> bool
     ensures { result ≡ has_nested (command spelled.now) }
 {
     match spelled {
         DebuggerCommand::Print(expression) => find_faults(expression).nested,
-        DebuggerCommand::Watch(expression) => find_faults(expression).nested,
+        DebuggerCommand::Watch(expression, condition) => {
+            find_faults(expression).nested || condition_faults(condition).nested
+        }
+        DebuggerCommand::Break(_, _, condition) => condition_faults(condition).nested,
         DebuggerCommand::Set(_, expression) => find_faults(expression).nested,
         DebuggerCommand::Do(_, program) => program_faults(program).nested,
         _ => false,
@@ -95,13 +127,17 @@ fn names_none(spelled: &DebuggerCommand) -> bool
     ensures { result ≡ names_none (command spelled.now) }
 {
     match spelled {
-        DebuggerCommand::Print(expression) => find_faults(expression).no_node,
-        DebuggerCommand::Watch(expression) => find_faults(expression).no_node,
-        DebuggerCommand::Set(_, expression) => find_faults(expression).no_node,
+        DebuggerCommand::Print(expression) => lacks_node(expression),
+        DebuggerCommand::Watch(expression, condition) => {
+            lacks_node(expression) || condition_faults(condition).no_node
+        }
+        DebuggerCommand::Set(_, expression) => lacks_node(expression),
         DebuggerCommand::Do(_, program) => program_faults(program).no_node,
         DebuggerCommand::Mem(node, ..) => node.is_none(),
         DebuggerCommand::Threads(node) => node.is_none(),
-        DebuggerCommand::Break(scope, _) => scopes_none(*scope),
+        DebuggerCommand::Break(scope, _, condition) => {
+            scopes_none(*scope) || condition_faults(condition).no_node
+        }
         _ => false,
     }
 }
@@ -115,12 +151,15 @@ fn scopes_none(spelled: WhichNodes) -> bool
     }
 }
 
-// Whether the command is a watchpoint whose expression names a variable.
+// Whether the command is a point whose expression or condition names a variable.
 fn watches_variable(spelled: &DebuggerCommand) -> bool
     ensures { result ≡ watches_variable (command spelled.now) }
 {
     match spelled {
-        DebuggerCommand::Watch(expression) => find_faults(expression).variable,
+        DebuggerCommand::Watch(expression, condition) => {
+            find_faults(expression).variable || condition_faults(condition).variable
+        }
+        DebuggerCommand::Break(_, _, condition) => condition_faults(condition).variable,
         _ => false,
     }
 }

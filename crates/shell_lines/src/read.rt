@@ -1,10 +1,10 @@
 // What single tokens of a command are, and the expression after its verb.
 ghost use Rattle.std.specs.Prelude.{◌≡◌, ◌<◌, ◌^◌, bytes_eq, length, option_map, position};
 ghost use Rattle.call_table.specs.Table.{kind_named};
-ghost use Rattle.shell_lines.specs.Lines.{count_or, ends_at, expression_from, node_named, number_from, scope_named, token_at, variable_at};
+ghost use Rattle.shell_lines.specs.Lines.{calls_named, condition_from, count_or, ends_at, expression_before, expression_from, node_named, number_from, scope_named, token_at, variable_at};
 ghost use Rattle.shell_lines.specs.Reads.{ReadsAs};
 ghost use Rattle.shell_lines.specs.inside.Reading.{ReadsCommand};
-ghost use Rattle.shell_lines.specs.Spelled.{command, scope};
+ghost use Rattle.shell_lines.specs.Spelled.{command, condition, scope};
 ghost use Rattle.watch_expr.specs.Lexing.{token_texts};
 ghost use Rattle.watch_expr.specs.Expression.{expression_of};
 
@@ -77,12 +77,24 @@ fn scope_named(text: &[u8], names: &[Bytes]) -> Option<WhichNodes>
     None
 }
 
-/// The kind of call that token n names.
-pub(crate) fn read_kind(tokens: &Tokens<'_>, n: usize) -> Result<Kind, ExprError>
-    ensures { ReadsAs (λ v. v) tokens.now (token_at kind_named (token_texts tokens.now) n) result }
+/// The kind of call that token n names; a star is for all of them.
+pub(crate) fn read_calls(tokens: &Tokens<'_>, n: usize) -> Result<Option<Kind>, ExprError>
+    ensures { ReadsAs (λ v. v) tokens.now (token_at calls_named (token_texts tokens.now) n) result }
 {
-    let kind = tokens.text(n).and_then(Kind::from_name);
-    kind.ok_or(ExprError::Syntax(tokens.column(n)))
+    let calls = tokens.text(n).and_then(calls_named);
+    calls.ok_or(ExprError::Syntax(tokens.column(n)))
+}
+
+fn calls_named(text: &[u8]) -> Option<Option<Kind>>
+    ensures { result ≡ calls_named text.now }
+{
+    if text == b"*".as_slice() {
+        return Some(None);
+    }
+    match Kind::from_name(text) {
+        Some(kind) => Some(Some(kind)),
+        None => None,
+    }
 }
 
 // Which of the names this is.
@@ -127,6 +139,40 @@ pub fn read_expression(
         return Err(ExprError::Syntax(tokens.column(next)));
     }
     Ok(expression)
+}
+
+/// The expression of as many tokens from this one on as begin one, and the number of the token after it.
+pub(crate) fn read_front_expression(
+    alloc: Global,
+    tokens: &Tokens<'_>,
+    from: usize,
+    names: &[Bytes],
+) -> Result<(Expr, usize), ExprError>
+    requires { length names.now < 2 ^ 32 }
+    ensures { ReadsAs (λ r. (expression_of r.0, r.1)) tokens.now (expression_before names.now (token_texts tokens.now) from) result }
+{
+    watch_expr::laws::exact_reading();
+    parse(alloc, tokens, from, names)
+}
+
+/// The condition that all tokens from this one on are, behind an `if`, or none where there is no token.
+pub(crate) fn read_condition(
+    alloc: Global,
+    tokens: &Tokens<'_>,
+    at: usize,
+    names: &[Bytes],
+) -> Result<Option<Expr>, ExprError>
+    requires { length names.now < 2 ^ 32 }
+    ensures { ReadsAs condition tokens.now (condition_from names.now (token_texts tokens.now) at) result }
+{
+    if tokens.count() <= at {
+        return Ok(None);
+    }
+    if tokens.text(at) != Some(b"if".as_slice()) {
+        return Err(ExprError::Syntax(tokens.column(at)));
+    }
+    let condition = read_expression(alloc, tokens, at + 1, names)?;
+    Ok(Some(condition))
 }
 
 /// The command, where there are no more than so many tokens.

@@ -1,6 +1,6 @@
 // Which command the tokens of a line spell: the verb first, and what follows each verb.
 ghost use Rattle.std.specs.Prelude.{◌≡◌, ◌<◌, ◌^◌, length};
-ghost use Rattle.shell_lines.specs.Lines.{command_of_verb, command_spelled, token_at, verb_of};
+ghost use Rattle.shell_lines.specs.Lines.{command_of_verb, command_spelled, continue_in, token_at, verb_of};
 ghost use Rattle.shell_lines.specs.declared.command.Verb.TheVariants as verb;
 ghost use Rattle.shell_lines.specs.Reads.{ReadsAs};
 ghost use Rattle.shell_lines.specs.inside.Reading.{ReadsCommand};
@@ -8,8 +8,8 @@ ghost use Rattle.watch_expr.specs.Lexing.{token_texts};
 
 use crate::command::{DebuggerCommand, Verb};
 use crate::read::{
-    ending, read_count, read_expression, read_kind, read_node, read_number, read_scope,
-    read_variable,
+    ending, read_calls, read_condition, read_count, read_expression, read_front_expression,
+    read_node, read_number, read_scope, read_variable,
 };
 use embed_cmds::parse_program;
 use fri_bytes::Bytes;
@@ -117,8 +117,8 @@ fn read_behind(
             let count = read_count(tokens, 1, MOST_SHOWN_EVENTS, 10)?;
             ending(tokens, 2, DebuggerCommand::Events(count))
         }
-        Verb::Watch => Ok(DebuggerCommand::Watch(read_expression(alloc, tokens, 1, names)?)),
-        Verb::Break => read_break(tokens, names),
+        Verb::Watch => read_watch(alloc, tokens, names),
+        Verb::Break => read_break(alloc, tokens, names),
         Verb::Delete => {
             let number = read_number(tokens, 1, 0, MOST_NUMBER)?;
             ending(tokens, 2, DebuggerCommand::Delete(number))
@@ -127,7 +127,7 @@ fn read_behind(
         Verb::List => ending(tokens, 1, DebuggerCommand::List),
         Verb::Set => read_set(alloc, tokens, names),
         Verb::Vars => ending(tokens, 1, DebuggerCommand::Vars),
-        Verb::Continue => ending(tokens, 1, DebuggerCommand::Continue),
+        Verb::Continue => read_continue(tokens),
         Verb::Rcontinue => ending(tokens, 1, DebuggerCommand::Rcontinue),
         Verb::Quit => ending(tokens, 1, DebuggerCommand::Quit),
     }
@@ -144,14 +144,44 @@ fn read_mem(tokens: &Tokens<'_>, names: &[Bytes]) -> Result<DebuggerCommand, Exp
     ending(tokens, 4, DebuggerCommand::Mem(node, addr, len))
 }
 
-// Which nodes, and the kind of call.
-fn read_break(tokens: &Tokens<'_>, names: &[Bytes]) -> Result<DebuggerCommand, ExprError>
+// An expression, and a condition that may be left out.
+fn read_watch(
+    alloc: Global,
+    tokens: &Tokens<'_>,
+    names: &[Bytes],
+) -> Result<DebuggerCommand, ExprError>
+    requires { length names.now < 2 ^ 32 }
+    ensures { ReadsCommand tokens.now (command_of_verb names.now (token_texts tokens.now) verb.Watch) result }
+{
+    let (expression, next) = read_front_expression(alloc, tokens, 1, names)?;
+    let condition = read_condition(alloc, tokens, next, names)?;
+    Ok(DebuggerCommand::Watch(expression, condition))
+}
+
+// A count that may be left out, which then is not bounded.
+fn read_continue(tokens: &Tokens<'_>) -> Result<DebuggerCommand, ExprError>
+    ensures { ReadsCommand tokens.now (continue_in (token_texts tokens.now)) result }
+{
+    if tokens.count() <= 1 {
+        return Ok(DebuggerCommand::Continue(None));
+    }
+    let most = read_number(tokens, 1, 1, MOST_NUMBER)?;
+    ending(tokens, 2, DebuggerCommand::Continue(Some(most)))
+}
+
+// Which nodes, the kind of call, and a condition that may be left out.
+fn read_break(
+    alloc: Global,
+    tokens: &Tokens<'_>,
+    names: &[Bytes],
+) -> Result<DebuggerCommand, ExprError>
     requires { length names.now < 2 ^ 32 }
     ensures { ReadsCommand tokens.now (command_of_verb names.now (token_texts tokens.now) verb.Break) result }
 {
     let place = read_scope(tokens, 1, names)?;
-    let kind = read_kind(tokens, 2)?;
-    ending(tokens, 3, DebuggerCommand::Break(place, kind))
+    let kind = read_calls(tokens, 2)?;
+    let condition = read_condition(alloc, tokens, 3, names)?;
+    Ok(DebuggerCommand::Break(place, kind, condition))
 }
 
 // The number of a point, and a program.

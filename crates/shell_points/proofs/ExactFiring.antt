@@ -5,29 +5,27 @@ use Rattle.std.proofs.lemmas.List.{append-nil}
 use Rattle.std.proofs.lemmas.List.Elements.{recursion_from_All}
 use Rattle.std.proofs.Math.Bool.{or_assoc}
 use Rattle.std.specs.List.{AllByRecursion}
-use Rattle.std.specs.Prelude.{codes, negsuc, pos}
-use Rattle.embed_cmds.specs.Running.{ProgramState}
+use Rattle.std.specs.Prelude.{negsuc, pos}
+use Rattle.embed_cmds.specs.Running.{ProgramSetting, ProgramState, is_nonzero}
 use Rattle.embed_cmds.specs.Tree.{Statements}
 use Rattle.embed_cmds.specs.Variables.{Variable}
-use Rattle.group_state.specs.Place.{events_of_replays}
-use Rattle.group_state.specs.Nodes.{nodes_at}
 use Rattle.page_watch.specs.Firing.{is_same_value}
 use Rattle.proc_replay.specs.Replaying.{Replaying}
-use Rattle.watch_expr.specs.Value.{equal}
-use Rattle.watch_expr.specs.View.{Node}
-use Rattle.shell_points.specs.Firing.{firing_line, firing_lines, has_due_point, is_due_at, place_at, point_said_at, value_at_position}
+use Rattle.watch_expr.specs.Expression.{Expression}
+use Rattle.watch_expr.specs.Value.{equal, is_zero}
+use Rattle.shell_points.specs.Firing.{condition_value, firing_line, firing_lines, has_due_point, is_due_at, is_due_point, meets_condition, place_at, point_said_at, value_at_position}
 use Rattle.shell_points.specs.Laws.{ExactFiring, IsContinuedTo, IsLastDue, IsNextDue, NoPointBelow, ends, stops}
 use Rattle.shell_points.specs.Points.{Point}
-use Rattle.shell_points.specs.Returning.{last_due}
-use Rattle.shell_points.specs.Walking.{Walk, fired_point, quiet_program, treat_point, treat_points, walk_ended, walk_on, walk_over}
-use Rattle.shell_points.proofs.LastFiring.{empty, none_at_start, silent_is}
-use Rattle.shell_points.proofs.PointWalks.{rests_here}
+use Rattle.shell_points.specs.Returning.{has_stopping_point, last_due}
+use Rattle.shell_points.specs.Walking.{Walk, fired_point, last_word, positions_ahead, quiet_program, setting_at, steps_of, treat_point, treat_points, walk_ended, walk_limit, walk_on, walk_over}
+use Rattle.shell_points.proofs.LastFiring.{none_at_start, nothing_said}
+use Rattle.shell_points.proofs.PointWalks.{not_none, rests_here}
 
 -- ---- values
 
-both : (a b : Bool) → (a && b) ≡ true → (a ≡ true) × (b ≡ true)
-both true b e = (refl, e)
-both false b e = absurd cc
+and_both : (a b : Bool) → (a && b) ≡ true → (a ≡ true) × (b ≡ true)
+and_both true b e = (refl, e)
+and_both false b e = absurd cc
 
 le_is : (a b : ℕ) → nat_le a b ≡ true → a ≤ b
 le_is a b e = elim (leb_tells a b) [ inl t ↦ t.1 | inr f ↦ absurd cc ]
@@ -37,7 +35,7 @@ le_self a = elim (leb_tells a a) [ inl t ↦ t.0 | inr f ↦ absurd (omega (arit
 
 one_number : (a b : ℕ) → (nat_le a b && nat_le b a) ≡ true → a ≡ b
 one_number a b e =
-    let e2 = both (nat_le a b) (nat_le b a) e in
+    let e2 = and_both (nat_le a b) (nat_le b a) e in
     omega (arith, le_is a b e2.0, le_is b a e2.1)
 
 twice : (a : Bool) → a ≡ true → (a && a) ≡ true
@@ -90,7 +88,7 @@ either_side a b = elim (leb_tells a b) [
 
 module _ (start : List Replaying) (points : List Point) where
   abbrev due : ℕ → Bool
-  due k = has_due_point start points k
+  due k = has_stopping_point start points k
 
   some_below : (k : ℕ) → due k ≡ true → 1 ≤ k
   some_below zero is = absurd (true_or_false (due 0) is (none_at_start start points))
@@ -163,29 +161,25 @@ or_true : (b : Bool) → (b || true) ≡ true
 or_true true = refl
 or_true false = refl
 
-none_said : (lines : List ℕ) → empty lines ≡ true → lines ≡ []
-none_said [] e = refl
-none_said (b ∷ lines) e = absurd cc
-
 -- a state that has said more, and has been asked to stop or not
 abbrev adds : ProgramState → List ℕ → Bool → ProgramState
 adds r line asks = record { variables = r.variables; text = r.text ++ line; stopped = r.stopped || asks }
 
 -- what a point without a program does
-bare : (nodes : List Node) (r : ProgramState) (line : List ℕ) (b : Bool) (program : Option Statements) → program ≡ None → cond b (fired_point nodes r line program) r ≡ adds r (cond b line []) b
-bare nodes r line b (Some body) e = absurd cc
-bare nodes r line true None e = λ i. record { variables = r.variables; text = r.text ++ line; stopped = sym (or_true r.stopped) i }
-bare nodes r line false None e = λ i. record { variables = r.variables; text = sym (append-nil r.text) i; stopped = sym (or_false r.stopped) i }
+bare : (here : ProgramSetting) (r : ProgramState) (line : List ℕ) (b : Bool) (program : Option Statements) → program ≡ None → cond b (fired_point here r line program) r ≡ adds r (cond b line []) b
+bare here r line b (Some body) e = absurd cc
+bare here r line true None e = λ i. record { variables = r.variables; text = r.text ++ line; stopped = sym (or_true r.stopped) i }
+bare here r line false None e = λ i. record { variables = r.variables; text = sym (append-nil r.text) i; stopped = sym (or_false r.stopped) i }
 
 module _ (start : List Replaying) (k : ℕ) where
-  one_bare : (r : ProgramState) (p : Point) → p.program ≡ None → treat_point start k r p ≡ adds r (point_said_at start k p) (is_due_at start k p.trigger)
-  one_bare r p e = bare (nodes_at (place_at start k)) r (firing_line start k p.number p.trigger) (is_due_at start k p.trigger) p.program e
+  one_bare : (r : ProgramState) (p : Point) → p.program ≡ None → treat_point start k r p ≡ adds r (point_said_at start k p) (is_due_point start k p)
+  one_bare r p e = bare (setting_at (place_at start k)) r (firing_line start k p.number p.trigger) (is_due_point start k p) p.program e
 
   all_bare : (points : List Point) (r : ProgramState) → AllByRecursion (λ (p : Point). p.program ≡ None) points → treat_points start k r points ≡ adds r (firing_lines start points k) (has_due_point start points k)
   all_bare [] r none = λ i. record { variables = r.variables; text = sym (append-nil r.text) i; stopped = sym (or_false r.stopped) i }
   all_bare (p ∷ points) r none =
       let line = point_said_at start k p in
-      let first = is_due_at start k p.trigger in
+      let first = is_due_point start k p in
       ap (λ (q : ProgramState). treat_points start k q points) (one_bare r p none.0) ∙ all_bare points (adds r line first) none.1
       ∙ (λ i. record {
         variables = r.variables;
@@ -193,11 +187,11 @@ module _ (start : List Replaying) (k : ℕ) where
         stopped = or_assoc r.stopped first (has_due_point start points k) i;
       })
 
-module _ (start : List Replaying) (points : List Point) where
+module _ (start : List Replaying) (points : List Point) (limit : ℕ) where
   abbrev After : ℕ → ℕ → List ℕ → Type 0
-  After at k text = IsContinuedTo start points at k text
+  After at k text = IsContinuedTo start points at limit k text
 
-  later : (at k : ℕ) → has_due_point start points (suc at) ≡ false → IsNextDue start points (suc at) k → IsNextDue start points at k
+  later : (at k : ℕ) → has_due_point start points (suc at) ≡ false → IsNextDue start points (suc at) limit k → IsNextDue start points at limit k
   later at k none h = record {
     after = omega (arith, h.after);
     within = h.within;
@@ -215,7 +209,7 @@ module _ (start : List Replaying) (points : List Point) where
     | inr ge ↦ elim ge [ inl same ↦ ap (λ (j : ℕ). has_due_point start points j) same ∙ none | inr gt ↦ h m gt high ]
   ])
 
-  one_next : (at j k : ℕ) → IsNextDue start points at j → IsNextDue start points at k → j ≡ k
+  one_next : (at j k : ℕ) → IsNextDue start points at limit j → IsNextDue start points at limit k → j ≡ k
   one_next at j k h i = elim (either_side j k) [
     | inl lt ↦ absurd (true_or_false (has_due_point start points j) h.due (i.none_between j h.after lt))
     | inr ge ↦ elim ge [ inl same ↦ same | inr gt ↦ absurd (true_or_false (has_due_point start points k) i.due (h.none_between k i.after gt)) ]
@@ -231,12 +225,12 @@ module _ (start : List Replaying) (points : List Point) where
     abbrev Comes : ℕ → Walk → Type 0
     Comes at w = (k : ℕ) × (text : List ℕ) × (w ≡ walk_ended k variables text) × After at k text
 
-    comes : (left at : ℕ) → at + left ≡ length (events_of_replays start) → Comes at (walk_over start points at left variables [])
+    comes : (left at : ℕ) → at + left ≡ limit → Comes at (walk_over start points at left variables [])
     comes zero at all =
-        let last : at ≡ length (events_of_replays start) = omega (arith, all) in (
-          length (events_of_replays start),
-          codes "end\n",
-          ap (λ (k : ℕ). walk_ended k variables (codes "end\n")) last,
+        let last : at ≡ limit = omega (arith, all) in (
+          limit,
+          last_word start limit,
+          ap (λ (k : ℕ). walk_ended k variables (last_word start k)) last,
           ends (λ m low high. absurd (omega (arith, low, high, last))),
         )
     comes (suc left) at all =
@@ -263,17 +257,17 @@ module _ (start : List Replaying) (points : List Point) where
         by false is did further =
             let next = suc at in
             let rest = walk_over start points next left in
-            let silent : firing_lines start points next ≡ [] = none_said (firing_lines start points next) (silent_is start points next ∙ ap not is) in
+            let silent : firing_lines start points next ≡ [] = nothing_said start next points is in
             let on : walk_over start points at (suc left) variables [] ≡ rest variables [] =
             did ∙ ap (λ (lines : List ℕ). walk_on rest next [] (adds (quiet_program variables) lines false)) silent
             ∙ rests_here rest next [] (adds (quiet_program variables) [] false) refl (omega arith) in
             (further.0, further.1, on ∙ further.2, later_on at is further.3)
 
-  comes_to : (at : ℕ) (variables : List Variable) (k : ℕ) (text : List ℕ) → AllByRecursion (λ (p : Point). p.program ≡ None) points
-      → at ≤ length (events_of_replays start) → (walk_over start points at (length (events_of_replays start) - at) variables [] ≡ walk_ended k variables text) ↔ After at k text
-  comes_to at variables k text none within =
-      let walk = walk_over start points at (length (events_of_replays start) - at) variables [] in
-      let w = comes none variables (length (events_of_replays start) - at) at (omega (arith, within)) in (
+  comes_to : (at left : ℕ) (variables : List Variable) (k : ℕ) (text : List ℕ) → AllByRecursion (λ (p : Point). p.program ≡ None) points
+      → at + left ≡ limit → (walk_over start points at left variables [] ≡ walk_ended k variables text) ↔ After at k text
+  comes_to at left variables k text none all =
+      let walk = walk_over start points at left variables [] in
+      let w = comes none variables left at all in (
         λ (e : walk ≡ walk_ended k variables text).
             let one : walk_ended w.0 variables w.1 ≡ walk_ended k variables text = sym w.2 ∙ e in
             subst (λ (v : Walk). After at v.at v.text) one w.3,
@@ -282,11 +276,54 @@ module _ (start : List Replaying) (points : List Point) where
             w.2 ∙ (λ i. walk_ended (one.0 i) variables (one.1 i)),
       )
 
+-- ---- conditions
+
+and_true : (a b : Bool) → a ≡ true → b ≡ true → (a && b) ≡ true
+and_true true b e f = f
+and_true false b e f = absurd cc
+
+and_itself : (a : Bool) → (a && true) ≡ a
+and_itself true = refl
+and_itself false = refl
+
+number_is : (v : Option ℤ) → is_nonzero v ≡ true → (z : ℤ) × (v ≡ Some z) × (z ≡ pos 0 → ⊥)
+number_is None e = absurd cc
+number_is (Some z) e = (z, refl, λ same. let never : ◌≡◌ {A = Bool} false true = sym (ap (λ (y : ℤ). not (is_zero y)) same) ∙ e in cc)
+
+no_zero : (z : ℤ) → (z ≡ pos 0 → ⊥) → not (is_zero z) ≡ true
+no_zero (pos zero) other = absurd (other refl)
+no_zero (pos (suc n)) other = ap not (not_none (suc n) (omega arith))
+no_zero (negsuc n) other = refl
+
+module _ (start : List Replaying) (p : Point) (k : ℕ) where
+  abbrev due_with : Option Expression → Bool
+  due_with c = is_due_at start k p.trigger && meets_condition (place_at start k) c
+
+  always : p.condition ≡ None → is_due_point start k p ≡ is_due_at start k p.trigger
+  always none = ap due_with none ∙ and_itself (is_due_at start k p.trigger)
+
+  module _ (x : Expression) (has : p.condition ≡ Some x) where
+    abbrev Meets : Type 0
+    Meets = (is_due_at start k p.trigger ≡ true) × (z : ℤ) × (condition_value (place_at start k) x ≡ Some z) × (z ≡ pos 0 → ⊥)
+
+    fires : is_due_point start k p ≡ true → Meets
+    fires e =
+        let b = and_both (is_due_at start k p.trigger) (meets_condition (place_at start k) (Some x)) (sym (ap due_with has) ∙ e) in
+        let n = number_is (condition_value (place_at start k) x) b.1 in
+        (b.0, n.0, n.1, n.2)
+
+    fires_again : Meets → is_due_point start k p ≡ true
+    fires_again m =
+        ap due_with has
+        ∙ and_true (is_due_at start k p.trigger) (meets_condition (place_at start k) (Some x)) m.0 (ap is_nonzero m.2 ∙ no_zero m.1 m.3)
+
 pub exact : ExactFiring
 exact = record {
   changes = λ start x k. (differ (value_at_position start x k) (value_at_position start x (suc k)), differ_again (value_at_position start x k) (value_at_position start x (suc k)));
+  always = λ start p k none. always start p k none;
+  conditions = λ start p x k has. (fires start p k x has, fires_again start p k x has);
   last = λ start points at k. (last_is start points at k, last_again start points at k);
   none_below = λ start points at. (none_is start points at, none_again start points at);
-  next = λ place points variables k text within none.
-      comes_to place.start points place.at variables k text (recursion_from_All (λ (p : Point). p.program ≡ None) points none) within;
+  next = λ place points variables most k text within none.
+      comes_to place.start points (walk_limit place most) place.at (steps_of most (positions_ahead place)) variables k text (recursion_from_All (λ (p : Point). p.program ≡ None) points none) refl;
 }

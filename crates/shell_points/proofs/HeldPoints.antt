@@ -45,7 +45,7 @@ listed text next whole ps i p d below same is so_far =
 
 -- the point at a place has a program
 pub put_same : (ps : List Held) (k : ℕ) (e : Held) (p : Program) → k < length ps → get_or ps k e ≡ e
-    → map {A = Held} point (slice_set ps k (record { number = e.number; text = e.text; trigger = e.trigger; program = Some p })) ≡ with_program (map {A = Held} point ps) k (program_body p)
+    → map {A = Held} point (slice_set ps k (record { number = e.number; text = e.text; trigger = e.trigger; condition = e.condition; program = Some p })) ≡ with_program (map {A = Held} point ps) k (program_body p)
 put_same [] k e p within here = absurd (omega (arith, within))
-put_same (q ∷ ps) zero e p within here = ap (λ (r : Held). point (record { number = r.number; text = r.text; trigger = r.trigger; program = Some p }) ∷ map {A = Held} point ps) (sym here)
+put_same (q ∷ ps) zero e p within here = ap (λ (r : Held). point (record { number = r.number; text = r.text; trigger = r.trigger; condition = r.condition; program = Some p }) ∷ map {A = Held} point ps) (sym here)
 put_same (q ∷ ps) (suc k) e p within here = ap (λ (rest : List Point). point q ∷ rest) (put_same ps k e p (omega (arith, within)) here)

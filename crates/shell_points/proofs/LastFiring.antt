@@ -1,7 +1,7 @@
 -- What points say that fire at a position, and where they fire last.
-use Rattle.std.proofs.Common.{◌≡◌, ℕ, zero, suc, ◌+◌, ◌-◌, ◌<◌, ◌≤◌, Bool, true, false, ◌||◌, not, cond, nat_eq, drop, List, [], ◌∷◌, ◌++◌, length, get_or, map, Option, Some, None, inl, inr, refl, sym, ap, ◌∙◌, append_assoc, arith}
+use Rattle.std.proofs.Common.{◌≡◌, ℕ, zero, suc, ◌+◌, ◌-◌, ◌<◌, ◌≤◌, Bool, true, false, ◌||◌, ◌&&◌, cond, drop, List, [], ◌∷◌, ◌++◌, length, get_or, map, Option, Some, None, refl, sym, ap, ◌∙◌, append_assoc, arith}
 use Rattle.std.specs.Prelude.{codes}
-use Rattle.std.proofs.lemmas.Bool.{cases_Bool, eqb-true}
+use Rattle.std.proofs.Math.Bool.{or_assoc}
 use Rattle.std.proofs.lemmas.List.{drop_more}
 use Rattle.group_state.specs.declared.event.GroupEvent.{GroupEvent}
 use Rattle.group_state.specs.Moves.{IsAtPosition, GroupMoves}
@@ -9,12 +9,14 @@ use Rattle.group_state.specs.Place.{GroupPlace, events_of_replays}
 use Rattle.proc_replay.specs.Replaying.{Replaying}
 use Rattle.group_texts.specs.Texts.{position_line}
 use Rattle.shell_points.specs.declared.point.Point.{Point as Held}
-use Rattle.shell_points.specs.Firing.{firing_line, firing_lines, has_due_point, is_due_at, place_at, point_said_at}
-use Rattle.shell_points.specs.Points.{Break, Point, Trigger, Watch}
-use Rattle.shell_points.specs.Returning.{Return, last_due, return_from, return_to}
+use Rattle.shell_points.specs.declared.back.Said.{Said}
+use Rattle.shell_points.specs.Firing.{firing_line, firing_lines, has_due_point, is_due_point, place_at, point_said_at}
+use Rattle.shell_points.specs.Points.{Point}
+use Rattle.shell_points.specs.Returning.{Return, has_stopping_point, is_stopping_point, last_due, may_stop, return_from, return_to}
 use Rattle.shell_points.specs.Meanings.{PointsReturn}
 use Rattle.shell_points.specs.inside.Meanings.{point}
-use Rattle.shell_points.proofs.PointWalks.{past, place_is}
+use Rattle.shell_points.specs.inside.Reading.{SaysAt}
+use Rattle.shell_points.proofs.PointWalks.{moves_on, place_is}
 
 -- ---- at one position
 
@@ -28,38 +30,35 @@ said_more start at n points p text next whole line within here pushed is so_far 
     ∙ ap (λ (q : Held). text ++ (point_said_at start at (point q) ++ rest)) (sym here)
     ∙ ap (λ (ps : List Held). text ++ firing_lines start (map {A = Held} point ps) at) (sym (drop_more points n p within)) ∙ so_far
 
-abbrev pub empty : List ℕ → Bool
-empty [] = true
-empty (b ∷ bytes) = false
+-- whether one of them may stop
+pub stopping_more : (start : List Replaying) (at n : ℕ) (points : List Held) (p : Held) (old next whole stops : Bool) → n < length points → get_or points n p ≡ p
+    → next ≡ (old || stops) → stops ≡ is_stopping_point start at (point p) → (old || has_stopping_point start (map {A = Held} point (drop n points)) at) ≡ whole
+    → (next || has_stopping_point start (map {A = Held} point (drop (n + 1) points)) at) ≡ whole
+stopping_more start at n points p old next whole stops within here is may so_far =
+    let rest = has_stopping_point start (map {A = Held} point (drop (n + 1) points)) at in
+    ap (λ (b : Bool). b || rest) is ∙ or_assoc old stops rest ∙ ap (λ (b : Bool). old || (b || rest)) may
+    ∙ ap (λ (q : Held). old || (is_stopping_point start at (point q) || rest)) (sym here)
+    ∙ ap (λ (ps : List Held). old || has_stopping_point start (map {A = Held} point ps) at) (sym (drop_more points n p within)) ∙ so_far
 
-pub empty_is : (bytes : List ℕ) → nat_eq (length bytes) 0 ≡ empty bytes
-empty_is [] = refl
-empty_is (b ∷ bytes) = elim (cases_Bool (nat_eq (length (b ∷ bytes)) 0)) [
-  | inl t ↦ absurd (omega (arith, eqb-true (length (b ∷ bytes)) 0 t))
-  | inr f ↦ f
-]
+pub or-false : (a b : Bool) → (a || b) ≡ false → (a ≡ false) × (b ≡ false)
+or-false true b h = absurd cc
+or-false false b h = (refl, h)
 
-line_some : (start : List Replaying) (k n : ℕ) (t : Trigger) → is_due_at start k t ≡ true → empty (firing_line start k n t) ≡ false
-line_some start zero n t due = absurd cc
-line_some start (suc k) n (Watch x) due = refl
-line_some start (suc k) n (Break of_node kind) due = refl
+-- where none fires, nothing is said
+pub nothing_said : (start : List Replaying) (k : ℕ) (ps : List Point) → has_due_point start ps k ≡ false → firing_lines start ps k ≡ []
+nothing_said start k [] none = refl
+nothing_said start k (p ∷ ps) none =
+    let both = or-false (is_due_point start k p) (has_due_point start ps k) none in
+    ap (λ (b : Bool). cond b (firing_line start k p.number p.trigger) [] ++ firing_lines start ps k) both.0 ∙ nothing_said start k ps both.1
 
-some_append : (a b : List ℕ) → empty a ≡ false → empty (a ++ b) ≡ false
-some_append [] b some = absurd cc
-some_append (x ∷ a) b some = refl
+-- and none may stop
+pub nothing_stops : (start : List Replaying) (k : ℕ) (ps : List Point) → has_due_point start ps k ≡ false → has_stopping_point start ps k ≡ false
+nothing_stops start k [] none = refl
+nothing_stops start k (p ∷ ps) none =
+    let both = or-false (is_due_point start k p) (has_due_point start ps k) none in
+    ap (λ (b : Bool). (b && may_stop p.program) || has_stopping_point start ps k) both.0 ∙ nothing_stops start k ps both.1
 
-or_others : (b others : Bool) (line rest : List ℕ) → (b ≡ true → empty line ≡ false) → empty rest ≡ not others → empty (cond b line [] ++ rest) ≡ not (b || others)
-or_others true others line rest some those = some_append line rest (some refl)
-or_others false others line rest some those = those
-
--- something is said exactly where some point fires
-pub silent_is : (start : List Replaying) (ps : List Point) (k : ℕ) → empty (firing_lines start ps k) ≡ not (has_due_point start ps k)
-silent_is start [] k = refl
-silent_is start (p ∷ ps) k =
-    or_others (is_due_at start k p.trigger) (has_due_point start ps k) (firing_line start k p.number p.trigger) (firing_lines start ps k)
-    (line_some start k p.number p.trigger) (silent_is start ps k)
-
-pub none_at_start : (start : List Replaying) (ps : List Point) → has_due_point start ps 0 ≡ false
+pub none_at_start : (start : List Replaying) (ps : List Point) → has_stopping_point start ps 0 ≡ false
 none_at_start start [] = refl
 none_at_start start (p ∷ ps) = none_at_start start ps
 
@@ -69,31 +68,18 @@ abbrev here_or : List Replaying → List Point → ℕ → Bool → Return
 here_or start ps k b = return_to start ps (cond b (Some k) (last_due start ps k))
 
 here_last : (b : Bool) (start : List Replaying) (ps : List Point) (k at : ℕ) (r : Return) (text : List ℕ) → at ≡ k → text ≡ firing_lines start ps k
-    → r ≡ return_from (place_at start k) ps → empty text ≡ b → cond b r (record { at = at; text = text }) ≡ here_or start ps k (not b)
-here_last true start ps k at r text here is so_far which = so_far
-here_last false start ps k at r text here is so_far which = λ i. record { at = here i; text = is i }
+    → r ≡ return_from (place_at start k) ps → cond b (record { at = at; text = text }) r ≡ here_or start ps k b
+here_last true start ps k at r text here is so_far = λ i. record { at = here i; text = is i }
+here_last false start ps k at r text here is so_far = so_far
 
-not_not : (b : Bool) → not (not b) ≡ b
-not_not true = refl
-not_not false = refl
-
--- where points fire at a position or not, they fired last where is kept
-pub later_last : (start : List Replaying) (ps : List Point) (k at : ℕ) (r new : Return) (text : List ℕ) → at ≡ k → text ≡ firing_lines start ps k → r ≡ return_from (place_at start k) ps
-    → new ≡ cond (nat_eq (length text) 0) r (record { at = at; text = text }) → new ≡ return_from (place_at start (suc k)) ps
-later_last start ps k at r new text here is so_far gives =
-    let silent : empty text ≡ not (has_due_point start ps k) = ap empty is ∙ silent_is start ps k in
-    gives ∙ ap (λ (b : Bool). cond b r (record { at = at; text = text })) (empty_is text) ∙ here_last (empty text) start ps k at r text here is so_far refl
-    ∙ ap (here_or start ps k) (ap not silent ∙ not_not (has_due_point start ps k))
+-- where points fire at a position that may stop, or none does, they fired last where is kept
+pub later_last : (start : List Replaying) (ps : List Point) (k at : ℕ) (r new : Return) (said : Said) → at ≡ k → SaysAt start k ps said → r ≡ return_from (place_at start k) ps
+    → new ≡ cond said.stops (record { at = at; text = said.text }) r → new ≡ return_from (place_at start (suc k)) ps
+later_last start ps k at r new said here says so_far gives =
+    gives ∙ here_last said.stops start ps k at r said.text here says.text_is so_far ∙ ap (here_or start ps k) says.stops_is
 
 pub begins : (start : List Replaying) (ps : List Point) → record { at = 0; text = codes "start\n" } ≡ return_from (place_at start 1) ps
 begins start ps = ap (here_or start ps 0) (sym (none_at_start start ps))
-
--- the position that comes next
-pub goes_on : (old new : GroupPlace) (event : Option GroupEvent) → old.at < length (events_of_replays old.start) → GroupMoves old new event → new ≡ place_at old.start (suc old.at)
-goes_on old new None before moves = absurd (omega (arith, before, past (events_of_replays old.start) old.at moves.gives))
-goes_on old new (Some e) before moves =
-    let one : old.at + 1 ≡ suc old.at = omega arith in
-    moves.place ∙ ap (place_at old.start) one
 
 pub begins_so : (start : List Replaying) (ps : List Point) (at : ℕ) (text : List ℕ) → at ≡ 0 → text ≡ codes "start\n" → record { at = 0; text = text } ≡ return_from (place_at start (suc at)) ps
 begins_so start ps at text here is = (λ i. record { at = 0; text = is i }) ∙ begins start ps ∙ ap (λ (n : ℕ). return_from (place_at start (suc n)) ps) (sym here)
@@ -102,7 +88,7 @@ begins_so start ps at text here is = (λ i. record { at = 0; text = is i }) ∙ 
 pub goes_to : (first old new : GroupPlace) (event : Option GroupEvent) (count : ℕ) → old.start ≡ first.start → old.at < count → count ≤ length (events_of_replays first.start) → GroupMoves old new event
     → new ≡ place_at first.start (suc old.at)
 goes_to first old new event count same lt le moves =
-    goes_on old new event (omega (arith, lt, le, ap (λ (s : List Replaying). length (events_of_replays s)) same)) moves ∙ ap (λ (s : List Replaying). place_at s (suc old.at)) same
+    moves_on old new event (omega (arith, lt, le, ap (λ (s : List Replaying). length (events_of_replays s)) same)) moves ∙ ap (λ (s : List Replaying). place_at s (suc old.at)) same
 
 pub gone_to : (old new : GroupPlace) (k : ℕ) (went : Bool) → k ≤ length (events_of_replays old.start) → IsAtPosition old k new went → new ≡ place_at old.start k
 gone_to old new k went within is = place_is new old.start k is.start (is.at (is.exact.1 within))
@@ -110,12 +96,12 @@ gone_to old new k went within is = place_is new old.start k is.start (is.at (is.
 -- ---- as a whole
 
 ends_within : (start : List Replaying) (ps : List Point) (n : ℕ) → (return_from (place_at start (suc n)) ps).at ≤ n
-ends_within start ps zero = by (has_due_point start ps 0)
+ends_within start ps zero = by (has_stopping_point start ps 0)
   where
     by : (b : Bool) → (here_or start ps 0 b).at ≤ 0
     by true = omega arith
     by false = omega arith
-ends_within start ps (suc n) = by (has_due_point start ps (suc n)) (ends_within start ps n)
+ends_within start ps (suc n) = by (has_stopping_point start ps (suc n)) (ends_within start ps n)
   where
     by : (b : Bool) → (return_from (place_at start (suc n)) ps).at ≤ n → (here_or start ps (suc n) b).at ≤ suc n
     by true before = omega arith

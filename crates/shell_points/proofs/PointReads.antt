@@ -1,5 +1,5 @@
 -- What points read on a walk, and how often their expressions are evaluated.
-use Rattle.std.proofs.Common.{◌≡◌, ℕ, ℤ, zero, suc, ◌+◌, ◌-◌, ◌<◌, ◌≤◌, ◌==◌, Bool, true, false, ◌||◌, not, cond, drop, List, [], ◌∷◌, ◌++◌, length, get_or, map, Option, Some, None, take, refl, subst, sym, ap, ◌∙◌, append_assoc, add-one, arith}
+use Rattle.std.proofs.Common.{◌≡◌, ℕ, ℤ, zero, suc, ◌+◌, ◌-◌, ◌<◌, ◌≤◌, ◌==◌, Bool, true, false, ◌||◌, ◌&&◌, not, cond, drop, List, [], ◌∷◌, ◌++◌, length, get_or, map, Option, Some, None, take, refl, subst, sym, ap, ◌∙◌, append_assoc, add-one, arith}
 use Rattle.std.proofs.lemmas.Bool.Decides.{nat_tests}
 use Rattle.std.proofs.lemmas.List.{drop_more, take_more}
 use Rattle.std.proofs.lemmas.List.Elements.{recursion_from_All}
@@ -23,19 +23,16 @@ use Rattle.shell_points.specs.declared.point.Point.{Point as Held}
 use Rattle.shell_points.specs.declared.point.Trigger.{Trigger as HeldTrigger}
 use Rattle.shell_points.specs.declared.point.Trigger.TheVariants as held
 use Rattle.shell_points.specs.declared.watching.Watching.{Watching}
-use Rattle.shell_points.specs.Firing.{firing_line, firing_lines, has_due_point, is_due_at, place_at, reading, value_at_position}
+use Rattle.shell_points.specs.Firing.{firing_line, has_due_point, is_due_at, is_due_point, meets_condition, place_at, reading, value_at_position}
 use Rattle.shell_points.specs.Points.{Break, Point, Trigger, Watch}
 use Rattle.shell_points.specs.inside.Reading.{point_readings}
 use Rattle.shell_points.specs.inside.Meanings.{point}
 use Rattle.shell_points.specs.Meanings.{trigger}
-use Rattle.shell_points.specs.Walking.{fired_point, treat_points}
+use Rattle.shell_points.specs.Walking.{fired_point, setting_at, treat_points}
 use Rattle.shell_points.specs.inside.Watches.{IsWatching, dealt_values, is_break, is_break_by, values_by}
 use Rattle.shell_points.specs.Watching.{expressions_by, expressions_of, watched_expressions}
 use Rattle.shell_points.proofs.ExactFiring.{same_again}
-
-or-false : (a b : Bool) → (a || b) ≡ false → (a ≡ false) × (b ≡ false)
-or-false true b h = absurd cc
-or-false false b h = (refl, h)
+use Rattle.shell_points.proofs.LastFiring.{or-false}
 
 -- ---- what the watches tell
 
@@ -162,7 +159,7 @@ silent start k (p ∷ ps) bare same =
     let both = or-false (is_break p) (list_any is_break ps) bare in
     let first : reading start (suc k) p.trigger ≡ reading start k p.trigger = cc in
     let others : point_readings start (suc k) ps ≡ point_readings start k ps = cc in
-    neither (is_due_at start (suc k) p.trigger) (has_due_point start ps (suc k)) (none_by start k p.trigger both.0 first) (silent start k ps both.1 others)
+    neither (is_due_point start (suc k) p) (has_due_point start ps (suc k)) (ap (λ (b : Bool). b && meets_condition (place_at start (suc k)) p.condition) (none_by start k p.trigger both.0 first)) (silent start k ps both.1 others)
 
 -- over watchpoints that read what they read before
 pub none_due : (start : List Replaying) (at : ℕ) (ps : List Point) → 0 < at → list_any is_break ps ≡ false → point_readings start at ps ≡ point_readings start (at - 1) ps → has_due_point start ps at ≡ false
@@ -175,16 +172,9 @@ none_due start (suc k) ps moved bare same =
 pub nothing_done : (start : List Replaying) (k : ℕ) (ps : List Point) (r : ProgramState) → has_due_point start ps k ≡ false → treat_points start k r ps ≡ r
 nothing_done start k [] r none = refl
 nothing_done start k (p ∷ ps) r none =
-    let both = or-false (is_due_at start k p.trigger) (has_due_point start ps k) none in
-    ap (λ (b : Bool). treat_points start k (cond b (fired_point (nodes_at (place_at start k)) r (firing_line start k p.number p.trigger) p.program) r) ps) both.0
+    let both = or-false (is_due_point start k p) (has_due_point start ps k) none in
+    ap (λ (b : Bool). treat_points start k (cond b (fired_point (setting_at (place_at start k)) r (firing_line start k p.number p.trigger) p.program) r) ps) both.0
     ∙ nothing_done start k ps r both.1
-
--- and nothing said
-pub nothing_said : (start : List Replaying) (k : ℕ) (ps : List Point) → has_due_point start ps k ≡ false → firing_lines start ps k ≡ []
-nothing_said start k [] none = refl
-nothing_said start k (p ∷ ps) none =
-    let both = or-false (is_due_at start k p.trigger) (has_due_point start ps k) none in
-    ap (λ (b : Bool). cond b (firing_line start k p.number p.trigger) [] ++ firing_lines start ps k) both.0 ∙ nothing_said start k ps both.1
 
 -- what is known of an option by which of both it is
 pub where_none : {A : Type 0} (o : Option A) (P : Type 0) (Q : A → Type 0) → o ≡ None → MatchOption o P Q → P

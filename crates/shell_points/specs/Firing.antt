@@ -1,5 +1,5 @@
 -- Where points fire, and what they say there.
-use Rattle.std.specs.Prelude.{ℕ, zero, suc, ◌==◌, ◌&&◌, Bool, true, false, not, List, [], ◌++◌, codes, decimal, Option, Some, None, ℤ, if◌then◌else◌}
+use Rattle.std.specs.Prelude.{ℕ, zero, suc, ◌==◌, ◌&&◌, Bool, true, false, not, List, [], ◌++◌, codes, decimal, Option, Some, None, option_map, ℤ, if◌then◌else◌}
 use Rattle.std.specs.List.{flat_map, list_any}
 use Rattle.call_table.specs.Table.{row}
 use Rattle.call_table.specs.declared.kind.Kind.{Kind}
@@ -10,8 +10,8 @@ use Rattle.group_state.specs.Moves.{last_event_of}
 use Rattle.group_state.specs.Place.{GroupPlace}
 use Rattle.group_state.specs.Nodes.{nodes_at}
 use Rattle.watch_expr.specs.Expression.{Expression}
-use Rattle.watch_expr.specs.Value.{value}
-use Rattle.embed_cmds.specs.Running.{value_word}
+use Rattle.watch_expr.specs.Value.{value, value_in_event}
+use Rattle.embed_cmds.specs.Running.{is_nonzero, value_word}
 use Rattle.page_watch.specs.Firing.{is_same_value}
 use Rattle.shell_points.specs.Points.{Break, Point, Trigger, Watch}
 
@@ -39,9 +39,13 @@ abbrev pub is_of_node : Option ℕ → ℕ → Bool
 is_of_node None n = true
 is_of_node (Some wanted) n = wanted == n
 
-abbrev pub is_event_of_kind : Option ℕ → Kind → Option (NodeEvent Entry) → Bool
+abbrev pub is_of_kind : Option Kind → Entry → Bool
+is_of_kind None e = true
+is_of_kind (Some kind) e = e.call.kind == (row kind).number
+
+abbrev pub is_event_of_kind : Option ℕ → Option Kind → Option (NodeEvent Entry) → Bool
 is_event_of_kind of_node kind None = false
-is_event_of_kind of_node kind (Some e) = is_of_node of_node e.node && e.entry.call.kind == (row kind).number
+is_event_of_kind of_node kind (Some e) = is_of_node of_node e.node && is_of_kind kind e.entry
 
 -- A watchpoint fires where it reads another value than before, a breakpoint where the event between is of its kind and node.
 abbrev pub is_due_by : Option ℤ → Option ℤ → Option (NodeEvent Entry) → Trigger → Bool
@@ -56,6 +60,21 @@ change_by before now = value_word before ++ (codes " -> " ++ value_word now)
 abbrev pub firing_line_by : Option ℤ → Option ℤ → ℕ → Trigger → List ℕ
 firing_line_by before now number (Watch x) = codes "watch " ++ (decimal number ++ (codes ": " ++ (change_by before now ++ codes "\n")))
 firing_line_by before now number (Break of_node kind) = codes "break " ++ (decimal number ++ codes "\n")
+
+-- ---- on which condition
+
+-- the node of the event that led to a place
+abbrev pub node_of_event : GroupPlace → Option ℕ
+node_of_event place = option_map (λ (e : NodeEvent Entry). e.node) (last_event_of place)
+
+-- the value of a condition
+abbrev pub condition_value : GroupPlace → Expression → Option ℤ
+condition_value place x = value_in_event (nodes_at place) no_variable (node_of_event place) x
+
+-- a condition is met where its value is a number other than 0; one that is left out is met everywhere
+abbrev pub meets_condition : GroupPlace → Option Expression → Bool
+meets_condition place None = true
+meets_condition place (Some x) = is_nonzero (condition_value place x)
 
 -- ---- at a position
 
@@ -72,13 +91,17 @@ abbrev pub firing_line : List Replaying → ℕ → ℕ → Trigger → List ℕ
 firing_line start zero number t = []
 firing_line start (suc k) number t = firing_line_by (reading start k t) (reading start (suc k) t) number t
 
+-- a point fires at position k, where its condition is met there
+abbrev pub is_due_point : List Replaying → ℕ → Point → Bool
+is_due_point start k p = is_due_at start k p.trigger && meets_condition (place_at start k) p.condition
+
 -- some point fires at position k
 abbrev pub has_due_point : List Replaying → List Point → ℕ → Bool
-has_due_point start points k = list_any (λ p. is_due_at start k p.trigger) points
+has_due_point start points k = list_any (is_due_point start k) points
 
 -- the line of a point at position k, if it fires there
 abbrev pub point_said_at : List Replaying → ℕ → Point → List ℕ
-point_said_at start k p = if is_due_at start k p.trigger then firing_line start k p.number p.trigger else []
+point_said_at start k p = if is_due_point start k p then firing_line start k p.number p.trigger else []
 
 -- the lines of all points that fire at position k, in their order, whether programs are attached to them or not
 abbrev pub firing_lines : List Replaying → List Point → ℕ → List ℕ

@@ -1,6 +1,7 @@
--- The trigger of a point of the code, and where the walks of the code end.
-use Rattle.std.specs.Prelude.{◌≡◌, ℕ, List, ◌++◌}
-use Rattle.watch_expr.specs.Expression.{expression_of}
+-- The trigger and the condition of a point of the code, and where the walks of the code end.
+use Rattle.std.specs.Prelude.{◌≡◌, ℕ, List, ◌++◌, Option, option_map}
+use Rattle.expression_text.specs.declared.expr.Expr.{Expr}
+use Rattle.watch_expr.specs.Expression.{Expression, expression_of}
 use Rattle.group_state.specs.Place.{GroupPlace}
 use Rattle.group_texts.specs.Texts.{position_line}
 use Rattle.embed_cmds.specs.Variables.{Variable}
@@ -16,11 +17,14 @@ abbrev pub trigger : HeldTrigger → Trigger
 trigger (held.Watch x) = Watch (expression_of x)
 trigger (held.Break of_node kind) = Break of_node kind
 
+abbrev pub held_condition : Option Expr → Option Expression
+held_condition x = option_map expression_of x
+
 -- a walk from a place ended where it ends
-pub record PointsWalk (old : GroupPlace) (points : List Point) (before : List Variable) (done : WalkEnd) : Type 0 where
-  pub place : done.group ≡ place_at old.start (walk_from old points before).at
-  pub variables : done.variables ≡ (walk_from old points before).variables
-  pub text_is : done.text ≡ (walk_from old points before).text ++ position_line done.group
+pub record PointsWalk (old : GroupPlace) (points : List Point) (before : List Variable) (most : Option ℕ) (done : WalkEnd) : Type 0 where
+  pub place : done.group ≡ place_at old.start (walk_from old points before most).at
+  pub variables : done.variables ≡ (walk_from old points before most).variables
+  pub text_is : done.text ≡ (walk_from old points before most).text ++ position_line done.group
 
 -- a walk back from a place ended where it ends
 pub record PointsReturn (old : GroupPlace) (points : List Point) (new : GroupPlace) (text : List ℕ) : Type 0 where

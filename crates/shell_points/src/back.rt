@@ -1,11 +1,10 @@
 // Goes back to where points fired last.
-ghost use Rattle.std.specs.Prelude.{◌≡◌, ◌+◌, ◌<◌, ◌≤◌, ◌-◌, ◌++◌, ◌==◌, IfOk, MatchOption, OnOk, count_by, if◌then◌else◌, length, map, suc};
-ghost use Rattle.group_state.specs.Moves.{last_event_of};
+ghost use Rattle.std.specs.Prelude.{◌≡◌, ◌+◌, ◌<◌, ◌≤◌, ◌-◌, ◌++◌, ◌||◌, [], false, IfOk, MatchOption, OnOk, count_by, if◌then◌else◌, length, map, suc};
 ghost use Rattle.group_state.specs.Place.{events_of_replays};
 ghost use Rattle.group_state.specs.Touch.{is_met_by_event, watch_ticks};
-ghost use Rattle.shell_points.specs.Firing.{firing_lines, place_at};
-ghost use Rattle.shell_points.specs.inside.Reading.{NoneFires, point_readings, readings_before, point_said_by};
-ghost use Rattle.shell_points.specs.Returning.{return_from};
+ghost use Rattle.shell_points.specs.Firing.{place_at};
+ghost use Rattle.shell_points.specs.inside.Reading.{NoneFires, SaysAt, point_readings, point_said_by, readings_before, stops_by};
+ghost use Rattle.shell_points.specs.Returning.{may_stop, return_from};
 ghost use Rattle.shell_points.specs.Meanings.{PointsReturn};
 ghost use Rattle.shell_points.specs.inside.Meanings.{point as seen, return_of};
 ghost use Rattle.shell_points.specs.inside.Watches.{IsWatching};
@@ -15,6 +14,7 @@ ghost use Rattle.shell_points.specs.declared.point.Point.{Point as Held};
 use crate::firing::{fires, push_line};
 use crate::point::Point;
 use crate::watching::Watching;
+use embed_cmds::has_stop;
 use fri_text::Text;
 use group_state::Group;
 use group_texts::push_position;
@@ -29,7 +29,14 @@ pub(crate) struct Return {
     text: Text,
 }
 
-/// Goes to the last position before this one at which a point fires, or else to position 0.
+/// What points say at a position, and whether one of those that fire there may stop.
+#[derive(Drop)]
+pub(crate) struct Said {
+    text: Text,
+    stops: bool,
+}
+
+/// Goes to the last position before this one at which a point fires that may stop, or else to position 0.
 pub(crate) fn walk_back<'m, 'a, L: Ledger>(
     alloc: Global,
     group: Group<'m, 'a>,
@@ -48,8 +55,8 @@ pub(crate) fn walk_back<'m, 'a, L: Ledger>(
     Ok((group, text))
 }
 
-// Where points fire last among so many positions after position 0, at which the group is. What they said before that
-// is not kept.
+// Where points fire last that may stop, among so many positions after position 0, at which the group is. What they said
+// before that is not kept.
 fn last_firing<'m, 'a, L: Ledger>(
     alloc: Global,
     group: Group<'m, 'a>,
@@ -71,8 +78,8 @@ fn last_firing<'m, 'a, L: Ledger>(
     'positions: while group.position() < count {
         let (next, _) = group.forward()?;
         group = next;
-        let (now, text) = hear_event(alloc, points, watching, &group, steps)?;
-        last = later(last, group.position(), text);
+        let (now, said) = hear_event(alloc, points, watching, &group, steps)?;
+        last = later(last, group.position(), said);
         watching = now;
     }
     Ok((group, last))
@@ -85,47 +92,48 @@ fn hear_event<L: Ledger>(
     watching: Watching,
     group: &Group<'_, '_>,
     steps: &mut Steps<L>,
-) -> Result<(Watching, Text), AllocError>
+) -> Result<(Watching, Said), AllocError>
     requires moved { 0 < group.now.at }
     requires before { IsWatching group.now.start (group.now.at - 1) (map {A = Held} seen points.now) watching }
     ensures now { IfOk result (λ heard. IsWatching group.now.start group.now.at (map {A = Held} seen points.now) heard.0) }
-    ensures text { IfOk result (λ heard. heard.1 ≡ firing_lines group.now.start (map {A = Held} seen points.now) group.now.at) }
+    ensures said { IfOk result (λ heard. SaysAt group.now.start group.now.at (map {A = Held} seen points.now) heard.1) }
     ensures ticks { OnOk result (steps.new ≡ steps.old + count_by (is_met_by_event group.now.start group.now.at) (watched_expressions (map {A = Held} seen points.now))) }
 {
     let (now, before) = watching.after_event(alloc, points, group, steps)?;
-    let text = text_here(alloc, points, before, &now, group)?;
-    Ok((now, text))
+    let said = said_now(alloc, points, before, &now, group)?;
+    Ok((now, said))
 }
 
-// What was said at a position, if anything was, and else what was said last.
-fn later(last: Return, at: u64, text: Text) -> Return
-    ensures { return_of result ≡ (if length text == 0 then return_of last else record { at = at; text = text }) }
+// What was said at a position, if a point may stop there, and else what was said last.
+fn later(last: Return, at: u64, said: Said) -> Return
+    ensures { return_of result ≡ (if said.stops then record { at = at; text = said.text } else return_of last) }
 {
-    if text.bytes().is_empty() {
-        last
-    } else {
+    if said.stops {
+        let Said { text, .. } = said;
         Return { at, text }
+    } else {
+        last
     }
 }
 
 // What all points say that fire where the group is, by what they read now, and what they read at the position before,
 // where some point may fire.
-fn text_here(
+fn said_now(
     alloc: Global,
     points: &[Point],
     before: Option<Vec<Option<i64>>>,
     now: &Watching,
     group: &Group<'_, '_>,
-) -> Result<Text, AllocError>
+) -> Result<Said, AllocError>
     requires moved { 0 < group.now.at }
     requires before { MatchOption before (NoneFires group.now (map {A = Held} seen points.now))
         (λ before. before.items ≡ readings_before group.now (map {A = Held} seen points.now)) }
     requires now { IsWatching group.now.start group.now.at (map {A = Held} seen points.now) now.now }
-    ensures { IfOk result (λ text. text ≡ firing_lines group.now.start (map {A = Held} seen points.now) group.now.at) }
+    ensures { IfOk result (SaysAt group.now.start group.now.at (map {A = Held} seen points.now)) }
 {
     match before {
         Some(before) => said_here(alloc, points, &before, &now.values, group),
-        None => Ok(Text::new(alloc)),
+        None => Ok(nothing_said(alloc)),
     }
 }
 
@@ -136,31 +144,51 @@ fn said_here(
     before: &[Option<i64>],
     now: &[Option<i64>],
     group: &Group<'_, '_>,
-) -> Result<Text, AllocError>
+) -> Result<Said, AllocError>
     requires moved { 0 < group.now.at }
     requires before { before.now ≡ readings_before group.now (map {A = Held} seen points.now) }
     requires now { now.now ≡ point_readings group.now.start group.now.at (map {A = Held} seen points.now) }
-    ensures { IfOk result (λ text. text ≡ firing_lines group.now.start (map {A = Held} seen points.now) group.now.at) }
+    ensures { IfOk result (SaysAt group.now.start group.now.at (map {A = Held} seen points.now)) }
 {
-    let mut text = Text::new(alloc);
+    let mut said = nothing_said(alloc);
     for (n, point) in points.iter().enumerate() {
-        push_said(&mut text, point, before[n], now[n], group)?;
+        push_said(&mut said, point, before[n], now[n], group)?;
     }
-    Ok(text)
+    Ok(said)
 }
 
-// What a point says, if it fires where the group is.
+fn nothing_said(alloc: Global) -> Said
+    ensures text { result.text ≡ [] }
+    ensures stops { result.stops ≡ false }
+{
+    let text = Text::new(alloc);
+    Said { text, stops: false }
+}
+
+// Whether a point that fires may stop there.
+fn may_stop(point: &Point) -> bool
+    ensures { result ≡ may_stop (seen point.now).program }
+{
+    match &point.program {
+        Some(program) => has_stop(program),
+        None => true,
+    }
+}
+
+// What a point says, and whether it may stop, if it fires where the group is.
 fn push_said(
-    text: &mut Text,
+    said: &mut Said,
     point: &Point,
     before: Option<i64>,
     now: Option<i64>,
     group: &Group<'_, '_>,
 ) -> Result<(), AllocError>
-    ensures { OnOk result (text.new ≡ text.old ++ point_said_by before now (last_event_of group.now) (seen point.now)) }
+    ensures text { OnOk result (said.new.text ≡ said.old.text ++ point_said_by before now group.now (seen point.now)) }
+    ensures stops { OnOk result (said.new.stops ≡ (said.old.stops || stops_by before now group.now (seen point.now))) }
 {
-    if fires(&point.trigger, before, now, group) {
-        push_line(text, point, before, now)?;
+    if fires(point, before, now, group) {
+        push_line(&mut said.text, point, before, now)?;
+        said.stops = said.stops || may_stop(point);
     }
     Ok(())
 }

@@ -4,7 +4,7 @@ ghost use Rattle.std.specs.List.{flat_map};
 ghost use Rattle.embed_cmds.specs.Tree.{program_body};
 ghost use Rattle.group_state.specs.Touch.{watch_ticks};
 ghost use Rattle.shell_points.specs.Points.{has_point, new_point, index_of_point, point_text, with_program, without_point};
-ghost use Rattle.shell_points.specs.Meanings.{PointsReturn, PointsWalk, trigger as trigger_meant};
+ghost use Rattle.shell_points.specs.Meanings.{PointsReturn, PointsWalk, held_condition as condition_meant, trigger as trigger_meant};
 ghost use Rattle.shell_points.specs.inside.Meanings.{point as point_meant};
 ghost use Rattle.shell_points.specs.Watching.{watched_expressions};
 
@@ -18,7 +18,7 @@ use group_state::Group;
 use std::alloc::{AllocError, Global};
 use std::marker::Model;
 use std::sync::ledger::Ledger;
-use watch_expr::Steps;
+use watch_expr::{Expr, Steps};
 
 /// The points that a session holds. Contracts see them as a list, in the order in which they were added.
 #[derive(Drop)]
@@ -69,8 +69,9 @@ impl Points {
         number: u64,
         line: &[u8],
         trigger: Trigger,
+        condition: Option<Expr>,
     ) -> Result<(), AllocError>
-        ensures ok { OnOk result (self.new ≡ self.old ++ new_point number line.now (trigger_meant trigger) ∷ []) }
+        ensures ok { OnOk result (self.new ≡ self.old ++ new_point number line.now (trigger_meant trigger) (condition_meant condition) ∷ []) }
         ensures err { OnErr result (self.new ≡ self.old) }
     {
         let text = Bytes::from_slice(alloc, line)?;
@@ -78,6 +79,7 @@ impl Points {
             number,
             text,
             trigger,
+            condition,
             program: None,
         })?;
         Ok(())
@@ -120,7 +122,8 @@ impl Points {
         list(alloc, &self.held)
     }
 
-    /// Goes to the first position after this one at which a point asks to stop or enough was said, or to the last.
+    /// Goes to the first position after this one at which a point asks to stop or enough was said, or to the last; and over
+    /// so many positions at most, where that is given.
     /// Each watchpoint is evaluated once where the walk begins, which the counter does not count, and then where an event
     /// touched something that it reads.
     pub fn walk<'m, 'a, L: Ledger>(
@@ -128,17 +131,18 @@ impl Points {
         alloc: Global,
         group: Group<'m, 'a>,
         variables: Vars,
+        most: Option<u64>,
         steps: &mut Steps<L>,
     ) -> Result<WalkEnd<'m, 'a>, AllocError>
-        ensures walks { IfOk result (λ done. PointsWalk group.entry self.now variables done) }
+        ensures walks { IfOk result (λ done. PointsWalk group.entry self.now variables most done) }
         ensures ticks { IfOk result (λ done. steps.new ≡ steps.old + watch_ticks group.entry.start (watched_expressions self.now) group.entry.at (done.group.at - group.entry.at)) }
     {
-        walk(alloc, group, &self.held, variables, steps)
+        walk(alloc, group, &self.held, variables, most, steps)
     }
 
-    /// Goes to the last position before this one at which a point fires, and says what all say that fire there, or
-    /// else goes to position 0. No program runs. Watchpoints are evaluated at position 0, which the counter does not count,
-    /// and then where an event touched something that they read.
+    /// Goes to the last position before this one at which a point fires that has no program or one with a `stop` in it, and
+    /// says what all say that fire there, or else goes to position 0. No program runs. Watchpoints are evaluated at position
+    /// 0, which the counter does not count, and then where an event touched something that they read.
     pub fn walk_back<'m, 'a, L: Ledger>(
         &self,
         alloc: Global,

@@ -1,17 +1,16 @@
 // What points do at a position.
 ghost use Rattle.std.specs.Prelude.{◌≡◌, ◌<◌, IfOk, MatchOption, OnOk, map};
+ghost use Rattle.shell_points.specs.Firing.{node_of_event};
 ghost use Rattle.shell_points.specs.inside.Reading.{NoneFires, point_readings, readings_before, treat_by};
 ghost use Rattle.shell_points.specs.inside.Meanings.{point as seen, run_so_far};
-ghost use Rattle.shell_points.specs.Walking.{quiet_program, treat_points};
+ghost use Rattle.shell_points.specs.Walking.{name_of_event, quiet_program, treat_points};
 ghost use Rattle.shell_points.specs.inside.Watches.{IsWatching};
 ghost use Rattle.shell_points.specs.declared.point.Point.{Point as Held};
-ghost use Rattle.group_state.specs.Moves.{last_event_of};
-ghost use Rattle.group_state.specs.Nodes.{nodes_at};
 
-use crate::firing::{fires, push_line};
+use crate::firing::{fires, node_of_event, push_line};
 use crate::point::Point;
 use crate::watching::Watching;
-use embed_cmds::{Vars, run_program};
+use embed_cmds::{EventNode, Vars, run_program};
 use fri_text::Text;
 use group_state::Group;
 use std::alloc::{AllocError, Global};
@@ -73,6 +72,19 @@ fn treat_points(
     Ok(run)
 }
 
+// The node of the event that led to where the group is, with its name.
+fn event_node<'a>(group: &Group<'_, 'a>) -> EventNode<'a>
+    ensures node { result.node ≡ node_of_event group.now }
+    ensures name { result.name.now ≡ name_of_event group.now.start (node_of_event group.now) }
+{
+    let node = node_of_event(group);
+    let name = match node {
+        Some(node) => group.node_name(node).unwrap_or(&[]),
+        None => &[],
+    };
+    EventNode { node, name }
+}
+
 // What a point does where the group is, if it fires there.
 fn treat_point(
     alloc: Global,
@@ -83,14 +95,15 @@ fn treat_point(
     variables: &mut Vars,
     run: &mut PointsRun,
 ) -> Result<(), AllocError>
-    ensures { OnOk result (run_so_far variables.new run.new ≡ treat_by before now (last_event_of group.now) (nodes_at group.now) (run_so_far variables.old run.old) (seen point.now)) }
+    ensures { OnOk result (run_so_far variables.new run.new ≡ treat_by before now group.now (run_so_far variables.old run.old) (seen point.now)) }
 {
-    if !fires(&point.trigger, before, now, group) {
+    if !fires(point, before, now, group) {
         return Ok(());
     }
     match &point.program {
         Some(program) => {
-            let stops = run_program(alloc, program, group, variables, &mut run.text)?;
+            let by = event_node(group);
+            let stops = run_program(alloc, program, group, by, variables, &mut run.text)?;
             run.stops = run.stops || stops;
         }
         None => {

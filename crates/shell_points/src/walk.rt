@@ -1,10 +1,10 @@
 // Goes on to where a point asks to stop.
-ghost use Rattle.std.specs.Prelude.{◌≡◌, ◌+◌, ◌-◌, ◌<◌, [], IfOk, OnOk, count_by, map};
+ghost use Rattle.std.specs.Prelude.{◌≡◌, ◌+◌, ◌-◌, ◌<◌, ◌++◌, ◌==◌, [], IfOk, OnOk, count_by, map, option_map};
 ghost use Rattle.group_state.specs.Touch.{is_met_by_event, watch_ticks};
 ghost use Rattle.shell_points.specs.Meanings.{PointsWalk};
 ghost use Rattle.shell_points.specs.inside.Meanings.{WalksThere, point as seen, run_so_far};
 ghost use Rattle.shell_points.specs.inside.Watches.{IsWatching};
-ghost use Rattle.shell_points.specs.Walking.{lines_in, quiet_program, treat_points};
+ghost use Rattle.shell_points.specs.Walking.{last_word, lines_in, positions_ahead, quiet_program, steps_of, treat_points};
 ghost use Rattle.shell_points.specs.Watching.{watched_expressions};
 ghost use Rattle.shell_points.specs.declared.point.Point.{Point as Held};
 
@@ -30,20 +30,22 @@ pub struct WalkEnd<'m, 'a> {
     pub text: Text,
 }
 
-/// Goes to the first position after this one at which a point asks to stop or enough was said, or to the last.
+/// Goes to the first position after this one at which a point asks to stop or enough was said, or to the last; and over so
+/// many positions at most, where that is given.
 pub(crate) fn walk<'m, 'a, L: Ledger>(
     alloc: Global,
     group: Group<'m, 'a>,
     points: &[Point],
     variables: Vars,
+    most: Option<u64>,
     steps: &mut Steps<L>,
 ) -> Result<WalkEnd<'m, 'a>, AllocError>
-    ensures walks { IfOk result (λ done. PointsWalk group.entry (map {A = Held} seen points.now) variables done) }
+    ensures walks { IfOk result (λ done. PointsWalk group.entry (map {A = Held} seen points.now) variables most done) }
     ensures ticks { IfOk result (λ done. steps.new ≡ steps.old + watch_ticks group.entry.start (watched_expressions (map {A = Held} seen points.now)) group.entry.at (done.group.at - group.entry.at)) }
 {
     let mut variables = variables;
     let mut text = Text::new(alloc);
-    let group = walk_there(alloc, group, points, &mut variables, &mut text, steps)?;
+    let group = walk_there(alloc, group, points, &mut variables, &mut text, most, steps)?;
     push_position(&mut text, &group)?;
     Ok(WalkEnd {
         group,
@@ -59,23 +61,26 @@ fn walk_there<'m, 'a, L: Ledger>(
     points: &[Point],
     variables: &mut Vars,
     text: &mut Text,
+    most: Option<u64>,
     steps: &mut Steps<L>,
 ) -> Result<Group<'m, 'a>, AllocError>
     requires { text.old ≡ [] }
-    ensures walks { IfOk result (λ there. WalksThere group.entry (map {A = Held} seen points.now) variables.old there variables.new text.new) }
+    ensures walks { IfOk result (λ there. WalksThere group.entry (map {A = Held} seen points.now) variables.old most there variables.new text.new) }
     ensures ticks { IfOk result (λ there. steps.new ≡ steps.old + watch_ticks group.entry.start (watched_expressions (map {A = Held} seen points.now)) group.entry.at (there.at - group.entry.at)) }
 {
     let _ = group.position();
     let mut group = group;
     let mut watching = Watching::begin(alloc, points, &group)?;
-    let mut left = MOST_LINES;
+    let mut room = MOST_LINES;
+    let mut left = most;
     'positions: loop {
-        let (next, event) = group.forward()?;
-        group = next;
-        if event.is_none() {
-            text.push_str("end\n")?;
+        if is_over(&group, left) {
+            push_last_word(text, &group)?;
             return Ok(group);
         }
+        let (next, _) = group.forward()?;
+        group = next;
+        left = one_less(left);
         let (now, treated) = meet_event(alloc, points, watching, &group, variables, steps)?;
         watching = now;
         text.push_bytes(treated.text.bytes())?;
@@ -83,11 +88,42 @@ fn walk_there<'m, 'a, L: Ledger>(
             return Ok(group);
         }
         let lines = lines_in(&treated.text);
-        if lines >= left {
+        if lines >= room {
             text.push_str("paused\n")?;
             return Ok(group);
         }
-        left -= lines;
+        room -= lines;
+    }
+}
+
+// Whether no position is left, or none of those that may be walked.
+fn is_over(group: &Group<'_, '_>, left: Option<u64>) -> bool
+    ensures { result ≡ (steps_of left (positions_ahead group.now) == 0) }
+{
+    let last = group.is_last();
+    match left {
+        Some(n) => n == 0 || last,
+        None => last,
+    }
+}
+
+fn one_less(left: Option<u64>) -> Option<u64>
+    ensures { result ≡ option_map (λ n. n - 1) left }
+{
+    match left {
+        Some(n) => Some(n.saturating_sub(1)),
+        None => None,
+    }
+}
+
+// What a walk says that no point ended.
+fn push_last_word(text: &mut Text, group: &Group<'_, '_>) -> Result<(), AllocError>
+    ensures { OnOk result (text.new ≡ text.old ++ last_word group.now.start group.now.at) }
+{
+    if group.is_last() {
+        text.push_str("end\n")
+    } else {
+        text.push_str("paused\n")
     }
 }
 

@@ -6,7 +6,7 @@ use Rattle.std.specs.List.{flat_map, list_all, range_with_len}
 use Rattle.guest_memory.specs.Memory.{is_inside}
 use Rattle.watch_expr.specs.declared.reads.Place.{Place}
 use Rattle.watch_expr.specs.declared.reads.Place.TheVariants as place
-use Rattle.expression_text.specs.Expression.{Clock, Events, Expression, Global, Load, Number, One, Over, Size, Two, Var}
+use Rattle.expression_text.specs.Expression.{Clock, Events, Expression, Global, HasEnded, LastThread, Load, Number, One, Over, Size, Two, Var}
 use Rattle.watch_expr.specs.Reads.{ReadsLow, places_at_node, evaluates_right, is_low_place, load_places, no_variables, reads_at}
 use Rattle.watch_expr.specs.Value.{ExpressionSetting, byte_count, resolved_node, expression_setting, value_at}
 use Rattle.watch_expr.specs.View.{Node}
@@ -55,13 +55,15 @@ low_at s each (Two op x y) =
 low_at s each (Over agg x) = at_each (λ node. reads_at s (Some node) x) (range_with_len 0 (length s.nodes)) (λ k. low_at s (Some k) x)
 low_at s each (Load name width x) =
     both (reads_at s each x) _ (low_at s each x)
-    (at_one (resolved_node each name) (λ node. load_places node (slice_get s.nodes node) (byte_count width) (value_at s each x))
+    (at_one (resolved_node s.event each name) (λ node. load_places node (slice_get s.nodes node) (byte_count width) (value_at s each x))
     (λ k. low_load k (slice_get s.nodes k) (byte_count width) (value_at s each x)))
 low_at s each (Global name n) =
-    at_one (resolved_node each name) (λ node. cond (nat_lt n (2 ^ 32)) (place.Global node n ∷ []) []) (λ k. low_global (nat_lt n (2 ^ 32)) k n refl)
-low_at s each (Clock name) = at_one (resolved_node each name) (λ node. place.Motion node ∷ []) (λ k. refl)
-low_at s each (Events name) = at_one (resolved_node each name) (λ node. place.Motion node ∷ []) (λ k. refl)
-low_at s each (Size name) = at_one (resolved_node each name) (λ node. place.Size node ∷ []) (λ k. refl)
+    at_one (resolved_node s.event each name) (λ node. cond (nat_lt n (2 ^ 32)) (place.Global node n ∷ []) []) (λ k. low_global (nat_lt n (2 ^ 32)) k n refl)
+low_at s each (Clock name) = at_one (resolved_node s.event each name) (λ node. place.Motion node ∷ []) (λ k. refl)
+low_at s each (Events name) = at_one (resolved_node s.event each name) (λ node. place.Motion node ∷ []) (λ k. refl)
+low_at s each (Size name) = at_one (resolved_node s.event each name) (λ node. place.Size node ∷ []) (λ k. refl)
+low_at s each (LastThread name) = at_one (resolved_node s.event each name) (λ node. place.Motion node ∷ []) (λ k. refl)
+low_at s each (HasEnded name) = at_one (resolved_node s.event each name) (λ node. place.Motion node ∷ []) (λ k. refl)
 
 pub reads_low : ReadsLow
 reads_low nodes x = low_at (expression_setting nodes no_variables) None x

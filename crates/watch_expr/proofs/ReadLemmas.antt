@@ -10,12 +10,12 @@ use Rattle.guest_memory.specs.Memory.{IsMemory, Memory, bytes_from, size_of}
 use Rattle.expression_text.specs.declared.expr.Binary.{Binary}
 use Rattle.expression_text.specs.declared.expr.Width.{Width}
 use Rattle.expression_text.specs.declared.expr.Width.TheVariants as width
-use Rattle.expression_text.specs.Expression.{Clock, Events, Expression, Global, Load, Number, One, Over, Size, Two, Var}
+use Rattle.expression_text.specs.Expression.{Clock, Events, Expression, Global, HasEnded, LastThread, Load, Number, One, Over, Size, Two, Var}
 use Rattle.watch_expr.specs.declared.reads.Place.{Place}
 use Rattle.watch_expr.specs.declared.reads.Place.TheVariants as place
 use Rattle.watch_expr.specs.Reads.{AreMemories, ReadsTell, SameAtPlace, SamePage, places_at_node, evaluates_right, load_places, no_variables, pages_of, reads_at, two_pages}
-use Rattle.watch_expr.specs.Value.{ExpressionSetting, all_numbers, byte_count, decided_by_left, global_value, loaded_at, unary_value, aggregate_over, resolved_node, expression_setting, two, value_at, value_of_bytes, decided_with_right}
-use Rattle.watch_expr.specs.View.{Node, ◌>>=◌, node_clock, events_at, global_at, piece_in_memory, size_at}
+use Rattle.watch_expr.specs.Value.{ExpressionSetting, all_numbers, byte_count, decided_by_left, global_value, loaded_at, unary_value, aggregate_over, resolved_node, expression_setting, truth_value, two, value_at, value_of_bytes, decided_with_right}
+use Rattle.watch_expr.specs.View.{Node, ◌>>=◌, node_clock, events_at, global_at, has_ended_at, last_thread_at, piece_in_memory, size_at}
 
 -- ---- bytes that lie in one page or two
 
@@ -249,6 +249,15 @@ module _ (old new : List Node) (even : length new ≡ length old)
   events_case None h = refl
   events_case (Some node) h = h.0.1
 
+  thread_case : (r : Option ℕ) → AllByRecursion (SameAtPlace old new) (places_at_node r (λ node. place.Motion node ∷ [])) → ◌≡◌ {A = Option ℤ} (r >>= last_thread_at new) (r >>= last_thread_at old)
+  thread_case None h = refl
+  thread_case (Some node) h = h.0.2
+
+  ended_case : (r : Option ℕ) → AllByRecursion (SameAtPlace old new) (places_at_node r (λ node. place.Motion node ∷ []))
+      → ◌≡◌ {A = Option ℤ} (r >>= λ node. option_map truth_value (has_ended_at new node)) (r >>= λ node. option_map truth_value (has_ended_at old node))
+  ended_case None h = refl
+  ended_case (Some node) h = ap (option_map truth_value) h.0.3
+
   size_case : (r : Option ℕ) → AllByRecursion (SameAtPlace old new) (places_at_node r (λ node. place.Size node ∷ []))
       → ◌≡◌ {A = Option ℤ} (r >>= λ node. option_map pos (size_at new node)) (r >>= λ node. option_map pos (size_at old node))
   size_case None h = refl
@@ -282,19 +291,21 @@ module _ (old new : List Node) (even : length new ≡ length old)
       }
   agrees (Load name w x) each h =
       let parts = split_all (SameAtPlace old new) (reads_at so each x)
-      (places_at_node (resolved_node each name) (λ node. load_places node (slice_get old node) (byte_count w) (value_at so each x))) h in
+      (places_at_node (resolved_node None each name) (λ node. load_places node (slice_get old node) (byte_count w) (value_at so each x))) h in
       let r = agrees x each parts.0 in
-      let l = load_case (resolved_node each name) w (value_at so each x) parts.1 in
+      let l = load_case (resolved_node None each name) w (value_at so each x) parts.1 in
       record {
-        values = ap (λ (o : Option ℤ). o >>= λ addr. resolved_node each name >>= λ node. loaded_at new node w addr) r.values ∙ l.0;
+        values = ap (λ (o : Option ℤ). o >>= λ addr. resolved_node None each name >>= λ node. loaded_at new node w addr) r.values ∙ l.0;
         reads =
             both_parts (reads_at sn each x) (reads_at so each x) _ _ r.reads
-            (ap (λ (o : Option ℤ). places_at_node (resolved_node each name) (λ node. load_places node (slice_get new node) (byte_count w) o)) r.values ∙ l.1);
+            (ap (λ (o : Option ℤ). places_at_node (resolved_node None each name) (λ node. load_places node (slice_get new node) (byte_count w) o)) r.values ∙ l.1);
       }
-  agrees (Global name n) each h = record { values = global_case (resolved_node each name) n h; reads = refl }
-  agrees (Clock name) each h = record { values = clock_case (resolved_node each name) h; reads = refl }
-  agrees (Events name) each h = record { values = events_case (resolved_node each name) h; reads = refl }
-  agrees (Size name) each h = record { values = size_case (resolved_node each name) h; reads = refl }
+  agrees (Global name n) each h = record { values = global_case (resolved_node None each name) n h; reads = refl }
+  agrees (Clock name) each h = record { values = clock_case (resolved_node None each name) h; reads = refl }
+  agrees (Events name) each h = record { values = events_case (resolved_node None each name) h; reads = refl }
+  agrees (Size name) each h = record { values = size_case (resolved_node None each name) h; reads = refl }
+  agrees (LastThread name) each h = record { values = thread_case (resolved_node None each name) h; reads = refl }
+  agrees (HasEnded name) each h = record { values = ended_case (resolved_node None each name) h; reads = refl }
 
 pub reads_tell : ReadsTell
 reads_tell old new x even in_old in_new h = let r = agrees old new even in_old in_new x None h in (r.values, r.reads)

@@ -6,9 +6,9 @@ use Rattle.expression_text.specs.declared.expr.Binary.{Binary}
 use Rattle.expression_text.specs.declared.expr.Binary.TheVariants as binary
 use Rattle.watch_expr.specs.declared.reads.Place.{Place}
 use Rattle.watch_expr.specs.declared.reads.Place.TheVariants as place
-use Rattle.expression_text.specs.Expression.{Expression, Number, Var, One, Two, Over, Load, Global, Clock, Events, Size}
+use Rattle.expression_text.specs.Expression.{Expression, Number, Var, One, Two, Over, Load, Global, Clock, Events, Size, LastThread, HasEnded}
 use Rattle.watch_expr.specs.Value.{ExpressionSetting, byte_count, decided_by_left, resolved_node, expression_setting, value, value_at}
-use Rattle.watch_expr.specs.View.{Node, node_clock, events_at, global_at, size_at}
+use Rattle.watch_expr.specs.View.{Node, node_clock, events_at, global_at, has_ended_at, last_thread_at, size_at}
 
 -- the operators that may leave their right side out
 abbrev pub is_lazy : Binary → Bool
@@ -51,11 +51,13 @@ reads_at s each (One op x) = reads_at s each x
 reads_at s each (Two op x y) = reads_at s each x ++ (if evaluates_right op (value_at s each x) then reads_at s each y else [])
 reads_at s each (Over agg x) = flat_map (λ node. reads_at s (Some node) x) (range_with_len 0 (length s.nodes))
 reads_at s each (Load name width x) =
-    reads_at s each x ++ places_at_node (resolved_node each name) (λ node. load_places node (slice_get s.nodes node) (byte_count width) (value_at s each x))
-reads_at s each (Global name n) = places_at_node (resolved_node each name) (λ node. if nat_lt n (2 ^ 32) then place.Global node n ∷ [] else [])
-reads_at s each (Clock name) = places_at_node (resolved_node each name) (λ node. place.Motion node ∷ [])
-reads_at s each (Events name) = places_at_node (resolved_node each name) (λ node. place.Motion node ∷ [])
-reads_at s each (Size name) = places_at_node (resolved_node each name) (λ node. place.Size node ∷ [])
+    reads_at s each x ++ places_at_node (resolved_node s.event each name) (λ node. load_places node (slice_get s.nodes node) (byte_count width) (value_at s each x))
+reads_at s each (Global name n) = places_at_node (resolved_node s.event each name) (λ node. if nat_lt n (2 ^ 32) then place.Global node n ∷ [] else [])
+reads_at s each (Clock name) = places_at_node (resolved_node s.event each name) (λ node. place.Motion node ∷ [])
+reads_at s each (Events name) = places_at_node (resolved_node s.event each name) (λ node. place.Motion node ∷ [])
+reads_at s each (Size name) = places_at_node (resolved_node s.event each name) (λ node. place.Size node ∷ [])
+reads_at s each (LastThread name) = places_at_node (resolved_node s.event each name) (λ node. place.Motion node ∷ [])
+reads_at s each (HasEnded name) = places_at_node (resolved_node s.event each name) (λ node. place.Motion node ∷ [])
 
 -- every variable is undef
 abbrev pub no_variables : List ℕ → Option ℤ
@@ -89,7 +91,9 @@ SameAtPlace old new (place.Page node page) =
     (a b : Node) → slice_get old node ≡ Some a → slice_get new node ≡ Some b
     → 4096 * page + 4096 ≤ length a.memory.bytes → SamePage a.memory b.memory page
 SameAtPlace old new (place.Global node n) = global_at new node n ≡ global_at old node n
-SameAtPlace old new (place.Motion node) = (node_clock new node ≡ node_clock old node) × (events_at new node ≡ events_at old node)
+SameAtPlace old new (place.Motion node) =
+    (node_clock new node ≡ node_clock old node) × (events_at new node ≡ events_at old node)
+    × (last_thread_at new node ≡ last_thread_at old node) × (has_ended_at new node ≡ has_ended_at old node)
 SameAtPlace old new (place.Size node) = size_at new node ≡ size_at old node
 
 -- each node's memory is one

@@ -8,18 +8,20 @@ use Rattle.expression_text.specs.declared.expr.Agg.TheVariants as agg
 use Rattle.expression_text.specs.declared.expr.Binary.{Binary}
 use Rattle.expression_text.specs.declared.expr.Binary.TheVariants as binary
 use Rattle.expression_text.specs.declared.expr.NodeName.{NodeName}
-use Rattle.expression_text.specs.declared.expr.NodeName.TheVariants.{Named, Each}
+use Rattle.expression_text.specs.declared.expr.NodeName.TheVariants.{Named, Each, OfEvent}
 use Rattle.expression_text.specs.declared.expr.Unary.{Unary}
 use Rattle.expression_text.specs.declared.expr.Unary.TheVariants as unary
 use Rattle.expression_text.specs.declared.expr.Width.{Width}
 use Rattle.expression_text.specs.declared.expr.Width.TheVariants as width
-use Rattle.expression_text.specs.Expression.{Expression, Number, Var, One, Two, Over, Load, Global, Clock, Events, Size}
-use Rattle.watch_expr.specs.View.{Node, ◌>>=◌, node_clock, events_at, global_at, bytes_of_node, size_at}
+use Rattle.expression_text.specs.Expression.{Expression, Number, Var, One, Two, Over, Load, Global, Clock, Events, Size, LastThread, HasEnded}
+use Rattle.watch_expr.specs.View.{Node, ◌>>=◌, node_clock, events_at, global_at, has_ended_at, last_thread_at, bytes_of_node, size_at}
 
--- what an expression is about: the states of the nodes, and the variables by their names, None for undef
+-- what an expression is about: the states of the nodes, the variables by their names, None for undef, and the node of the
+-- event that led to the position, where it can be asked for
 pub record ExpressionSetting : Type 0 where
   pub nodes : List Node
   pub variables : List ℕ → Option ℤ
+  pub event : Option ℕ
 
 -- ---- numbers
 
@@ -103,10 +105,12 @@ aggregate_over agg.Count numbers = Some (pos (count_by (λ z. not (is_zero z)) n
 
 -- ---- places
 
--- the node with this name, where `each` is the node of the aggregate around it, if there is one
-abbrev pub resolved_node : Option ℕ → NodeName → Option ℕ
-resolved_node each (Named node) = node
-resolved_node each Each = each
+-- the node with this name, where `event` is the node of the position's event and `each` that of the aggregate around it, if
+-- there is one
+abbrev pub resolved_node : Option ℕ → Option ℕ → NodeName → Option ℕ
+resolved_node event each (Named node) = node
+resolved_node event each Each = each
+resolved_node event each OfEvent = event
 
 -- how many bytes a load reads
 abbrev pub byte_count : Width → ℕ
@@ -145,16 +149,25 @@ value_at s each (Var name) = s.variables name
 value_at s each (One op x) = value_at s each x >>= unary_value op
 value_at s each (Two op x y) = value_at s each x >>= λ a. decided_with_right op a (decided_by_left op a) (value_at s each y)
 value_at s each (Over agg x) = all_numbers (map (λ node. value_at s (Some node) x) (range_with_len 0 (length s.nodes))) >>= aggregate_over agg
-value_at s each (Load name width x) = value_at s each x >>= λ addr. resolved_node each name >>= λ node. loaded_at s.nodes node width addr
-value_at s each (Global name n) = resolved_node each name >>= λ node. global_value s.nodes node n
-value_at s each (Clock name) = resolved_node each name >>= node_clock s.nodes
-value_at s each (Events name) = resolved_node each name >>= events_at s.nodes
-value_at s each (Size name) = resolved_node each name >>= λ node. option_map pos (size_at s.nodes node)
+value_at s each (Load name width x) = value_at s each x >>= λ addr. resolved_node s.event each name >>= λ node. loaded_at s.nodes node width addr
+value_at s each (Global name n) = resolved_node s.event each name >>= λ node. global_value s.nodes node n
+value_at s each (Clock name) = resolved_node s.event each name >>= node_clock s.nodes
+value_at s each (Events name) = resolved_node s.event each name >>= events_at s.nodes
+value_at s each (Size name) = resolved_node s.event each name >>= λ node. option_map pos (size_at s.nodes node)
+value_at s each (LastThread name) = resolved_node s.event each name >>= last_thread_at s.nodes
+value_at s each (HasEnded name) = resolved_node s.event each name >>= λ node. option_map truth_value (has_ended_at s.nodes node)
 
 abbrev pub expression_setting : List Node → (List ℕ → Option ℤ) → ExpressionSetting
-expression_setting nodes variables = record { nodes = nodes; variables = variables }
+expression_setting nodes variables = record { nodes = nodes; variables = variables; event = None }
+
+abbrev pub setting_in_event : List Node → (List ℕ → Option ℤ) → Option ℕ → ExpressionSetting
+setting_in_event nodes variables event = record { nodes = nodes; variables = variables; event = event }
 
 -- The value of an expression. A node that isn't there, and the name of each node outside of an aggregate,
 -- have only undef places.
 abbrev pub value : List Node → (List ℕ → Option ℤ) → Expression → Option ℤ
 value nodes variables x = value_at (expression_setting nodes variables) None x
+
+-- the same where the position's event is one of this node
+abbrev pub value_in_event : List Node → (List ℕ → Option ℤ) → Option ℕ → Expression → Option ℤ
+value_in_event nodes variables event x = value_at (setting_in_event nodes variables event) None x

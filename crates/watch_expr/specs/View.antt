@@ -1,14 +1,16 @@
 -- What is seen of the nodes of a group.
-use Rattle.std.specs.Prelude.{ℕ, List, slice_get, Option, Some, None, option_map, option_and_then, ℤ, if◌then◌else◌}
+use Rattle.std.specs.Prelude.{ℕ, Bool, List, slice_get, Option, Some, None, option_map, option_and_then, ℤ, if◌then◌else◌}
 use Rattle.guest_memory.specs.Memory.{Memory, bytes_from, is_inside, size_of, stretch_in_page}
 
--- One node's state: its memory, its globals as signed numbers, the clock of its last event, or 0, and how
--- many events it has had.
+-- One node's state: its memory, its globals as signed numbers, the clock of its last event, or 0, how
+-- many events it has had, the thread of the last, if it has had one, and whether it has ended.
 pub record Node : Type 0 where
   pub memory : Memory
   pub globals : List ℤ
   pub clock : ℤ
   pub events : ℤ
+  pub last_thread : Option ℤ
+  pub ended : Bool
 
 infixl 10 ◌>>=◌
 abbrev pub ◌>>=◌ : {A B : Type 0} → Option A → (A → Option B) → Option B
@@ -39,6 +41,14 @@ node_clock nodes node = option_map (λ s. s.clock) (slice_get nodes node)
 
 abbrev pub events_at : List Node → ℕ → Option ℤ
 events_at nodes node = option_map (λ s. s.events) (slice_get nodes node)
+
+-- the thread of its last event
+abbrev pub last_thread_at : List Node → ℕ → Option ℤ
+last_thread_at nodes node = slice_get nodes node >>= λ s. s.last_thread
+
+-- it has ended
+abbrev pub has_ended_at : List Node → ℕ → Option Bool
+has_ended_at nodes node = option_map (λ s. s.ended) (slice_get nodes node)
 
 -- the size of its memory in Wasm pages
 abbrev pub size_at : List Node → ℕ → Option ℕ

@@ -1,6 +1,7 @@
 //! The value of the debugger's expressions over the nodes of a group, and what it is read from.
 //!
-//! `eval` gives the value of an expression (`specs/Value`): a signed number of 64 bits, or undef. The nodes and the variables
+//! `eval` gives the value of an expression (`specs/Value`): a signed number of 64 bits, or undef; `eval_in_event` also knows the
+//! node of the event that led to the position. The nodes and the variables
 //! are a `View` and a `Scope` of the caller's, which contracts see as a list of nodes and as a function (`specs/View`).
 //! `eval_reads` gives the value with the places that it was read from (`specs/Reads`). The law `reads_low` bounds the globals that
 //! are read, and `reads_tell` says that a value stays where none of its places changed. What a line spells is
@@ -20,5 +21,5 @@ pub use expression_text::{
 };
 pub use reads::{Place, Reading, eval_reads};
 pub use steps::Steps;
-pub use value::eval;
+pub use value::{eval, eval_in_event};
 pub use view::{Scope, View};

@@ -12,15 +12,15 @@ use crate::reads::operands::{add_if, evaluates_right, load_of, one_of, total_of,
 use crate::steps::Steps;
 use crate::value::loads::byte_count;
 use crate::value::operators::number;
-use crate::value::places::{clock, events, global, node_of, size};
+use crate::value::places::{clock, events, global, has_ended, last_thread, node_of, size};
 use crate::value::tally::Tally;
 use crate::view::View;
 use expression_text::Expr;
 use std::alloc::{AllocError, Global};
 use std::sync::ledger::Ledger;
 
-/// What an expression can read of a node: a watch page of 4,096 bytes of its memory, a global, its clock and the count of
-/// its events, or the size of its memory.
+/// What an expression can read of a node: a watch page of 4,096 bytes of its memory, a global, what each of its events
+/// changes (its clock, the count of its events, the thread of the last and whether it has ended), or the size of its memory.
 #[derive(Clone, Copy, Debug, PartialEq, Eq)]
 pub enum Place {
     Page { node: u32, page: u32 },
@@ -88,29 +88,39 @@ fn read<V: View>(
         }
         Expr::Load(name, width, x) => {
             let addr = read(x, v, each, places)?;
-            let node = node_of(each, *name);
+            let node = node_of(None, each, *name);
             push_load(v, node, byte_count(*width), addr, places)?;
             Ok(load_of(v, node, *width, addr))
         }
         Expr::Global(name, n) => {
-            let node = node_of(each, *name);
+            let node = node_of(None, each, *name);
             push_global(node, *n, places)?;
             Ok(global(v, node, *n))
         }
         Expr::Clock(name) => {
-            let node = node_of(each, *name);
+            let node = node_of(None, each, *name);
             push_motion(node, places)?;
             Ok(clock(v, node))
         }
         Expr::Events(name) => {
-            let node = node_of(each, *name);
+            let node = node_of(None, each, *name);
             push_motion(node, places)?;
             Ok(events(v, node))
         }
         Expr::Size(name) => {
-            let node = node_of(each, *name);
+            let node = node_of(None, each, *name);
             push_size(node, places)?;
             Ok(size(v, node))
+        }
+        Expr::LastThread(name) => {
+            let node = node_of(None, each, *name);
+            push_motion(node, places)?;
+            Ok(last_thread(v, node))
+        }
+        Expr::HasEnded(name) => {
+            let node = node_of(None, each, *name);
+            push_motion(node, places)?;
+            Ok(has_ended(v, node))
         }
     }
 }

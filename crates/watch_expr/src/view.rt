@@ -1,7 +1,7 @@
 // What an expression reads of a group, and the variables that it names.
 ghost use Rattle.std.specs.Prelude.{◌≡◌, ◌<◌, ℕ, ℤ, List, Option, Some, length, option_map, slice_get, IfSome};
 ghost use Rattle.guest_memory.specs.Memory.{IsMemory};
-ghost use Rattle.watch_expr.specs.View.{Node, node_clock, events_at, global_at, part_at, size_at};
+ghost use Rattle.watch_expr.specs.View.{Node, node_clock, events_at, global_at, has_ended_at, last_thread_at, part_at, size_at};
 
 /// A group over which an expression is evaluated. It tells a state for each node.
 pub trait View {
@@ -32,6 +32,16 @@ pub trait View {
     fn events(&self, node: u32) -> i64
         requires { node < length (nodes self.now) }
         ensures { events_at (nodes self.now) node ≡ Some result };
+
+    /// The thread of the node's last event. `None` comes exactly before its first.
+    fn last_thread(&self, node: u32) -> Option<i64>
+        requires { node < length (nodes self.now) }
+        ensures { result ≡ last_thread_at (nodes self.now) node };
+
+    /// Whether the node has ended.
+    fn has_ended(&self, node: u32) -> bool
+        requires { node < length (nodes self.now) }
+        ensures { has_ended_at (nodes self.now) node ≡ Some result };
 
     /// The size of the node's memory in Wasm pages: it has whole pages, and at most 256 of them.
     fn pages(&self, node: u32) -> u32

@@ -29,9 +29,14 @@ leaves_group (Goto k) = false
 leaves_group (Step n) = false
 leaves_group (Back n) = false
 leaves_group (Events n) = false
-leaves_group Continue = false
+leaves_group (Continue most) = false
 leaves_group Rcontinue = false
 leaves_group _ = true
+
+-- a command that may change the variables too
+abbrev pub is_walk : LineCommand → Bool
+is_walk (Continue most) = true
+is_walk _ = false
 
 -- the next event was made, and its line written
 pub record WritesNext (old new : GroupPlace) (before after : List ℕ) : Type 0 where

@@ -16,6 +16,7 @@ state_of p = record {
   handlers = p.handlers;
   clock = p.clock;
   events = p.events;
+  last_thread = p.last_thread;
   end = p.end;
 }
 

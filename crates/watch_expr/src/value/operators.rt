@@ -55,7 +55,7 @@ pub(crate) fn is_zero(a: i64) -> bool
     a == 0
 }
 
-fn truth(b: bool) -> i64
+pub(crate) fn truth(b: bool) -> i64
     ensures { result ≡ truth_value b }
 {
     if b { 1 } else { 0 }

@@ -1,18 +1,20 @@
 // What the places of a node hold.
 ghost use Rattle.std.specs.Prelude.{◌≡◌, ◌<◌, None, Some, pos, length, option_and_then, option_map, slice_get, IfNone, IfSome};
-ghost use Rattle.watch_expr.specs.Value.{global_value, resolved_node};
-ghost use Rattle.watch_expr.specs.View.{node_clock, events_at, size_at};
+ghost use Rattle.watch_expr.specs.Value.{global_value, resolved_node, truth_value};
+ghost use Rattle.watch_expr.specs.View.{node_clock, events_at, has_ended_at, last_thread_at, size_at};
 
+use crate::value::operators::truth;
 use crate::view::View;
 use expression_text::NodeName;
 
-// The node with this name, where `each` is the node of the aggregate around it.
-pub(crate) fn node_of(each: Option<u32>, name: NodeName) -> Option<u32>
-    ensures { result ≡ resolved_node each name }
+// The node with this name, where `event` is the node of the position's event, and `each` that of the aggregate around it.
+pub(crate) fn node_of(event: Option<u32>, each: Option<u32>, name: NodeName) -> Option<u32>
+    ensures { result ≡ resolved_node event each name }
 {
     match name {
         NodeName::Named(node) => node,
         NodeName::Each => each,
+        NodeName::OfEvent => event,
     }
 }
 
@@ -39,6 +41,20 @@ pub(crate) fn events<V: View>(v: &V, node: Option<u32>) -> Option<i64>
 {
     let node = within(v, node)?;
     Some(v.events(node))
+}
+
+pub(crate) fn last_thread<V: View>(v: &V, node: Option<u32>) -> Option<i64>
+    ensures { result ≡ option_and_then (last_thread_at (V.nodes v.now)) node }
+{
+    let node = within(v, node)?;
+    v.last_thread(node)
+}
+
+pub(crate) fn has_ended<V: View>(v: &V, node: Option<u32>) -> Option<i64>
+    ensures { result ≡ option_and_then (λ k. option_map truth_value (has_ended_at (V.nodes v.now) k)) node }
+{
+    let node = within(v, node)?;
+    Some(truth(v.has_ended(node)))
 }
 
 pub(crate) fn size<V: View>(v: &V, node: Option<u32>) -> Option<i64>

@@ -4,7 +4,7 @@ use Rattle.embed_cmds.proofs.Choices.{runs_first, runs_second}
 use Rattle.embed_cmds.proofs.Depths.{first_deep, second_deep}
 use Rattle.embed_cmds.proofs.program.Stmt.TheLaws.{the_size}
 use Rattle.embed_cmds.proofs.run.+run.Goals as goal
-use Rattle.embed_cmds.specs.Running.{ProgramState, is_nonzero}
+use Rattle.embed_cmds.specs.Running.{ProgramState, is_nonzero, program_setting}
 
 pub run-run_all-requires : goal.run-run_all-requires
 run-run_all-requires g t c κs within =
@@ -21,11 +21,11 @@ run-run_all-requires-else-is_true g t c κs within =
 pub run-returns-then-is_true : goal.run-returns-then-is_true
 run-returns-then-is_true g t c =
     subst (λ (w : ProgramState). IfOk c.run_all.result (λ stopped. w ≡ record { variables = c.run_all.new.vars; text = c.run_all.new.out; stopped = stopped }))
-    (runs_first c.args.stmt.now c.in-If.x c.in-If.on_true c.in-If.on_false c.in-If.is (g.V.View.nodes c.args.v.now) (record { variables = c.args.vars.now; text = c.args.out.now; stopped = false }) c.deref-then-is_true.result.now c.deref-then-is_true.ensures.value (ap is_nonzero (sym c.eval.ensures) ∙ sym c.is_true.ensures ∙ c.if-is_true.true))
+    (runs_first c.args.stmt.now c.in-If.x c.in-If.on_true c.in-If.on_false c.in-If.is (program_setting (g.V.View.nodes c.args.v.now) c.args.by.node c.args.by.name.now) (record { variables = c.args.vars.now; text = c.args.out.now; stopped = false }) c.deref-then-is_true.result.now c.deref-then-is_true.ensures.value (ap is_nonzero (sym c.eval_in_event.ensures) ∙ sym c.is_true.ensures ∙ c.if-is_true.true))
     c.run_all.ensures
 
 pub run-returns-else-is_true : goal.run-returns-else-is_true
 run-returns-else-is_true g t c =
     subst (λ (w : ProgramState). IfOk c.run_all-else-is_true.result (λ stopped. w ≡ record { variables = c.run_all-else-is_true.new.vars; text = c.run_all-else-is_true.new.out; stopped = stopped }))
-    (runs_second c.args.stmt.now c.in-If.x c.in-If.on_true c.in-If.on_false c.in-If.is (g.V.View.nodes c.args.v.now) (record { variables = c.args.vars.now; text = c.args.out.now; stopped = false }) c.deref-else-is_true.result.now c.deref-else-is_true.ensures.value (ap is_nonzero (sym c.eval.ensures) ∙ sym c.is_true.ensures ∙ c.if-is_true.false))
+    (runs_second c.args.stmt.now c.in-If.x c.in-If.on_true c.in-If.on_false c.in-If.is (program_setting (g.V.View.nodes c.args.v.now) c.args.by.node c.args.by.name.now) (record { variables = c.args.vars.now; text = c.args.out.now; stopped = false }) c.deref-else-is_true.result.now c.deref-else-is_true.ensures.value (ap is_nonzero (sym c.eval_in_event.ensures) ∙ sym c.is_true.ensures ∙ c.if-is_true.false))
     c.run_all-else-is_true.ensures

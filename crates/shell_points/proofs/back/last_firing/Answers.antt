@@ -1,11 +1,12 @@
-use Rattle.std.proofs.Common.{◌≡◌, ◌∙◌, ◌++◌, List, ℕ, codes, map, suc, ap, sym, refl, arith}
+use Rattle.std.proofs.Common.{◌≡◌, ◌∙◌, ◌++◌, List, ℕ, codes, map, suc, ap, subst, sym, refl, arith}
 use Rattle.proc_replay.specs.Replaying.{Replaying}
 use Rattle.group_state.specs.Place.{GroupPlace}
 use Rattle.group_state.specs.Touch.{watch_ticks}
 use Rattle.shell_points.specs.declared.point.Point.{Point as Held}
-use Rattle.shell_points.specs.Firing.{firing_lines, place_at}
+use Rattle.shell_points.specs.Firing.{place_at}
 use Rattle.shell_points.specs.Returning.{return_from}
 use Rattle.shell_points.specs.inside.Meanings.{point, return_of}
+use Rattle.shell_points.specs.inside.Reading.{SaysAt}
 use Rattle.shell_points.proofs.LastFiring.{begins_so, goes_to, later_last}
 use Rattle.shell_points.specs.Watching.{watched_expressions}
 use Rattle.shell_points.proofs.PointReads.{moved_on, read_before, read_now, ticked_from_start}
@@ -56,7 +57,7 @@ positions-preserved g c =
       start = same;
       within = omega (arith, at);
       read = read_now start old.at ps c.in_ok-now.now next went c.in_ok-now.ensures.now;
-      last = later_last start ps next.at c.position-in-positions.result (return_of c.positions.last) (return_of c.later-last.result) c.in_ok-now.text c.position-in-positions.ensures.position
-          (c.in_ok-now.ensures.text ∙ ap (λ (s : List Replaying). firing_lines s ps next.at) same) (i.last ∙ ap (λ (n : ℕ). return_from (place_at start n) ps) (sym at)) c.later-last.ensures;
+      last = later_last start ps next.at c.position-in-positions.result (return_of c.positions.last) (return_of c.later-last.result) c.in_ok-now.said c.position-in-positions.ensures.position
+          (subst (λ (s : List Replaying). SaysAt s next.at ps c.in_ok-now.said) same c.in_ok-now.ensures.said) (i.last ∙ ap (λ (n : ℕ). return_from (place_at start n) ps) (sym at)) c.later-last.ensures;
       ticks = ticked_from_start start (watched_expressions ps) old.at next c.args.steps.now c.positions.steps c.hear_event.new.steps went i.ticks c.in_ok-now.ensures.ticks;
     }

@@ -1,11 +1,11 @@
-use Rattle.std.proofs.Common.{◌≡◌, ◌+◌, ◌-◌, ◌∙◌, ◌++◌, List, ℕ, codes, length, map, not, ap, subst, refl, sym, arith}
+use Rattle.std.proofs.Common.{◌≡◌, ◌+◌, ◌-◌, ◌∙◌, ◌++◌, List, ℕ, codes, length, map, ap, subst, refl, sym, arith}
 use Rattle.group_state.specs.Place.{GroupPlace, events_of_replays}
 use Rattle.group_state.specs.Touch.{watch_ticks}
 use Rattle.shell_points.specs.declared.point.Point.{Point as Held}
 use Rattle.shell_points.specs.inside.Meanings.{WalksThere, point, run_so_far}
-use Rattle.shell_points.specs.Walking.{lines_in, walk_over}
+use Rattle.shell_points.specs.Walking.{lines_in, steps_of, walk_over}
 use Rattle.shell_points.specs.Watching.{watched_expressions}
-use Rattle.shell_points.proofs.PointWalks.{ends_there, goes_on, lines_append, next_place, pauses_there, stays, stops_there}
+use Rattle.shell_points.proofs.PointWalks.{ends_there, goes_further, goes_on, lines_append, next_place, pauses_there, stops_there}
 use Rattle.shell_points.proofs.PointReads.{moved_on, read_before, read_now, ticked, ticks_none}
 use Rattle.shell_points.proofs.walk.walk_there.Goals as goal
 
@@ -16,33 +16,28 @@ positions-init g c = record {
   after = omega arith;
   read = c.in_ok-watching.ensures;
   few = omega (arith, ap lines_in c.requires);
-  ahead = ap (λ (text : List ℕ). walk_over c.args.group.start (map {A = Held} point c.args.points.now) c.args.group.at (length (events_of_replays c.args.group.start) - c.args.group.at) c.args.variables.now text) c.requires;
+  ahead = ap (λ (text : List ℕ). walk_over c.args.group.start (map {A = Held} point c.args.points.now) c.args.group.at (steps_of c.args.most (length (events_of_replays c.args.group.start) - c.args.group.at)) c.args.variables.now text) c.requires;
   ticks = omega (arith, ticks_none c.args.group.start (watched_expressions (map {A = Held} point c.args.points.now)) c.args.group.at);
 }
 
-pub returns-then-is_none-clause-walks : goal.returns-then-is_none-clause-walks
-returns-then-is_none-clause-walks g c =
+pub returns-then-is_over-clause-walks : goal.returns-then-is_over-clause-walks
+returns-then-is_over-clause-walks g c =
     let i = c.positions.invariant in
     let ps = map {A = Held} point c.args.points.now in
-    subst (WalksThere c.args.group ps c.args.variables.now c.in_ok-next.next c.positions.variables) (sym c.in_ok-push_str.ensures.ok)
-    (ends_there c.args.group ps c.args.variables.now c.positions.variables c.positions.group c.in_ok-next.next c.in_ok-next.event c.positions.text
-    (c.is_none.ensures ∙ ap not c.if-is_none.true) c.in_ok-next.ensures i.start i.ahead)
-
-pub returns-then-is_none-clause-ticks : goal.returns-then-is_none-clause-ticks
-returns-then-is_none-clause-ticks g c =
-    let i = c.positions.invariant in
-    let stay = stays c.positions.group c.in_ok-next.next c.in_ok-next.event (c.is_none.ensures ∙ ap not c.if-is_none.true) c.in_ok-next.ensures in
-    i.ticks ∙ ap (λ (p : GroupPlace). c.args.steps.now + watch_ticks c.args.group.start (watched_expressions (map {A = Held} point c.args.points.now)) c.args.group.at (p.at - c.args.group.at)) (sym stay.0)
+    subst (WalksThere c.args.group ps c.args.variables.now c.args.most c.positions.group c.positions.variables) (sym c.in_ok-push_last_word.ensures)
+    (ends_there c.args.group ps c.args.variables.now c.positions.variables c.args.most c.positions.left c.positions.group c.positions.text (sym c.is_over.ensures ∙ c.if-is_over.true) i.start i.ahead)
 
 pub meet_event-requires-clause-moved : goal.meet_event-requires-clause-moved
 meet_event-requires-clause-moved g c =
-    let there = next_place c.args.group c.positions.group c.in_ok-next.next c.in_ok-next.event (c.is_none.ensures ∙ ap not c.if-is_none.false) c.in_ok-next.ensures c.positions.invariant.start in
+    let some = goes_further c.args.group c.positions.group c.positions.left (sym c.is_over.ensures ∙ c.if-is_over.false) c.positions.invariant.start in
+    let there = next_place c.args.group c.positions.group c.in_ok-next.next c.in_ok-next.field-0-1 c.positions.left some c.in_ok-next.ensures c.positions.invariant.start in
     moved_on c.args.group.start c.positions.group.at c.in_ok-next.next there.0
 
 pub meet_event-requires-clause-before : goal.meet_event-requires-clause-before
 meet_event-requires-clause-before g c =
     let i = c.positions.invariant in
-    let there = next_place c.args.group c.positions.group c.in_ok-next.next c.in_ok-next.event (c.is_none.ensures ∙ ap not c.if-is_none.false) c.in_ok-next.ensures i.start in
+    let some = goes_further c.args.group c.positions.group c.positions.left (sym c.is_over.ensures ∙ c.if-is_over.false) i.start in
+    let there = next_place c.args.group c.positions.group c.in_ok-next.next c.in_ok-next.field-0-1 c.positions.left some c.in_ok-next.ensures i.start in
     read_before c.args.group.start c.positions.group.at (map {A = Held} point c.args.points.now) c.positions.watching c.in_ok-next.next there.0 i.read
 
 pub returns-then-treated-clause-walks : goal.returns-then-treated-clause-walks
@@ -50,39 +45,44 @@ returns-then-treated-clause-walks g c =
     let i = c.positions.invariant in
     let ps = map {A = Held} point c.args.points.now in
     let r = run_so_far c.meet_event.new.variables c.in_ok-now.treated in
-    let there = next_place c.args.group c.positions.group c.in_ok-next.next c.in_ok-next.event (c.is_none.ensures ∙ ap not c.if-is_none.false) c.in_ok-next.ensures i.start in
-    subst (WalksThere c.args.group ps c.args.variables.now c.in_ok-next.next c.meet_event.new.variables)
+    let some = goes_further c.args.group c.positions.group c.positions.left (sym c.is_over.ensures ∙ c.if-is_over.false) i.start in
+    let there = next_place c.args.group c.positions.group c.in_ok-next.next c.in_ok-next.field-0-1 c.positions.left some c.in_ok-next.ensures i.start in
+    subst (WalksThere c.args.group ps c.args.variables.now c.args.most c.in_ok-next.next c.meet_event.new.variables)
     (sym (c.in_ok-push_bytes.ensures.ok ∙ ap (λ (b : List ℕ). c.positions.text ++ b) c.bytes.ensures))
-    (stops_there c.args.group ps c.args.variables.now c.positions.variables c.positions.group.at c.in_ok-next.next c.positions.text r there.0 there.1 i.ahead c.in_ok-now.ensures.treated c.if-treated.true)
+    (stops_there c.args.group ps c.args.variables.now c.positions.variables c.args.most c.positions.left c.positions.group.at c.in_ok-next.next c.positions.text r there.0 some i.ahead c.in_ok-now.ensures.treated c.if-treated.true)
 
 pub returns-then-treated-clause-ticks : goal.returns-then-treated-clause-ticks
 returns-then-treated-clause-ticks g c =
     let i = c.positions.invariant in
-    let there = next_place c.args.group c.positions.group c.in_ok-next.next c.in_ok-next.event (c.is_none.ensures ∙ ap not c.if-is_none.false) c.in_ok-next.ensures i.start in
+    let some = goes_further c.args.group c.positions.group c.positions.left (sym c.is_over.ensures ∙ c.if-is_over.false) i.start in
+    let there = next_place c.args.group c.positions.group c.in_ok-next.next c.in_ok-next.field-0-1 c.positions.left some c.in_ok-next.ensures i.start in
     ticked c.args.group.start (watched_expressions (map {A = Held} point c.args.points.now)) c.args.group.at c.positions.group.at c.in_ok-next.next c.args.steps.now c.positions.steps c.meet_event.new.steps
     i.after there.0 i.ticks c.in_ok-now.ensures.ticks
 
-pub returns-then-lines-left-clause-walks : goal.returns-then-lines-left-clause-walks
-returns-then-lines-left-clause-walks g c =
+pub returns-then-lines-room-clause-walks : goal.returns-then-lines-room-clause-walks
+returns-then-lines-room-clause-walks g c =
     let i = c.positions.invariant in
     let ps = map {A = Held} point c.args.points.now in
     let r = run_so_far c.meet_event.new.variables c.in_ok-now.treated in
-    let there = next_place c.args.group c.positions.group c.in_ok-next.next c.in_ok-next.event (c.is_none.ensures ∙ ap not c.if-is_none.false) c.in_ok-next.ensures i.start in
-    subst (WalksThere c.args.group ps c.args.variables.now c.in_ok-next.next c.meet_event.new.variables)
+    let some = goes_further c.args.group c.positions.group c.positions.left (sym c.is_over.ensures ∙ c.if-is_over.false) i.start in
+    let there = next_place c.args.group c.positions.group c.in_ok-next.next c.in_ok-next.field-0-1 c.positions.left some c.in_ok-next.ensures i.start in
+    subst (WalksThere c.args.group ps c.args.variables.now c.args.most c.in_ok-next.next c.meet_event.new.variables)
     (sym (c.in_ok-push_str-2.ensures.ok ∙ ap (λ (t : List ℕ). t ++ codes "paused\n") (c.in_ok-push_bytes.ensures.ok ∙ ap (λ (b : List ℕ). c.positions.text ++ b) c.bytes.ensures)))
-    (pauses_there c.args.group ps c.args.variables.now c.positions.variables c.positions.group.at c.in_ok-next.next c.positions.text r there.0 there.1 i.ahead c.in_ok-now.ensures.treated c.if-treated.false
-    (omega (arith, i.few, c.lines_in-lines.ensures, c.if-lines-left.true)))
+    (pauses_there c.args.group ps c.args.variables.now c.positions.variables c.args.most c.positions.left c.positions.group.at c.in_ok-next.next c.positions.text r there.0 some i.ahead c.in_ok-now.ensures.treated c.if-treated.false
+    (omega (arith, i.few, c.lines_in-lines.ensures, c.if-lines-room.true)))
 
-pub returns-then-lines-left-clause-ticks : goal.returns-then-lines-left-clause-ticks
-returns-then-lines-left-clause-ticks g c =
+pub returns-then-lines-room-clause-ticks : goal.returns-then-lines-room-clause-ticks
+returns-then-lines-room-clause-ticks g c =
     let i = c.positions.invariant in
-    let there = next_place c.args.group c.positions.group c.in_ok-next.next c.in_ok-next.event (c.is_none.ensures ∙ ap not c.if-is_none.false) c.in_ok-next.ensures i.start in
+    let some = goes_further c.args.group c.positions.group c.positions.left (sym c.is_over.ensures ∙ c.if-is_over.false) i.start in
+    let there = next_place c.args.group c.positions.group c.in_ok-next.next c.in_ok-next.field-0-1 c.positions.left some c.in_ok-next.ensures i.start in
     ticked c.args.group.start (watched_expressions (map {A = Held} point c.args.points.now)) c.args.group.at c.positions.group.at c.in_ok-next.next c.args.steps.now c.positions.steps c.meet_event.new.steps
     i.after there.0 i.ticks c.in_ok-now.ensures.ticks
 
 pub positions-smaller : goal.positions-smaller
 positions-smaller g c =
-    let there = next_place c.args.group c.positions.group c.in_ok-next.next c.in_ok-next.event (c.is_none.ensures ∙ ap not c.if-is_none.false) c.in_ok-next.ensures c.positions.invariant.start in
+    let some = goes_further c.args.group c.positions.group c.positions.left (sym c.is_over.ensures ∙ c.if-is_over.false) c.positions.invariant.start in
+    let there = next_place c.args.group c.positions.group c.in_ok-next.next c.in_ok-next.field-0-1 c.positions.left some c.in_ok-next.ensures c.positions.invariant.start in
     omega (arith, ap (λ (p : GroupPlace). p.at) there.0, there.1)
 
 pub positions-preserved : goal.positions-preserved
@@ -94,16 +94,17 @@ positions-preserved g c =
     let ps = map {A = Held} point c.args.points.now in
     let r = run_so_far c.meet_event.new.variables c.in_ok-now.treated in
     let text = c.positions.text in
-    let there = next_place first c.positions.group next c.in_ok-next.event (c.is_none.ensures ∙ ap not c.if-is_none.false) c.in_ok-next.ensures i.start in
+    let some = goes_further first c.positions.group c.positions.left (sym c.is_over.ensures ∙ c.if-is_over.false) i.start in
+    let there = next_place first c.positions.group next c.in_ok-next.field-0-1 c.positions.left some c.in_ok-next.ensures i.start in
     let said : c.push_bytes.new.self ≡ text ++ r.text = c.in_ok-push_bytes.ensures.ok ∙ ap (λ (b : List ℕ). text ++ b) c.bytes.ensures in
     record {
       start = ap (λ (p : GroupPlace). p.start) there.0;
       within = omega (arith, there.1, ap (λ (p : GroupPlace). p.at) there.0);
       after = omega (arith, i.after, ap (λ (p : GroupPlace). p.at) there.0);
       read = read_now first.start at ps c.in_ok-now.now next there.0 c.in_ok-now.ensures.now;
-      few = omega (arith, lines_append text r.text, i.few, c.lines_in-lines.ensures, c.if-lines-left.false, ap lines_in said);
-      ahead = ap (λ (t : List ℕ). walk_over first.start ps next.at (length (events_of_replays first.start) - next.at) r.variables t) said
-          ∙ goes_on first ps c.args.variables.now c.positions.variables at next text r there.0 there.1 i.ahead c.in_ok-now.ensures.treated c.if-treated.false
-          (omega (arith, i.few, c.lines_in-lines.ensures, c.if-lines-left.false));
+      few = omega (arith, lines_append text r.text, i.few, c.lines_in-lines.ensures, c.if-lines-room.false, ap lines_in said);
+      ahead = ap (λ (t : List ℕ). walk_over first.start ps next.at (steps_of c.one_less-left.result (length (events_of_replays first.start) - next.at)) r.variables t) said
+          ∙ goes_on first ps c.args.variables.now c.positions.variables c.args.most c.positions.left at next text r there.0 some i.ahead c.in_ok-now.ensures.treated c.one_less-left.result c.one_less-left.ensures c.if-treated.false
+          (omega (arith, i.few, c.lines_in-lines.ensures, c.if-lines-room.false));
       ticks = ticked first.start (watched_expressions ps) first.at at next c.args.steps.now c.positions.steps c.meet_event.new.steps i.after there.0 i.ticks c.in_ok-now.ensures.ticks;
     }

@@ -47,8 +47,8 @@ returns-then-ends_process-clause-state c =
     let at = taken_is S e (pending_kind S e.thread) w c.requires.legal (ap (λ S'. thread_at S' e.thread) (sym after) ∙ sym c.take.ensures.value ∙ c.in-Some.is) in
     let ends = sym c.ends_process.ensures ∙ c.if-ends_process.true in
     ap awaits_event (c.exit.ensures.state
-    ∙ ap (λ crew. exited_process (with_event_counted (record S' { crew = crew }) e.clock) e.thread w.call.a0) c.in-Some.ensures.some
-    ∙ ap (λ S'. exited_process (with_event_counted (with_thread S' e.thread Lent) e.clock) e.thread w.call.a0) after)
+    ∙ ap (λ crew. exited_process (with_event_counted (record S' { crew = crew }) e.thread e.clock) e.thread w.call.a0) c.in-Some.ensures.some
+    ∙ ap (λ S'. exited_process (with_event_counted (with_thread S' e.thread Lent) e.thread e.clock) e.thread w.call.a0) after)
     ∙ exits S e w c.requires.process.fits c.requires.legal at ends
 
 pub go_on-requires-clause-taken : goal.go_on-requires-clause-taken
@@ -104,6 +104,6 @@ returns-clause-state c =
     let at = taken_is S e (pending_kind S e.thread) w c.requires.legal (ap (λ S'. thread_at S' e.thread) (sym after) ∙ sym c.take.ensures.value ∙ c.in-Some.is) in
     let ends = sym c.ends_process.ensures ∙ c.if-ends_process.false in
     ap awaits_event (c.in_ok-go_on.ensures.state
-    ∙ ap (λ crew. after_running (with_event_counted (record S' { crew = crew }) e.clock) e.thread (with_handler_frame S'.store.«module» (answered_strand w.strand (reply_value w.kind e.reply)) e.signal (handler S'.handlers e.signal))) c.in-Some.ensures.some
+    ∙ ap (λ crew. after_running (with_event_counted (record S' { crew = crew }) e.thread e.clock) e.thread (with_handler_frame S'.store.«module» (answered_strand w.strand (reply_value w.kind e.reply)) e.signal (handler S'.handlers e.signal))) c.in-Some.ensures.some
     ∙ ap (λ S'. goes_out w.kind S' e.thread w.strand e.reply e.signal e.clock) after)
     ∙ goes S e w c.requires.process.fits c.requires.legal at ends
