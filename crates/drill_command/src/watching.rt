@@ -6,9 +6,8 @@ ghost use Rattle.drill_command.specs.inside.Results.{IsWatchedDrill};
 
 use group_state::Group;
 use page_watch::is_same_value;
-use shell_points::NoVariables;
 use std::alloc::{AllocError, Global};
-use watch_expr::{Agg, Expr, NodeName, Width, eval};
+use watch_expr::{Agg, Expr, NoVariables, NodeName, Width, eval};
 
 /// How many events were walked, at how many positions the value became another, and the last value.
 #[derive(Drop)]

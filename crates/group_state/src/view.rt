@@ -1,10 +1,9 @@
 // A group as expressions see it, at its position.
 ghost use Rattle.std.specs.Prelude.{◌≡◌};
 ghost use Rattle.group_state.specs.Nodes.{signed_global};
-ghost use Rattle.guest_process.specs.State.{is_running_end};
 
 use crate::group::{Course, Group};
-use guest_process::{End, Process};
+use guest_process::Process;
 use lib_calls::Entry;
 use page_watch::TouchView;
 use wasm_types::Value;
@@ -18,12 +17,6 @@ pub fn signed_global(value: Value) -> i64
         Value::I32(x) => i64::from(x.cast_signed()),
         Value::I64(x) => x.cast_signed(),
     }
-}
-
-fn is_running(end: End) -> bool
-    ensures { result ≡ is_running_end end }
-{
-    matches!(end, End::Running)
 }
 
 impl<'m, 'a> Group<'m, 'a> {
@@ -78,7 +71,7 @@ impl<'m, 'a> View for Group<'m, 'a> {
     }
 
     fn has_ended(&self, node: u32) -> bool {
-        !is_running(self.at(node).end())
+        self.at(node).has_ended()
     }
 
     fn pages(&self, node: u32) -> u32 {

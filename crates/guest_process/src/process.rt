@@ -1,5 +1,5 @@
 // A process.
-ghost use Rattle.std.specs.Prelude.{◌≡◌, ◌≢◌, ◌<◌, ◌≤◌, ◌^◌, IfOk, Err, None, Some, Option, option_copied, option_map, length, slice_get};
+ghost use Rattle.std.specs.Prelude.{◌≡◌, ◌≢◌, ◌<◌, ◌≤◌, ◌^◌, IfOk, Err, None, Some, Option, not, option_copied, option_map, length, slice_get};
 ghost use Rattle.lamport_tag.specs.Limits.{most_processes};
 ghost use Rattle.coop_threads.specs.Crew.{status_of};
 ghost use Rattle.guest_memory.specs.Memory.{stamp_of};
@@ -15,6 +15,7 @@ ghost use Rattle.guest_process.specs.Legal.{reason};
 ghost use Rattle.guest_process.specs.Next.{next};
 ghost use Rattle.guest_process.specs.Meanings.{able, handles_after, plain_need, refused_for};
 ghost use Rattle.guest_process.specs.Start.{start};
+ghost use Rattle.guest_process.specs.State.{is_running};
 
 use crate::answer::handler;
 use crate::body::Body;
@@ -214,6 +215,13 @@ impl<'m> Process<'m> {
         ensures { result ≡ self.now.last_thread }
     {
         self.body.last_thread
+    }
+
+    /// Whether the process has ended.
+    pub fn has_ended(&self) -> bool
+        ensures { result ≡ not (is_running self.now) }
+    {
+        !self.body.is_running()
     }
 
     /// How many threads were made.

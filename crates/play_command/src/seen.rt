@@ -4,7 +4,7 @@ ghost use Rattle.group_record.specs.Live.{live_count, live_states};
 
 use group_record::LiveGroup;
 use group_state::signed_global;
-use watch_expr::{Scope, View};
+use watch_expr::View;
 
 /// The processes of a group as they are now, each of which is there.
 #[derive(Clone, Copy)]
@@ -41,21 +41,15 @@ impl<'a, 'm> View for SeenGroup<'a, 'm> {
         self.live.process(node).events() as i64
     }
 
+    fn last_thread(&self, node: u32) -> Option<i64> {
+        Some(i64::from(self.live.process(node).last_thread()?))
+    }
+
+    fn has_ended(&self, node: u32) -> bool {
+        self.live.process(node).has_ended()
+    }
+
     fn pages(&self, node: u32) -> u32 {
         self.live.process(node).memory().size()
-    }
-}
-
-/// No variable has a value.
-#[derive(Clone, Copy)]
-pub(crate) struct NoVariables;
-
-impl Scope for NoVariables {
-    ghost use Rattle.watch_expr.specs.Reads.{no_variables};
-
-    ghost variables = { λ _. no_variables };
-
-    fn value(&self, _: &[u8]) -> Option<i64> {
-        None
     }
 }

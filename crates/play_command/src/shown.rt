@@ -9,7 +9,7 @@ ghost use Rattle.play_command.specs.Play.{bytes_line, datagram_line};
 ghost use Rattle.play_command.specs.inside.Playing.{IsUnderWay};
 ghost use Rattle.play_command.specs.inside.Shown.{Shows, SumsUp, node_within};
 
-use crate::seen::{NoVariables, SeenGroup};
+use crate::seen::SeenGroup;
 use embed_cmds::push_value;
 use fri_bytes::Bytes;
 use fri_text::Text;
@@ -20,7 +20,7 @@ use guest_process::Process;
 use lib_calls::memory_part;
 use record_command::push_process_line;
 use std::alloc::{AllocError, Global};
-use watch_expr::{Expr, eval};
+use watch_expr::{Expr, NoVariables, eval};
 
 /// A line for each process, as `record` says of it.
 pub(crate) fn show_processes(

@@ -10,13 +10,11 @@ use Rattle.group_state.specs.Moves.{last_event_of}
 use Rattle.group_state.specs.Place.{GroupPlace}
 use Rattle.group_state.specs.Nodes.{nodes_at}
 use Rattle.watch_expr.specs.Expression.{Expression}
+use Rattle.watch_expr.specs.Reads.{no_variables}
 use Rattle.watch_expr.specs.Value.{value, value_in_event}
 use Rattle.embed_cmds.specs.Running.{is_nonzero, value_word}
 use Rattle.page_watch.specs.Firing.{is_same_value}
 use Rattle.shell_points.specs.Points.{Break, Point, Trigger, Watch}
-
-abbrev pub no_variable : List ℕ → Option ℤ
-no_variable name = None
 
 -- the group at position k
 abbrev pub place_at : List Replaying → ℕ → GroupPlace
@@ -26,7 +24,7 @@ place_at start k = record { start = start; at = k }
 
 -- the value of an expression at position k
 abbrev pub value_at_position : List Replaying → Expression → ℕ → Option ℤ
-value_at_position start x k = value (nodes_at (place_at start k)) no_variable x
+value_at_position start x k = value (nodes_at (place_at start k)) no_variables x
 
 -- the value of a watchpoint's expression at position k; a breakpoint reads nothing
 abbrev pub reading : List Replaying → ℕ → Trigger → Option ℤ
@@ -69,7 +67,7 @@ node_of_event place = option_map (λ (e : NodeEvent Entry). e.node) (last_event_
 
 -- the value of a condition
 abbrev pub condition_value : GroupPlace → Expression → Option ℤ
-condition_value place x = value_in_event (nodes_at place) no_variable (node_of_event place) x
+condition_value place x = value_in_event (nodes_at place) no_variables (node_of_event place) x
 
 -- a condition is met where its value is a number other than 0; one that is left out is met everywhere
 abbrev pub meets_condition : GroupPlace → Option Expression → Bool

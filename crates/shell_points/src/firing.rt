@@ -13,20 +13,7 @@ use group_state::{Group, GroupEvent};
 use lib_calls::Kind;
 use page_watch::is_same_value;
 use std::alloc::AllocError;
-use watch_expr::{Expr, Scope, eval_in_event};
-
-/// A scope in which no variable has a value.
-pub struct NoVariables;
-
-impl Scope for NoVariables {
-    ghost use Rattle.shell_points.specs.Firing.{no_variable};
-
-    ghost variables = { λ _. no_variable };
-
-    fn value(&self, _: &[u8]) -> Option<i64> {
-        None
-    }
-}
+use watch_expr::{Expr, NoVariables, eval_in_event};
 
 // Whether an event is of this kind and of this node, where they are given.
 fn is_of(node: Option<u32>, kind: Option<Kind>, event: &GroupEvent<'_>) -> bool

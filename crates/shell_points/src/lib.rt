@@ -19,7 +19,6 @@ mod points_run;
 mod walk;
 mod watching;
 
-pub use firing::NoVariables;
 pub use point::Trigger;
 pub use points::Points;
 pub use walk::WalkEnd;

@@ -22,4 +22,4 @@ pub use expression_text::{
 pub use reads::{Place, Reading, eval_reads};
 pub use steps::Steps;
 pub use value::{eval, eval_in_event};
-pub use view::{Scope, View};
+pub use view::{NoVariables, Scope, View};

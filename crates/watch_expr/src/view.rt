@@ -58,3 +58,16 @@ pub trait Scope {
     fn value(&self, name: &[u8]) -> Option<i64>
         ensures { result ≡ variables self.now name.now };
 }
+
+/// A scope in which no variable has a value.
+pub struct NoVariables;
+
+impl Scope for NoVariables {
+    ghost use Rattle.watch_expr.specs.Reads.{no_variables};
+
+    ghost variables = { λ _. no_variables };
+
+    fn value(&self, _: &[u8]) -> Option<i64> {
+        None
+    }
+}

@@ -2,7 +2,7 @@ use Rattle.std.proofs.Common.{◌≡◌, ◌∙◌, ◌+◌, ◌≤◌, Bool, tr
 use Rattle.std.specs.Prelude.{is_some}
 use Rattle.group_state.specs.Nodes.{nodes_at}
 use Rattle.page_watch.specs.Firing.{is_same_value}
-use Rattle.shell_points.specs.Firing.{no_variable}
+use Rattle.watch_expr.specs.Reads.{no_variables}
 use Rattle.watch_expr.specs.Value.{value}
 use Rattle.drill_command.proofs.PositionWalk.{all_watched, fired_within, moves_on, one_walked}
 use Rattle.group_state.specs.Place.{GroupPlace}
@@ -27,7 +27,7 @@ positions-preserved-then-not-is_same_value c =
     let some : is_some c.in_ok-next.event ≡ true = c.is_none.ensures ∙ ap not c.if-is_none.false in
     let other : not (is_same_value c.positions.last c.eval-now.result) ≡ true = ap not (sym c.is_same_value.ensures ∙ c.if-not-is_same_value.true) in (
       one_walked c.args.group c.positions.here c.in_ok-next.next c.in_ok-next.event c.positions.firings (c.positions.firings + 1) c.positions.last c.eval-now.result
-          c.positions.invariant.0 c.in_ok-next.ensures some (c.eval-now.ensures ∙ ap (value (nodes_at c.in_ok-next.next) no_variable) c.positions.invariant.1) (sym (ap (λ (b : Bool). c.positions.firings + cond b 1 0) other)),
+          c.positions.invariant.0 c.in_ok-next.ensures some (c.eval-now.ensures ∙ ap (value (nodes_at c.in_ok-next.next) no_variables) c.positions.invariant.1) (sym (ap (λ (b : Bool). c.positions.firings + cond b 1 0) other)),
       c.positions.invariant.1,
     )
 
@@ -37,6 +37,6 @@ positions-preserved c =
     let same : not (is_same_value c.positions.last c.eval-now.result) ≡ false = ap not (sym c.is_same_value.ensures ∙ c.if-not-is_same_value.false) in
     let none_more : c.positions.firings ≡ c.positions.firings + 0 = omega arith in (
       one_walked c.args.group c.positions.here c.in_ok-next.next c.in_ok-next.event c.positions.firings c.positions.firings c.positions.last c.eval-now.result
-          c.positions.invariant.0 c.in_ok-next.ensures some (c.eval-now.ensures ∙ ap (value (nodes_at c.in_ok-next.next) no_variable) c.positions.invariant.1) (none_more ∙ sym (ap (λ (b : Bool). c.positions.firings + cond b 1 0) same)),
+          c.positions.invariant.0 c.in_ok-next.ensures some (c.eval-now.ensures ∙ ap (value (nodes_at c.in_ok-next.next) no_variables) c.positions.invariant.1) (none_more ∙ sym (ap (λ (b : Bool). c.positions.firings + cond b 1 0) same)),
       c.positions.invariant.1,
     )
