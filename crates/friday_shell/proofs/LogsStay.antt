@@ -1,14 +1,16 @@
 -- No command changes the logs of a session.
 use Rattle.std.proofs.Common.{◌≡◌, ℕ, Bool, true, false, cond, ◌||◌, nat_le, nat_lt, List, length, Option, Some, None, ℤ, refl}
+use Rattle.std.specs.Prelude.{slice_get}
 use Rattle.call_table.specs.declared.kind.Kind.{Kind}
-use Rattle.group_state.specs.Place.{events_of_replays}
+use Rattle.guest_process.specs.State.{State}
+use Rattle.group_state.specs.Place.{events_of_replays, states_of_nodes}
 use Rattle.embed_cmds.specs.Faulty.{set_names}
 use Rattle.watch_expr.specs.Expression.{Expression}
 use Rattle.embed_cmds.specs.Tree.{Statements}
 use Rattle.embed_cmds.specs.Variables.{is_mentioned, mention_all}
-use Rattle.shell_lines.specs.Lines.{At, Back, Break, LineCommand, Continue, Delete, Do, Events, Everywhere, Goto, ListPoints, ListVariables, Mem, Print, Quit, Rcontinue, WhichNodes, SetTo, Step, Threads, Watch}
+use Rattle.shell_lines.specs.Lines.{At, Back, Break, LineCommand, Continue, Delete, Do, Events, Everywhere, Frames, Goto, ListPoints, ListVariables, Mem, Print, Quit, Rcontinue, WhichNodes, SetTo, Step, Threads, Watch}
 use Rattle.shell_points.specs.Points.{Trigger, has_point, index_of_point}
-use Rattle.friday_shell.specs.Answer.{LineAnswer, adds_point, attaches_at, breaks_at, command_answer, deletes_point, most_points, most_variables, sets_variable}
+use Rattle.friday_shell.specs.Answer.{LineAnswer, adds_point, attaches_at, breaks_at, command_answer, deletes_point, frames_in, shows_frames, most_points, most_variables, sets_variable}
 use Rattle.friday_shell.specs.Points.{SessionState}
 
 module _ (state : SessionState) where
@@ -37,6 +39,14 @@ module _ (state : SessionState) where
   breaking line kind condition (At None) = refl
   breaking line kind condition (At (Some n)) = adding line _ condition
 
+  framing : (t : ℕ) (node : Option ℕ) → Keeps (shows_frames state node t)
+  framing t None = refl
+  framing t (Some n) = by (slice_get (states_of_nodes state.place.start state.place.at) n)
+    where
+      by : (S : Option State) → Keeps (frames_in state t S)
+      by None = refl
+      by (Some S) = either (nat_lt t (length S.crew.threads)) _ _ refl refl
+
   pub kept_start : (line : List ℕ) (c : LineCommand) → Keeps (command_answer state line c)
   kept_start line (Goto k) = either (nat_le k (length (events_of_replays state.place.start))) _ _ refl refl
   kept_start line (Step n) = refl
@@ -44,6 +54,7 @@ module _ (state : SessionState) where
   kept_start line (Print x) = refl
   kept_start line (Mem n addr len) = refl
   kept_start line (Threads n) = refl
+  kept_start line (Frames n t) = framing t n
   kept_start line (Events n) = refl
   kept_start line (Watch x condition) = adding line _ condition
   kept_start line (Break scope kind condition) = breaking line kind condition scope

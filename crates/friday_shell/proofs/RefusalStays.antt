@@ -2,15 +2,17 @@
 use Rattle.std.proofs.Common.{◌≡◌, ℕ, zero, suc, ◌+◌, ◌/◌, ◌%◌, ◌<◌, Bool, true, false, cond, ◌&&◌, ◌||◌, nat_eq, nat_le, nat_lt, List, [], ◌∷◌, ◌++◌, length, take, drop, Option, Some, None, bytes_eq, codes, decimal, ℤ, inl, inr, refl, sym, ap, ◌∙◌, arith}
 use Rattle.std.proofs.lemmas.Bool.{cases_Bool, eqb-true, ltb-true, ltb-false, lt-ltb}
 use Rattle.std.specs.Fmt.{digit_glyph, digits, digits_onto}
+use Rattle.std.specs.Prelude.{slice_get}
 use Rattle.call_table.specs.declared.kind.Kind.{Kind}
 use Rattle.group_state.specs.Moves.{last_event_of}
-use Rattle.group_state.specs.Place.{GroupPlace, events_of_replays, node_names}
+use Rattle.guest_process.specs.State.{State}
+use Rattle.group_state.specs.Place.{GroupPlace, events_of_replays, node_names, states_of_nodes}
 use Rattle.group_texts.specs.Texts.{event_ending, position_line}
 use Rattle.embed_cmds.specs.Faulty.{set_names}
 use Rattle.watch_expr.specs.Expression.{Expression}
 use Rattle.embed_cmds.specs.Tree.{Statements}
 use Rattle.embed_cmds.specs.Variables.{is_mentioned, mention_all}
-use Rattle.shell_lines.specs.Lines.{At, Back, Break, LineCommand, Continue, Delete, Do, Events, Everywhere, Goto, ListPoints, ListVariables, Mem, Print, Quit, Rcontinue, WhichNodes, SetTo, Step, Threads, Watch}
+use Rattle.shell_lines.specs.Lines.{At, Back, Break, LineCommand, Continue, Delete, Do, Events, Everywhere, Frames, Goto, ListPoints, ListVariables, Mem, Print, Quit, Rcontinue, WhichNodes, SetTo, Step, Threads, Watch}
 use Rattle.shell_lines.specs.Meaning.{Does, LineMeaning, Refuses, Silent, line_meaning, trimmed}
 use Rattle.shell_lines.specs.Refusals.{refusal_line}
 use Rattle.shell_lines.specs.declared.refusal.LineRefusal.{LineRefusal}
@@ -19,7 +21,7 @@ use Rattle.shell_points.specs.Firing.{place_at}
 use Rattle.shell_points.specs.Points.{Trigger, has_point, index_of_point}
 use Rattle.shell_points.specs.Returning.{return_from}
 use Rattle.shell_points.specs.Walking.{Walk, walk_from}
-use Rattle.friday_shell.specs.Answer.{LineAnswer, adds_point, answer_of_meaning, arrives_at_position, attaches_at, breaks_at, command_answer, deletes_point, most_points, most_variables, says_text, sets_variable, walks_on}
+use Rattle.friday_shell.specs.Answer.{LineAnswer, adds_point, answer_of_meaning, arrives_at_position, attaches_at, breaks_at, command_answer, deletes_point, frames_in, shows_frames, most_points, most_variables, says_text, sets_variable, walks_on}
 use Rattle.friday_shell.specs.Laws.{RefusedStays}
 use Rattle.friday_shell.specs.Points.{SessionState}
 
@@ -124,6 +126,7 @@ refusal_says_none refusal.NoPoint = refl
 refusal_says_none refusal.NoPosition = refl
 refusal_says_none refusal.TooLong = refl
 refusal_says_none refusal.TooMany = refl
+refusal_says_none refusal.NoThread = refl
 
 -- no refusal ends with a position
 no_position : (front : List ℕ) (place : GroupPlace) (why : LineRefusal) → front ++ position_line place ≡ refusal_line why → ⊥
@@ -142,6 +145,7 @@ first_byte refusal.NoPoint = refl
 first_byte refusal.NoPosition = refl
 first_byte refusal.TooLong = refl
 first_byte refusal.TooMany = refl
+first_byte refusal.NoThread = refl
 
 other_text : (text : List ℕ) (why : LineRefusal) → (head text ≡ 63 → ⊥) → text ≡ refusal_line why → ⊥
 other_text text why other e = other (ap head e ∙ first_byte why)
@@ -191,6 +195,14 @@ module _ (state : SessionState) where
   breaking line kind condition (At None) = same []
   breaking line kind condition (At (Some n)) = adding line _ condition
 
+  framing : (t : ℕ) (node : Option ℕ) → Stays (shows_frames state node t)
+  framing t None = same []
+  framing t (Some n) = by (slice_get (states_of_nodes state.place.start state.place.at) n)
+    where
+      by : (S : Option State) → Stays (frames_in state t S)
+      by None = same []
+      by (Some S) = either (nat_lt t (length S.crew.threads)) _ _ (same _) (same _)
+
   commanding : (line : List ℕ) (c : LineCommand) → Stays (command_answer state line c)
   commanding line (Goto k) = either (nat_le k (length (events_of_replays state.place.start))) _ _ (arriving [] k) (same _)
   commanding line (Step n) = arriving [] _
@@ -198,6 +210,7 @@ module _ (state : SessionState) where
   commanding line (Print x) = same _
   commanding line (Mem n addr len) = same _
   commanding line (Threads n) = same _
+  commanding line (Frames n t) = framing t n
   commanding line (Events n) = same _
   commanding line (Watch x condition) = adding line _ condition
   commanding line (Break scope kind condition) = breaking line kind condition scope

@@ -4,17 +4,18 @@ use Rattle.std.specs.List.{flat_map}
 use Rattle.fri_text.specs.Hex.{hex_word}
 use Rattle.call_table.specs.declared.kind.Kind.{Kind}
 use Rattle.proc_replay.specs.Replaying.{Replaying}
+use Rattle.guest_process.specs.Meanings.{thread_frames}
 use Rattle.guest_process.specs.State.{State}
 use Rattle.watch_expr.specs.Expression.{Expression}
 use Rattle.watch_expr.specs.View.{bytes_of_node}
 use Rattle.group_state.specs.Place.{GroupPlace, events_of_replays, node_names, states_of_nodes}
 use Rattle.group_state.specs.Nodes.{nodes_at}
-use Rattle.group_texts.specs.Texts.{last_lines, node_name, position_line, process_lines}
+use Rattle.group_texts.specs.Texts.{frames_line, last_lines, node_name, position_line, process_lines}
 use Rattle.embed_cmds.specs.Faulty.{set_names}
 use Rattle.embed_cmds.specs.Running.{value_in, value_word}
 use Rattle.embed_cmds.specs.Tree.{Statements}
 use Rattle.embed_cmds.specs.Variables.{Variable, is_mentioned, mention_all, with_value}
-use Rattle.shell_lines.specs.Lines.{At, Back, Break, LineCommand, Continue, Delete, Do, Events, Everywhere, Goto, ListPoints, ListVariables, Mem, Print, Quit, Rcontinue, WhichNodes, SetTo, Step, Threads, Watch}
+use Rattle.shell_lines.specs.Lines.{At, Back, Break, LineCommand, Continue, Delete, Do, Events, Everywhere, Frames, Goto, ListPoints, ListVariables, Mem, Print, Quit, Rcontinue, WhichNodes, SetTo, Step, Threads, Watch}
 use Rattle.shell_lines.specs.Meaning.{Does, LineMeaning, Refuses, Silent, line_meaning, trimmed}
 use Rattle.shell_lines.specs.Refusals.{refusal_line}
 use Rattle.shell_lines.specs.declared.refusal.LineRefusal.{LineRefusal}
@@ -69,6 +70,15 @@ text_of_state name (Some S) = process_lines name S
 abbrev pub threads_of : GroupPlace → Option ℕ → List ℕ
 threads_of place None = []
 threads_of place (Some n) = text_of_state (node_name place.start n) (slice_get (states_of_nodes place.start place.at) n)
+
+abbrev pub frames_in : SessionState → ℕ → Option State → LineAnswer
+frames_in state t None = says_text state []
+frames_in state t (Some S) = if nat_lt t (length S.crew.threads) then says_text state (frames_line t (thread_frames S t)) else refuses_line state refusal.NoThread
+
+-- the frames of a thread, where it was made
+abbrev pub shows_frames : SessionState → Option ℕ → ℕ → LineAnswer
+shows_frames state None t = says_text state []
+shows_frames state (Some n) t = frames_in state t (slice_get (states_of_nodes state.place.start state.place.at) n)
 
 -- how many points may be held at once
 abbrev pub most_points : ℕ
@@ -139,6 +149,7 @@ command_answer state line (Back n) = arrives_at_position state [] (state.place.a
 command_answer state line (Print x) = says_text state (value_text (value_in (nodes_at state.place) state.variables x))
 command_answer state line (Mem node addr len) = says_text state (memory_text state.place node addr len)
 command_answer state line (Threads node) = says_text state (threads_of state.place node)
+command_answer state line (Frames node t) = shows_frames state node t
 command_answer state line (Events n) = says_text state (last_lines state.place n)
 command_answer state line (Watch x c) = adds_point state line (OnChange x) c
 command_answer state line (Break scope kind c) = breaks_at state line kind c scope

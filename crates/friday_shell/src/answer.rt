@@ -12,7 +12,7 @@ ghost use Rattle.shell_lines.specs.Spelled.{command as command_meant};
 ghost use Rattle.shell_points.specs.Firing.{place_at};
 
 use crate::points::{add, add_breakpoint, attach, delete};
-use crate::shown::{print, show_memory, show_threads};
+use crate::shown::{print, show_frames, show_memory, show_threads};
 use crate::state::{PointsAndVariables, State, told};
 use crate::variables::{list_variables, set};
 use fri_text::Text;
@@ -90,6 +90,7 @@ fn stay(
         DebuggerCommand::Print(expression) => print(alloc, state, &expression),
         DebuggerCommand::Mem(node, addr, len) => show_memory(alloc, &state.group, node, addr, len),
         DebuggerCommand::Threads(node) => show_threads(alloc, &state.group, node),
+        DebuggerCommand::Frames(node, thread) => show_frames(alloc, state, node, thread),
         DebuggerCommand::Watch(expression, condition) => {
             add(alloc, state, line, Trigger::Watch(expression), condition)
         }

@@ -1,6 +1,7 @@
 // What a command shows of the group, which stays as it is.
 ghost use Rattle.std.specs.Prelude.{◌≡◌, IfOk};
-ghost use Rattle.friday_shell.specs.Answer.{memory_text, threads_of, value_text};
+ghost use Rattle.friday_shell.specs.Answer.{memory_text, shows_frames, threads_of, value_text};
+ghost use Rattle.friday_shell.specs.inside.Meanings.{session_state};
 ghost use Rattle.embed_cmds.specs.Running.{value_in};
 ghost use Rattle.group_state.specs.Nodes.{nodes_at};
 ghost use Rattle.watch_expr.specs.Expression.{expression_of};
@@ -10,8 +11,9 @@ use crate::variables::value_here;
 use embed_cmds::push_value;
 use fri_text::Text;
 use group_state::Group;
-use group_texts::push_process;
+use group_texts::{push_frames, push_process};
 use lib_calls::memory_part;
+use shell_lines::{LineRefusal, refused};
 use std::alloc::{AllocError, Global};
 use watch_expr::Expr;
 
@@ -72,5 +74,29 @@ pub(crate) fn show_threads(
         return Ok(text);
     };
     push_process(alloc, &mut text, group, node, process)?;
+    Ok(text)
+}
+
+/// The frames of a thread, where it was made.
+pub(crate) fn show_frames(
+    alloc: Global,
+    state: &State<'_, '_>,
+    node: Option<u32>,
+    thread: u64,
+) -> Result<Text, AllocError>
+    ensures { IfOk result (λ text. text ≡ (shows_frames (session_state state.now) node thread).text) }
+{
+    let Some(node) = node else {
+        return Ok(Text::new(alloc));
+    };
+    let Some(process) = state.group.process(node) else {
+        return Ok(Text::new(alloc));
+    };
+    if thread >= u64::from(process.threads()) {
+        return refused(alloc, LineRefusal::NoThread);
+    }
+    let frames = process.frames(alloc, thread as u16)?;
+    let mut text = Text::new(alloc);
+    push_frames(&mut text, thread, &frames)?;
     Ok(text)
 }

@@ -1,11 +1,12 @@
 -- Text that is written piece by piece, out of a list.
-use Rattle.std.proofs.Common.{◌≡◌, ℕ, zero, suc, ◌+◌, ◌<◌, List, [], ◌∷◌, ◌++◌, length, take, drop, None, decimal, append_assoc, refl, sym, ap, subst, ◌∙◌, arith}
+use Rattle.std.proofs.Common.{◌≡◌, ℕ, zero, suc, ◌+◌, ◌<◌, List, [], ◌∷◌, ◌++◌, length, get_or, take, drop, None, decimal, append_assoc, refl, sym, ap, subst, ◌∙◌, arith}
 use Rattle.std.specs.Prelude.{slice_get, slice_index_or, option_and_then}
 use Rattle.std.specs.List.{flat_map}
+use Rattle.std.proofs.lemmas.List.{drop_more}
 use Rattle.coop_threads.specs.Crew.{value_of}
 use Rattle.coop_threads.specs.declared.slot.Slot.{Slot}
 use Rattle.guest_process.specs.declared.waiting.Waiting.{Waiting}
-use Rattle.group_texts.specs.Texts.{standing_text, thread_lines}
+use Rattle.group_texts.specs.Texts.{function_text, standing_text, thread_lines}
 
 -- a piece more is written, and the rest still to come
 piece : (text next more rest all : List ℕ) → next ≡ text ++ more → text ++ (more ++ rest) ≡ all → next ++ rest ≡ all
@@ -38,6 +39,15 @@ lines_more text next all ts t u within one is whole =
     let line = append_assoc (decimal t) standing rest ∙ sym (lines_at t t ts within) in
     let done : next ++ rest ≡ all = piece text next (decimal t ++ standing) rest all is (ap (λ (l : List ℕ). text ++ l) line ∙ whole) in
     subst (λ n. next ++ thread_lines n (drop n ts) ≡ all) (sym same) done
+
+-- ---- the functions of frames
+
+-- one function more
+pub functions_more : (text next all : List ℕ) (fs : List ℕ) (i f : ℕ) → i < length fs → f ≡ get_or fs i f → next ≡ text ++ function_text f → text ++ flat_map function_text (drop i fs) ≡ all
+    → next ++ flat_map function_text (drop (i + 1) fs) ≡ all
+functions_more text next all fs i f within here is whole =
+    let behind : drop i fs ≡ f ∷ drop (i + 1) fs = drop_more fs i f within ∙ ap (λ (g : ℕ). g ∷ drop (i + 1) fs) (sym here) in
+    piece text next (function_text f) (flat_map function_text (drop (i + 1) fs)) all is (ap (λ (l : List ℕ). text ++ flat_map function_text l) (sym behind) ∙ whole)
 
 -- ---- a name that is not there
 

@@ -1,5 +1,5 @@
 -- How events, positions and threads are shown.
-use Rattle.std.specs.Prelude.{ℕ, suc, ◌-◌, ◌%◌, ◌^◌, ◌==◌, Bool, true, false, List, [], ◌∷◌, ◌++◌, take, drop, decimal, codes, Option, Some, None, if◌then◌else◌, slice_index_or}
+use Rattle.std.specs.Prelude.{ℕ, suc, ◌-◌, ◌%◌, ◌^◌, ◌==◌, nat_le, Bool, true, false, List, [], ◌∷◌, ◌++◌, length, take, drop, decimal, codes, Option, Some, None, if◌then◌else◌, slice_index_or}
 use Rattle.std.specs.Fmt.{signed_decimal}
 use Rattle.std.specs.Int.{w32, w64, cast_signed}
 use Rattle.std.specs.List.{flat_map}
@@ -113,3 +113,24 @@ threads_text S = if is_running S then thread_lines 0 S.crew.threads else []
 -- how a process stands, and where it runs each of its threads
 abbrev pub process_lines : List ℕ → State → List ℕ
 process_lines name S = name ++ (codes " " ++ (end_text S.end ++ (codes "\n" ++ threads_text S)))
+
+-- ---- frames
+
+-- how many frames are told of a thread at most
+abbrev pub most_frames : ℕ
+most_frames = 64
+
+-- how many more there are
+abbrev pub left_frames : ℕ → List ℕ
+left_frames n = if nat_le n most_frames then [] else codes " and " ++ (decimal (n - most_frames) ++ codes " more")
+
+abbrev pub function_text : ℕ → List ℕ
+function_text f = codes " " ++ decimal f
+
+abbrev pub frames_text : List ℕ → List ℕ
+frames_text [] = codes " ended"
+frames_text (f ∷ fs) = flat_map function_text (take most_frames (f ∷ fs)) ++ left_frames (length (f ∷ fs))
+
+-- the functions of a thread's frames
+abbrev pub frames_line : ℕ → List ℕ → List ℕ
+frames_line t fs = decimal t ++ (codes ":" ++ (frames_text fs ++ codes "\n"))

@@ -13,7 +13,7 @@ use Rattle.wasm_types.specs.Modules.{Module}
 use Rattle.wasm_step.specs.Burst.{BurstResult, burst, most_instructions}
 use Rattle.wasm_step.specs.After.{Halt, Calls, Ends, Traps, Sticks}
 use Rattle.wasm_step.specs.Strand.{Strand, answered_strand, thread_in_handler, is_in}
-use Rattle.wasm_step.specs.Thread.{Thread}
+use Rattle.wasm_stack.specs.Thread.{Thread, functions_of}
 use Rattle.wasm_stack.specs.declared.call.CallSite.{CallSite}
 use Rattle.guest_process.specs.declared.end.End.TheVariants.{Finished, Trapped}
 use Rattle.guest_process.specs.declared.waiting.Waiting.{Waiting}
@@ -40,9 +40,9 @@ abbrev pub stands : State → Thread → CallSite → Kind → Waiting
 stands S thread site kind =
     record { kind = kind; call = call_of_site kind site; strand = record { «module» = S.store.«module»; thread = thread; call = Some site.func } }
 
--- thread t has trapped
-abbrev pub trapped_thread : State → ℕ → Trap → State
-trapped_thread S t trap = record (with_thread S t Over) { end = Trapped trap }
+-- thread t has trapped, with these functions of its frames
+abbrev pub trapped_thread : State → ℕ → Trap → List ℕ → State
+trapped_thread S t trap functions = record (with_thread S t Over) { end = Trapped trap; trap_frames = functions }
 
 abbrev pub is_over_thread : Slot Waiting → Bool
 is_over_thread (Kept w) = false
@@ -60,13 +60,13 @@ finished_if_all_over S = if all_over S.crew.threads then record S { end = Finish
 -- a valid module imports functions of the library alone and never sticks, so that these two cases don't come up
 abbrev pub stopped_at_call : State → ℕ → Thread → CallSite → Option Kind → State
 stopped_at_call S t thread site (Some kind) = with_thread S t (Kept (stands S thread site kind))
-stopped_at_call S t thread site None = trapped_thread S t Unreachable
+stopped_at_call S t thread site None = trapped_thread S t Unreachable []
 
 abbrev pub stopped_thread : State → ℕ → Halt → State
 stopped_thread S t (Calls thread site) = stopped_at_call S t thread site (kind_at S.store.«module» site.func)
 stopped_thread S t Ends = finished_if_all_over (with_thread S t Over)
-stopped_thread S t (Traps trap) = trapped_thread S t trap
-stopped_thread S t Sticks = trapped_thread S t Unreachable
+stopped_thread S t (Traps trap functions) = trapped_thread S t trap functions
+stopped_thread S t Sticks = trapped_thread S t Unreachable []
 
 abbrev pub process_after_burst : State → ℕ → BurstResult → State
 process_after_burst S t run = stopped_thread (record S { store = run.store }) t run.stop
@@ -87,9 +87,14 @@ abbrev pub with_handler_frame : Module → Strand → ℕ → Option ℕ → Opt
 with_handler_frame m strand signal None = Some strand.thread
 with_handler_frame m strand signal (Some func) = if_within_limits (thread_in_handler m strand.thread func signal)
 
-abbrev pub after_running : State → ℕ → Option Thread → State
-after_running S t None = trapped_thread S t Exhausted
-after_running S t (Some thread) = process_after_burst S t (burst instruction_budget thread S.store)
+-- a thread runs with a handler above it, for which there may be no room
+abbrev pub after_running : State → ℕ → Thread → Option Thread → State
+after_running S t thread None = trapped_thread S t Exhausted (functions_of thread)
+after_running S t thread (Some above) = process_after_burst S t (burst instruction_budget above S.store)
+
+-- the thread runs, with the frame of a handler on top where there is one
+abbrev pub runs_handled : State → ℕ → Strand → ℕ → State
+runs_handled S t strand signal = after_running S t strand.thread (with_handler_frame S.store.«module» strand signal (handler S.handlers signal))
 
 -- one event more, of thread t
 abbrev pub with_event_counted : State → ℕ → ℕ → State
@@ -100,7 +105,7 @@ abbrev pub thread_runs_on : Kind → State → ℕ → Strand → ℕ → ℕ �
 thread_runs_on kind S t strand reply signal clock =
     if ends_process kind
     then with_event_counted S t clock
-    else after_running (with_event_counted S t clock) t (with_handler_frame S.store.«module» (answered_strand strand (reply_value kind reply)) signal (handler S.handlers signal))
+    else runs_handled (with_event_counted S t clock) t (answered_strand strand (reply_value kind reply)) signal
 
 -- and the event is over
 abbrev pub thread_goes_on : Kind → State → ℕ → Strand → ℕ → ℕ → ℕ → State

@@ -38,6 +38,7 @@ begun_process m who count store thread = awaits_event (record {
   events = 0;
   last_thread = None;
   end = Running;
+  trap_frames = [];
 })
 
 abbrev pub begun_with : Module → ℕ → ℕ → Option Store → Option Thread → Option State

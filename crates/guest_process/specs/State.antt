@@ -11,7 +11,8 @@ use Rattle.guest_process.specs.declared.waiting.Waiting.{Waiting}
 -- its number and its group's size; its module with memory, globals and table; the threads that were
 -- made, each of which is at a pending call or has ended, and the locks that they hold; the function
 -- that handles each signal; the clock of its last event, or 0; how many events it has had, and the thread of the last;
--- and how it ended
+-- how it ended; and where that was by a trap, the functions of the frames of the thread that trapped, which is that of the
+-- last event, as they were before the instruction that trapped, the innermost first
 pub record State : Type 0 where
   pub who : ℕ
   pub count : ℕ
@@ -22,6 +23,7 @@ pub record State : Type 0 where
   pub events : ℕ
   pub last_thread : Option ℕ
   pub end : End
+  pub trap_frames : List ℕ
 
 -- the thread with this number and its pending call, where it is live
 abbrev pub thread_at : State → ℕ → Option Waiting

@@ -17,7 +17,7 @@ ghost use Rattle.guest_process.specs.inside.Meanings.{IsOfModule, state_of};
 ghost use Rattle.guest_process.specs.Sound.{StandsAtKind};
 ghost use Rattle.guest_process.specs.State.{awaits_event};
 
-use crate::answer::{answered, entered, handler};
+use crate::answer::{answered, entered, handler, has_room};
 use crate::body::Body;
 use crate::judge::ends_process;
 use crate::threads::narrow;
@@ -126,11 +126,12 @@ impl<'m> Body<'m> {
     {
         let strand = answered(waiting, entry.reply)?;
         let func = handler(&self.handlers, entry.signal);
-        match entered(strand, entry.signal, func)? {
-            None => self.trap(entry.thread, Trap::Exhausted),
-            Some(strand) => self.run(entry.thread, strand)?,
+        if !has_room(&strand, func) {
+            self.trap(entry.thread, Trap::Exhausted, strand.functions()?);
+            return Ok(());
         }
-        Ok(())
+        let strand = entered(strand, entry.signal, func)?;
+        self.run(entry.thread, strand)
     }
 
     // A thread that was taken out runs.

@@ -1,5 +1,5 @@
 // How a thread goes on after the answer to its call.
-ghost use Rattle.std.specs.Prelude.{◌≡◌, IfOk, IfSome, None, Some, option_map};
+ghost use Rattle.std.specs.Prelude.{◌≡◌, ℕ, IfOk, IfSome, None, Some, is_some, true};
 ghost use Rattle.wasm_step.specs.Strand.{answered_strand, IsHandler};
 ghost use Rattle.guest_process.specs.GoesOn.{handler as handler_of, with_handler_frame};
 ghost use Rattle.guest_process.specs.Answers.{is_due};
@@ -10,7 +10,7 @@ use crate::waiting::Waiting;
 use lib_calls::Kind;
 use signal_points::Handlers;
 use std::alloc::AllocError;
-use wasm_step::{HandlerError, Strand};
+use wasm_step::Strand;
 use wasm_types::Value;
 
 /// What a reply puts on the operand stack.
@@ -54,24 +54,32 @@ pub(crate) fn handler(handlers: &Handlers, signal: u8) -> Option<u32>
     }
 }
 
-/// The strand with the frame of a handler on top, or nothing where its limits don't allow that.
+/// Whether a strand keeps to its limits with the frame of a handler on top, if there is one.
+pub(crate) fn has_room(strand: &Strand<'_>, func: Option<u32>) -> bool
+    requires { IfSome func (IsHandler strand.now.«module») }
+    ensures { (signal : ℕ) → result ≡ is_some (with_handler_frame strand.now.«module» strand.now signal func) }
+{
+    match func {
+        Some(func) => strand.has_handler_room(func),
+        None => true,
+    }
+}
+
+/// The strand with the frame of a handler on top, if there is one.
 pub(crate) fn entered<'m>(
     strand: Strand<'m>,
     signal: u8,
     func: Option<u32>,
-) -> Result<Option<Strand<'m>>, AllocError>
+) -> Result<Strand<'m>, AllocError>
     requires runs { strand.call ≡ None }
     requires handler { IfSome func (IsHandler strand.«module») }
-    ensures thread { IfOk result (λ o. option_map (λ s. s.thread) o ≡ with_handler_frame strand.entry.«module» strand.entry signal func) }
-    ensures same_module { IfOk result (λ o. IfSome o (λ s. s.«module» ≡ strand.entry.«module»)) }
-    ensures call { IfOk result (λ o. IfSome o (λ s. s.call ≡ None)) }
+    requires room { is_some (with_handler_frame strand.«module» strand signal func) ≡ true }
+    ensures thread { IfOk result (λ s. with_handler_frame strand.entry.«module» strand.entry signal func ≡ Some s.thread) }
+    ensures same_module { IfOk result (λ s. s.«module» ≡ strand.entry.«module») }
+    ensures call { IfOk result (λ s. s.call ≡ None) }
 {
-    let Some(func) = func else {
-        return Ok(Some(strand));
-    };
-    match strand.push_handler(func, u32::from(signal)) {
-        Ok(strand) => Ok(Some(strand)),
-        Err(HandlerError::Exhausted) => Ok(None),
-        Err(HandlerError::NoMemory) => Err(AllocError),
+    match func {
+        Some(func) => strand.push_handler(func, u32::from(signal)),
+        None => Ok(strand),
     }
 }

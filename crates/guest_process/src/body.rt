@@ -32,6 +32,8 @@ pub(crate) struct Body<'m> {
     pub(crate) events: u64,
     pub(crate) last_thread: Option<u16>,
     pub(crate) end: End,
+    /// The functions of the frames of the thread that trapped.
+    pub(crate) trap_frames: Vec<u32>,
 }
 
 impl<'m> Body<'m> {
@@ -44,15 +46,16 @@ impl<'m> Body<'m> {
         }
     }
 
-    /// A thread that was taken out traps.
-    pub(crate) fn trap(&mut self, thread: u16, trap: Trap)
+    /// A thread that was taken out traps, with these functions of its frames.
+    pub(crate) fn trap(&mut self, thread: u16, trap: Trap, functions: Vec<u32>)
         requires { IsTaken self.old.crew thread }
-        ensures state { state_of self.new ≡ trapped_thread (state_of self.old) thread trap }
+        ensures state { state_of self.new ≡ trapped_thread (state_of self.old) thread trap functions.entry.items }
         ensures same_module { self.new.«module» ≡ self.old.«module» }
         ensures store { self.new.store ≡ self.old.store }
     {
         self.crew.end(thread);
         self.end = End::Trapped(trap);
+        self.trap_frames = functions;
     }
 
     /// A thread that was taken out stops where its burst paused.
@@ -70,10 +73,10 @@ impl<'m> Body<'m> {
                     let call = call_of_site(kind, site);
                     self.crew.put(thread, Waiting { kind, call, strand });
                 }
-                None => self.trap(thread, Trap::Unreachable),
+                None => self.trap(thread, Trap::Unreachable, Vec::new(self.alloc)),
             },
             Pause::Ended => self.finish(thread),
-            Pause::Trapped(trap) => self.trap(thread, trap),
+            Pause::Trapped(trap, functions) => self.trap(thread, trap, functions),
         }
     }
 
@@ -105,6 +108,7 @@ impl<'m> Body<'m> {
             events: self.events,
             last_thread: self.last_thread,
             end: self.end,
+            trap_frames: self.trap_frames.clone()?,
         })
     }
 

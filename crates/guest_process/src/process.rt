@@ -13,7 +13,7 @@ ghost use Rattle.guest_process.specs.Answers.{need};
 ghost use Rattle.guest_process.specs.Fits.{StateFits};
 ghost use Rattle.guest_process.specs.Legal.{reason};
 ghost use Rattle.guest_process.specs.Next.{next};
-ghost use Rattle.guest_process.specs.Meanings.{able, handles_after, plain_need, refused_for};
+ghost use Rattle.guest_process.specs.Meanings.{able, handles_after, plain_need, refused_for, thread_frames};
 ghost use Rattle.guest_process.specs.Start.{start};
 ghost use Rattle.guest_process.specs.State.{is_running};
 
@@ -224,6 +224,22 @@ impl<'m> Process<'m> {
         !self.body.is_running()
     }
 
+    /// The functions of the frames of a thread, the innermost first, counted as the module counts them, imports first. The
+    /// thread in whose burst the process trapped has those from before the instruction that trapped. Any other thread that is not
+    /// live or whose process has ended has none.
+    pub fn frames(&self, alloc: Global, thread: u16) -> Result<Vec<u32>, AllocError>
+        ensures { IfOk result (λ frames. frames.items ≡ thread_frames self.now thread) }
+    {
+        match self.body.end {
+            End::Running => match self.body.crew.get(thread) {
+                Some(waiting) => waiting.strand.functions(),
+                None => Ok(Vec::new(alloc)),
+            },
+            End::Trapped(_) if self.body.last_thread == Some(thread) => self.body.trap_frames.clone(),
+            _ => Ok(Vec::new(alloc)),
+        }
+    }
+
     /// How many threads were made.
     pub fn threads(&self) -> u16
         ensures { result ≡ length self.now.crew.threads }
@@ -285,6 +301,7 @@ fn begin<'m>(
         events: 0,
         last_thread: None,
         end: End::Running,
+        trap_frames: Vec::new(alloc),
     };
     let body = Box::new(alloc, body)?;
     Ok(Process { body })

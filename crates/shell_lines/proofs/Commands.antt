@@ -15,9 +15,9 @@ use Rattle.embed_cmds.specs.Laws.{ExactPrograms}
 use Rattle.embed_cmds.specs.Reading.{word_of}
 use Rattle.shell_lines.specs.declared.command.Verb.{Verb}
 use Rattle.shell_lines.specs.declared.command.Verb.TheVariants as verb
-use Rattle.shell_lines.specs.Grammar.{IsCommand, BeginsCommand, StopsAtToken, goto, step_once, step, back_once, back, print, mem, threads, last_events, events, watch, break, delete, attach, list, set, vars, continue, continue_most, rcontinue, quit, IsScope, one_node, everywhere, AreCalls, of_kind, all}
+use Rattle.shell_lines.specs.Grammar.{IsCommand, BeginsCommand, StopsAtToken, goto, step_once, step, back_once, back, print, mem, threads, frames, last_events, events, watch, break, delete, attach, list, set, vars, continue, continue_most, rcontinue, quit, IsScope, one_node, everywhere, AreCalls, of_kind, all}
 use Rattle.shell_lines.specs.Laws.{ExactCommands}
-use Rattle.shell_lines.specs.Lines.{At, Back, Break, LineCommand, Continue, Delete, Do, Events, Everywhere, Goto, ListPoints, ListVariables, Mem, Print, Quit, Rcontinue, WhichNodes, SetTo, Step, Threads, calls_named, command_of_verb, command_spelled, condition_from, ends_at, expression_from, node_called, node_named, number_from, number_in_range, program_from, scope_named, sign_of, then_takes, token_at, verb_of, verb_word, verbs}
+use Rattle.shell_lines.specs.Lines.{At, Back, Break, LineCommand, Continue, Delete, Do, Events, Everywhere, Frames, Goto, ListPoints, ListVariables, Mem, Print, Quit, Rcontinue, WhichNodes, SetTo, Step, Threads, calls_named, command_of_verb, command_spelled, condition_from, ends_at, expression_from, node_called, node_named, number_from, number_in_range, program_from, scope_named, sign_of, then_takes, token_at, verb_of, verb_word, verbs}
 use Rattle.shell_lines.proofs.TokenForms.{Ends, Form, Stop, Then, Tokens, as_form, ends_form, then_form}
 use Rattle.shell_lines.proofs.CommandParts.{Body, Conditioned, Count, Value, body_form, condition_form, count_form, count_or_form, passed, same_bytes, sign_is, value_form}
 use Rattle.shell_lines.proofs.WatchForms.{Watched, watch_form}
@@ -109,6 +109,7 @@ verb_again verb.Back = refl
 verb_again verb.Print = refl
 verb_again verb.Mem = refl
 verb_again verb.Threads = refl
+verb_again verb.Frames = refl
 verb_again verb.Events = refl
 verb_again verb.Watch = refl
 verb_again verb.Break = refl
@@ -206,6 +207,7 @@ Behind names verb.Back = Count 0 most_number (Back 1) Back
 Behind names verb.Print = Value names Print
 Behind names verb.Mem = Then (node_named names) (λ node. Then (number_from 0 most_number) (λ addr. Then (number_from 1 256) (λ len. Ends (Mem node addr len))))
 Behind names verb.Threads = Then (node_named names) (λ node. Ends (Threads node))
+Behind names verb.Frames = Then (node_named names) (λ node. Then (number_from 0 63) (λ t. Ends (Frames node t)))
 Behind names verb.Events = Count 1 1000 (Events 10) Events
 Behind names verb.Watch = Watched names
 Behind names verb.Break = Then (scope_named names) (λ scope. Then calls_named (λ kind. Conditioned names (Break scope kind)))
@@ -243,6 +245,14 @@ module _ (reading : ExactReading) (programs : ExactPrograms) (kinds : (kind : Ki
       (codes "0") 0 (any_number (codes "0") 0 zero_word))
       (codes "a") (node_called names (codes "a")) refl
 
+  frames_form : Form 1 (λ ts. command_of_verb names ts verb.Frames) (Behind names verb.Frames)
+  frames_form =
+      then_form (Option ℕ) (node_named names) (λ node ts. then_takes (token_at (number_from 0 63) ts 2) (λ t. ends_at ts 3 (Frames node t)))
+      1 (λ node. Then (number_from 0 63) (λ t. Ends (Frames node t)))
+      (λ node. then_form ℕ (number_from 0 63) (λ t ts. ends_at ts 3 (Frames node t)) 2 (λ t. Ends (Frames node t)) (λ t. ends_form 3 (Frames node t))
+      (codes "0") 0 (number_again 0 63 (codes "0") 0 zero_word (omega arith) (omega arith)))
+      (codes "a") (node_called names (codes "a")) refl
+
   break_form : Form 1 (λ ts. command_of_verb names ts verb.Break) (Behind names verb.Break)
   break_form =
       then_form WhichNodes (scope_named names) (λ scope ts. then_takes (token_at calls_named ts 2) (λ kind. then_takes (condition_from names ts 3) (λ c. Ok (Break scope kind c))))
@@ -268,6 +278,7 @@ module _ (reading : ExactReading) (programs : ExactPrograms) (kinds : (kind : Ki
   verb_form verb.Print = value_form reading names 1 Print
   verb_form verb.Mem = mem_form
   verb_form verb.Threads = then_form (Option ℕ) (node_named names) (λ node ts. ends_at ts 2 (Threads node)) 1 (λ node. Ends (Threads node)) (λ node. ends_form 2 (Threads node)) (codes "a") (node_called names (codes "a")) refl
+  verb_form verb.Frames = frames_form
   verb_form verb.Events = count_or_form 1 1000 10 Events (codes "1") 1 (number_again 1 1000 (codes "1") 1 one_word (omega arith) (omega arith))
   verb_form verb.Watch = watch_form reading names
   verb_form verb.Break = break_form
@@ -318,6 +329,13 @@ module _ (reading : ExactReading) (programs : ExactPrograms) (kinds : (kind : Ki
   spelled_by verb.Threads [] c h = absurd h
   spelled_by verb.Threads (a ∷ []) c h = let node = node_is names a h.0 h.1 in read_as (threads a node.0) (ap Threads node.1 ∙ h.2)
   spelled_by verb.Threads (a ∷ (t ∷ rest)) c h = absurd h.2
+  spelled_by verb.Frames [] c h = absurd h
+  spelled_by verb.Frames (a ∷ []) c h = absurd h.2
+  spelled_by verb.Frames (a ∷ (b ∷ [])) c h =
+      let node = node_is names a h.0 h.1 in
+      let t = in_range 0 63 (number_of b) h.2.0 h.2.1 in
+      read_as (frames a b h.2.0 node.0 t.0 t.2) (ap (λ (n : Option ℕ). Frames n h.2.0) node.1 ∙ h.2.2)
+  spelled_by verb.Frames (a ∷ (b ∷ (t ∷ rest))) c h = absurd h.2.2
   spelled_by verb.Events [] c h = read_as last_events h
   spelled_by verb.Events (w ∷ []) c h = let n = in_range 1 1000 (number_of w) h.0 h.1 in read_as (events w h.0 n.0 n.1 n.2) h.2
   spelled_by verb.Events (w ∷ (t ∷ rest)) c h = absurd h.2
@@ -361,6 +379,7 @@ module _ (reading : ExactReading) (programs : ExactPrograms) (kinds : (kind : Ki
   is_whole (print {ts} {x} h) = (verb.Print, verb_again verb.Print, (x, h, refl))
   is_whole (mem node from count addr len word e f low high) = (verb.Mem, verb_again verb.Mem, (node_called names node, node_again names node word, (addr, any_number from addr e, (len, number_again 1 256 count len f low high, refl))))
   is_whole (threads node word) = (verb.Threads, verb_again verb.Threads, (node_called names node, node_again names node word, refl))
+  is_whole (frames node word t name e high) = (verb.Frames, verb_again verb.Frames, (node_called names node, node_again names node name, (t, number_again 0 63 word t e (omega arith) high, refl)))
   is_whole last_events = (verb.Events, verb_again verb.Events, refl)
   is_whole (events w n e low high) = (verb.Events, verb_again verb.Events, (n, number_again 1 1000 w n e low high, refl))
   is_whole (watch {ts} {us} {x} {c} h i) = (verb.Watch, verb_again verb.Watch, record { front = ts; back = us; x = x; o = c; parts = refl; watched = h; meets = i; does = refl })

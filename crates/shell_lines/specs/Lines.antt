@@ -10,7 +10,7 @@ use Rattle.watch_expr.specs.Expression.{Expression}
 use Rattle.embed_cmds.specs.Faulty.{lacks_names, nests_aggregates}
 use Rattle.embed_cmds.specs.Reading.{program_of, word_of}
 use Rattle.embed_cmds.specs.Tree.{Statements}
-use Rattle.shell_lines.specs.Limits.{most_shown_bytes, most_shown_events}
+use Rattle.shell_lines.specs.Limits.{most_shown_bytes, most_shown_events, most_thread}
 use Rattle.shell_lines.specs.declared.command.Verb.{Verb}
 use Rattle.shell_lines.specs.declared.command.Verb.TheVariants as verb
 
@@ -28,6 +28,7 @@ pub data LineCommand : Type 0 where
   Print : (x : Expression) → LineCommand
   Mem : (node : Option ℕ) → (addr len : ℕ) → LineCommand
   Threads : (node : Option ℕ) → LineCommand
+  Frames : (node : Option ℕ) → (thread : ℕ) → LineCommand
   Events : (count : ℕ) → LineCommand
   Watch : (x : Expression) → (condition : Option Expression) → LineCommand
   Break : (scope : WhichNodes) → (kind : Option Kind) → (condition : Option Expression) → LineCommand
@@ -49,6 +50,7 @@ verb_word verb.Back = codes "back"
 verb_word verb.Print = codes "print"
 verb_word verb.Mem = codes "mem"
 verb_word verb.Threads = codes "threads"
+verb_word verb.Frames = codes "frames"
 verb_word verb.Events = codes "events"
 verb_word verb.Watch = codes "watch"
 verb_word verb.Break = codes "break"
@@ -63,8 +65,8 @@ verb_word verb.Quit = codes "quit"
 
 abbrev pub verbs : List Verb
 verbs =
-    verb.Goto ∷ verb.Step ∷ verb.Back ∷ verb.Print ∷ verb.Mem ∷ verb.Threads ∷ verb.Events ∷ verb.Watch ∷ verb.Break ∷ verb.Delete ∷ verb.Do
-    ∷ verb.List ∷ verb.Set ∷ verb.Vars ∷ verb.Continue ∷ verb.Rcontinue ∷ verb.Quit ∷ []
+    verb.Goto ∷ verb.Step ∷ verb.Back ∷ verb.Print ∷ verb.Mem ∷ verb.Threads ∷ verb.Frames ∷ verb.Events ∷ verb.Watch ∷ verb.Break ∷ verb.Delete
+    ∷ verb.Do ∷ verb.List ∷ verb.Set ∷ verb.Vars ∷ verb.Continue ∷ verb.Rcontinue ∷ verb.Quit ∷ []
 
 unfoldable pub verb_of : List ℕ → Option Verb
 verb_of text = find (λ v. bytes_eq (verb_word v) text) verbs
@@ -174,6 +176,8 @@ command_of_verb names texts verb.Mem =
     then_takes (token_at (node_named names) texts 1) (λ node. then_takes (token_at (number_from 0 most_number) texts 2) (λ addr.
     then_takes (token_at (number_from 1 most_shown_bytes) texts 3) (λ len. ends_at texts 4 (Mem node addr len))))
 command_of_verb names texts verb.Threads = then_takes (token_at (node_named names) texts 1) (λ node. ends_at texts 2 (Threads node))
+command_of_verb names texts verb.Frames =
+    then_takes (token_at (node_named names) texts 1) (λ node. then_takes (token_at (number_from 0 most_thread) texts 2) (λ t. ends_at texts 3 (Frames node t)))
 command_of_verb names texts verb.Events = then_takes (count_or 1 most_shown_events 10 texts) (λ n. ends_at texts 2 (Events n))
 command_of_verb names texts verb.Watch =
     then_takes (expression_before names texts 1) (λ p. then_takes (condition_from names texts p.1) (λ c. Ok (Watch p.0 c)))
@@ -219,6 +223,7 @@ has_nested (Step n) = false
 has_nested (Back n) = false
 has_nested (Mem place addr len) = false
 has_nested (Threads place) = false
+has_nested (Frames place thread) = false
 has_nested (Events n) = false
 has_nested Quit = false
 
@@ -240,6 +245,7 @@ names_none (Continue n) = false
 names_none Rcontinue = false
 names_none (Mem node addr len) = is_none node
 names_none (Threads node) = is_none node
+names_none (Frames node thread) = is_none node
 names_none (Goto k) = false
 names_none (Step n) = false
 names_none (Back n) = false
@@ -263,5 +269,6 @@ watches_variable (Step n) = false
 watches_variable (Back n) = false
 watches_variable (Mem place addr len) = false
 watches_variable (Threads place) = false
+watches_variable (Frames place thread) = false
 watches_variable (Events n) = false
 watches_variable Quit = false

@@ -9,7 +9,7 @@ use Rattle.shell_lines.specs.declared.command.WhichNodes.{WhichNodes as ScopeSpe
 use Rattle.shell_lines.specs.declared.command.WhichNodes.TheVariants as scopes
 use Rattle.shell_lines.specs.declared.line.Line.{Line}
 use Rattle.shell_lines.specs.declared.line.Line.TheVariants as line
-use Rattle.shell_lines.specs.Lines.{At, Back, Break, LineCommand, Continue, Delete, Do, Events, Everywhere, Goto, ListPoints, ListVariables, Mem, Print, Quit, Rcontinue, WhichNodes, SetTo, Step, Threads, Watch}
+use Rattle.shell_lines.specs.Lines.{At, Back, Break, LineCommand, Continue, Delete, Do, Events, Everywhere, Frames, Goto, ListPoints, ListVariables, Mem, Print, Quit, Rcontinue, WhichNodes, SetTo, Step, Threads, Watch}
 use Rattle.shell_lines.specs.Meaning.{Does, LineMeaning, Refuses, Silent}
 
 abbrev pub scope : ScopeSpelled → WhichNodes
@@ -26,6 +26,7 @@ command (spelled.Back count) = Back count
 command (spelled.Print x) = Print (expression_of x)
 command (spelled.Mem node addr len) = Mem node addr len
 command (spelled.Threads node) = Threads node
+command (spelled.Frames node thread) = Frames node thread
 command (spelled.Events count) = Events count
 command (spelled.Watch x c) = Watch (expression_of x) (condition c)
 command (spelled.Break place kind c) = Break (scope place) kind (condition c)

@@ -135,6 +135,7 @@ fn names_none(spelled: &DebuggerCommand) -> bool
         DebuggerCommand::Do(_, program) => program_faults(program).no_node,
         DebuggerCommand::Mem(node, ..) => node.is_none(),
         DebuggerCommand::Threads(node) => node.is_none(),
+        DebuggerCommand::Frames(node, _) => node.is_none(),
         DebuggerCommand::Break(scope, _, condition) => {
             scopes_none(*scope) || condition_faults(condition).no_node
         }

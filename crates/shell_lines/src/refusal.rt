@@ -17,6 +17,7 @@ pub enum LineRefusal {
     NoPosition,
     TooLong,
     TooMany,
+    NoThread,
 }
 
 /// The line that says so.
@@ -37,6 +38,7 @@ pub fn refused(alloc: Global, refusal: LineRefusal) -> Result<Text, AllocError>
         LineRefusal::NoPosition => text.push_str("? 7 no such position")?,
         LineRefusal::TooLong => text.push_str("? 8 line too long")?,
         LineRefusal::TooMany => text.push_str("? 9 too many")?,
+        LineRefusal::NoThread => text.push_str("? 13 no such thread")?,
     }
     text.push_str("\n")?;
     Ok(text)

@@ -19,16 +19,20 @@ use watch_expr::{ExprError, MOST_NUMBER, Tokens};
 // How many bytes of a memory one line shows at most.
 const MOST_SHOWN_BYTES: u64 = 256;
 
+// The greatest number of a thread.
+const MOST_THREAD: u64 = 63;
+
 // How many events one line shows at most.
 const MOST_SHOWN_EVENTS: u64 = 1000;
 
-const VERBS: [Verb; 17] = [
+const VERBS: [Verb; 18] = [
     Verb::Goto,
     Verb::Step,
     Verb::Back,
     Verb::Print,
     Verb::Mem,
     Verb::Threads,
+    Verb::Frames,
     Verb::Events,
     Verb::Watch,
     Verb::Break,
@@ -55,6 +59,7 @@ impl Verb {
             Verb::Print => "print",
             Verb::Mem => "mem",
             Verb::Threads => "threads",
+            Verb::Frames => "frames",
             Verb::Events => "events",
             Verb::Watch => "watch",
             Verb::Break => "break",
@@ -113,6 +118,7 @@ fn read_behind(
             let node = read_node(tokens, 1, names)?;
             ending(tokens, 2, DebuggerCommand::Threads(node))
         }
+        Verb::Frames => read_frames(tokens, names),
         Verb::Events => {
             let count = read_count(tokens, 1, MOST_SHOWN_EVENTS, 10)?;
             ending(tokens, 2, DebuggerCommand::Events(count))
@@ -142,6 +148,16 @@ fn read_mem(tokens: &Tokens<'_>, names: &[Bytes]) -> Result<DebuggerCommand, Exp
     let addr = read_number(tokens, 2, 0, MOST_NUMBER)?;
     let len = read_number(tokens, 3, 1, MOST_SHOWN_BYTES)?;
     ending(tokens, 4, DebuggerCommand::Mem(node, addr, len))
+}
+
+// A node and a thread.
+fn read_frames(tokens: &Tokens<'_>, names: &[Bytes]) -> Result<DebuggerCommand, ExprError>
+    requires { length names.now < 2 ^ 32 }
+    ensures { ReadsCommand tokens.now (command_of_verb names.now (token_texts tokens.now) verb.Frames) result }
+{
+    let node = read_node(tokens, 1, names)?;
+    let thread = read_number(tokens, 2, 0, MOST_THREAD)?;
+    ending(tokens, 3, DebuggerCommand::Frames(node, thread))
 }
 
 // An expression, and a condition that may be left out.

@@ -1,5 +1,6 @@
 pub mod EnteredFrames
 pub mod InPlace
 pub mod LevelEnds
+pub mod FrameFunctions
 pub mod StackViews
 pub mod WithinLimits

@@ -7,7 +7,7 @@ use Rattle.wasm_stack.specs.declared.halt.Next.TheVariants.{Going, Calling, Ende
 use Rattle.wasm_stack.specs.declared.halt.Way.{Way}
 use Rattle.wasm_stack.specs.declared.halt.Way.TheVariants as way
 use Rattle.wasm_stack.specs.Thread.{Thread, arguments, without_operands}
-use Rattle.wasm_stack.specs.After.{Halt, Calls, Ends, Traps, Sticks, AfterStep, Goes, Stops}
+use Rattle.wasm_stack.specs.After.{Halt, Calls, Ends, Sticks, AfterStep, Goes, Stops, at_trap}
 
 -- a call of the library, whose n arguments are the topmost operands
 abbrev pub calling_library : Option (List Value) → ℕ → ℕ → Thread → Halt
@@ -18,7 +18,7 @@ abbrev pub after_of : Next → Thread → AfterStep
 after_of Going t = Goes t
 after_of (Calling f n) t = Stops (calling_library (arguments n t) f n t)
 after_of Ended t = Stops Ends
-after_of (Trapped trap) t = Stops (Traps trap)
+after_of (Trapped trap) t = at_trap t trap
 after_of Stuck t = Stops Sticks
 
 abbrev pub way_of : Way → Thread → AfterStep

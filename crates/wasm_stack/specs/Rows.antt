@@ -9,7 +9,7 @@ use Rattle.wasm_stack.specs.Thread.{Thread, with_operand}
 
 abbrev pub put_computed : Computed → Thread → AfterStep
 put_computed (Gives v) t = Goes (with_operand t v)
-put_computed (Fails trap) t = at_trap trap
+put_computed (Fails trap) t = at_trap t trap
 put_computed IsNone t = Stops Sticks
 
 abbrev pub numeric : ℕ → Thread → AfterStep

@@ -1,6 +1,6 @@
 -- A thread: the innermost level of its innermost frame, the levels around it, and the frames that wait
 -- for that frame to return (WebAssembly 1.0, section 4.2.12).
-use Rattle.std.specs.Prelude.{ℕ, ◌+◌, Bool, true, false, nat_lt, nat_le, is_some, ◌&&◌, if◌then◌else◌, reverse, take, drop, List, [], ◌∷◌, ◌++◌, length, Option, Some, None}
+use Rattle.std.specs.Prelude.{ℕ, ◌+◌, Bool, true, false, nat_lt, nat_le, is_some, ◌&&◌, if◌then◌else◌, reverse, take, drop, List, [], ◌∷◌, ◌++◌, length, Option, Some, None, map}
 use Rattle.wasm_types.specs.declared.code.Value.{Value}
 use Rattle.wasm_types.specs.declared.code.ValType.{ValType}
 use Rattle.wasm_types.specs.Calls.{result_of}
@@ -53,6 +53,10 @@ pub record Thread : Type 0 where
   pub locals : List Value
   pub returns : Bool
   pub callers : List Frame
+
+-- the functions of a thread's frames, the innermost first
+abbrev pub functions_of : Thread → List ℕ
+functions_of t = t.func ∷ map (λ (f : Frame). f.func) t.callers
 
 -- whether no instruction is left
 abbrev pub is_end : Trees → Bool

@@ -1,7 +1,7 @@
 // A thread as an owned value: one stack each of operands, labels, locals and frames.
-ghost use Rattle.std.specs.Prelude.{◌∷◌, OnErr, ◌≡◌, ◌+◌, ◌-◌, ◌<◌, ◌≤◌, [], ◌++◌, drop, length, IfOk, OnOk, Some, None, if◌then◌else◌, IfSome, IfNone, IsTrue, nat_lt, nat_le, ◌&&◌, false, is_some, slice_get, slice_set, take, true};
+ghost use Rattle.std.specs.Prelude.{◌∷◌, OnErr, ◌≡◌, ◌+◌, ◌-◌, ◌<◌, ◌≤◌, [], ◌++◌, drop, length, IfOk, OnOk, Some, None, if◌then◌else◌, IfSome, IfNone, IsTrue, nat_lt, nat_le, ◌&&◌, false, is_some, map, reverse, slice_get, slice_set, take, true};
 ghost use Rattle.wasm_types.specs.Code.{End, Then, tree, trees};
-ghost use Rattle.wasm_stack.specs.Thread.{arguments, closed_level, with_operand, without_operands, has_frame_room, has_room, is_end, fits_limits, most_frames};
+ghost use Rattle.wasm_stack.specs.Thread.{arguments, closed_level, with_operand, without_operands, has_frame_room, has_room, is_end, fits_limits, functions_of, most_frames};
 ghost use Rattle.std.specs.Vec.{vec_capacity};
 ghost use Rattle.wasm_types.specs.Limits.{most_thread_size};
 ghost use Rattle.wasm_stack.specs.Call.{call_sited};
@@ -87,6 +87,16 @@ impl<'m> Stack<'m> {
             callers: self.callers.clone()?,
             room: 0,
         })
+    }
+
+    /// The functions of the frames, the innermost first.
+    pub fn functions(&self) -> Result<Vec<u32>, AllocError>
+        ensures { IfOk result (λ functions. functions.items ≡ functions_of self.now) }
+    {
+        let mut functions = Vec::new(*self.operands.allocator());
+        functions.push(self.here.func)?;
+        push_functions(&mut functions, &self.callers)?;
+        Ok(functions)
     }
 
     /// Whether no instruction is left in the innermost level.
@@ -654,5 +664,17 @@ fn push_operand(operands: &mut Vec<Slot>, v: Slot) -> Result<(), AllocError>
         operands.reserve(ROOM)?;
     }
     operands.push_reserved(v);
+    Ok(())
+}
+
+// The functions of these frames, the last one's first.
+fn push_functions(functions: &mut Vec<u32>, frames: &[StackFrame<'_>]) -> Result<(), AllocError>
+    ensures { OnOk result (functions.new.items ≡ functions.old.items ++ map (λ f. f.func) (reverse frames.now)) }
+{
+    let mut left = frames.len();
+    'frames: while left > 0 {
+        left -= 1;
+        functions.push(frames[left].func)?;
+    }
     Ok(())
 }

@@ -5,7 +5,7 @@ use Rattle.wasm_types.specs.Code.{Tree, Trees, End, Then}
 use Rattle.wasm_store.specs.Store.{Store}
 use Rattle.wasm_stack.specs.After.{Halt, Traps, Sticks, AfterStep, Goes, Stops}
 use Rattle.wasm_stack.specs.Control.{ended_level}
-use Rattle.wasm_stack.specs.Thread.{Thread, levels_left}
+use Rattle.wasm_stack.specs.Thread.{Thread, functions_of, levels_left}
 use Rattle.wasm_step.specs.Reduce.{ThreadAndStore, store_stays, reduce_instruction}
 
 -- a thread at its next instruction, with those after it, or at a stop
@@ -52,7 +52,7 @@ one_step t g = one_step_at (settle t) g
 
 -- where there is one instruction too many
 abbrev pub spent_burst : SettledThread → Halt
-spent_burst (At i t) = Traps Spent
+spent_burst (At i t) = Traps Spent (functions_of t)
 spent_burst (Done s) = s
 
 -- a burst has at most so many instructions

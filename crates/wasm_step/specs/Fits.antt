@@ -95,7 +95,7 @@ CallFits m t f = (o : Option Value) → IsResult (library_result m f) o → Thre
 abbrev pub HaltFits : Module → Halt → Type 0
 HaltFits m (Calls t site) = IsSome (imported_type m (slice_get m.imports site.func)) × CallFits m t site.func
 HaltFits m Ends = Unit {0}
-HaltFits m (Traps trap) = Unit {0}
+HaltFits m (Traps trap functions) = Unit {0}
 HaltFits m Sticks = ⊥
 
 -- a burst stops well, and the store still suits

@@ -10,7 +10,7 @@ use Rattle.wasm_store.specs.Store.{Store}
 abbrev pub pause_halt : Pause → Halt
 pause_halt (AtCall s site) = Calls s.thread site
 pause_halt Ended = Ends
-pause_halt (Trapped trap) = Traps trap
+pause_halt (Trapped trap functions) = Traps trap functions.items
 
 abbrev pub pause_result : Pause → Store → BurstResult
 pause_result p g = record { stop = pause_halt p; store = g }
@@ -19,4 +19,4 @@ pause_result p g = record { stop = pause_halt p; store = g }
 abbrev pub StandsAt : Module → Pause → Type 0
 StandsAt m (AtCall s site) = (s.«module» ≡ m) × (s.call ≡ Some site.func)
 StandsAt m Ended = Unit {0}
-StandsAt m (Trapped trap) = Unit {0}
+StandsAt m (Trapped trap functions) = Unit {0}

@@ -43,7 +43,7 @@ global_set x g t = set_global x g t.stack t
 -- ---- memory
 
 abbrev pub read_at : Option ℕ → ℕ → Thread → AfterStep
-read_at None op t = at_trap traps.MemoryRange
+read_at None op t = at_trap t traps.MemoryRange
 read_at (Some n) op t = got (load_value op n) t
 
 abbrev pub load_at : Option ℕ → ℕ → ℕ → Memory → Thread → AfterStep
@@ -57,7 +57,7 @@ load op offset memory t = with_top t (λ v t'. on_i32 v (λ base. load_at (load_
 abbrev pub write_at : Option ℕ → ℕ → ℕ → Store → Thread → ThreadAndStore
 write_at None addr bits g t = store_stays g (Stops Sticks)
 write_at (Some width) addr bits g t = record {
-  after = if is_inside g.memory addr width then Goes t else at_trap traps.MemoryRange;
+  after = if is_inside g.memory addr width then Goes t else at_trap t traps.MemoryRange;
   store = record g { memory = after_store g.memory addr width bits };
 }
 
@@ -101,7 +101,7 @@ at_call None f type t = Stops Sticks
 at_call (Some args) f type t =
     if has_room (length type.results) (without_operands (length type.params) t)
     then Stops (Calls (without_operands (length type.params) t) (site_of f args))
-    else at_trap traps.Exhausted
+    else at_trap t traps.Exhausted
 
 abbrev pub call_library : ℕ → Option FuncType → Thread → AfterStep
 call_library f None t = Stops Sticks
@@ -109,7 +109,7 @@ call_library f (Some type) t = at_call (arguments (length type.params) t) f type
 
 abbrev pub call_typed : ℕ → Func → Option FuncType → Thread → AfterStep
 call_typed f func None t = Stops Sticks
-call_typed f func (Some type) t = frame_goes_on (called_function t f func type)
+call_typed f func (Some type) t = frame_goes_on t (called_function t f func type)
 
 abbrev pub call_own : Module → ℕ → Option Func → Thread → AfterStep
 call_own m f None t = Stops Sticks
@@ -125,11 +125,11 @@ call m f t =
 abbrev pub call_if_same : Module → ℕ → Option FuncType → Option FuncType → Thread → AfterStep
 call_if_same m f None wanted t = Stops Sticks
 call_if_same m f (Some type) None t = Stops Sticks
-call_if_same m f (Some type) (Some wanted) t = if same_type type wanted then call m f t else at_trap traps.TypeDiffers
+call_if_same m f (Some type) (Some wanted) t = if same_type type wanted then call m f t else at_trap t traps.TypeDiffers
 
 abbrev pub call_element : Module → ℕ → Option (Option ℕ) → Thread → AfterStep
-call_element m type None t = at_trap traps.TableRange
-call_element m type (Some None) t = at_trap traps.EmptyElement
+call_element m type None t = at_trap t traps.TableRange
+call_element m type (Some None) t = at_trap t traps.EmptyElement
 call_element m type (Some (Some f)) t = call_if_same m f (type_of m f) (slice_get m.types type) t
 
 abbrev pub call_indirect : ℕ → Store → Thread → AfterStep
@@ -139,7 +139,7 @@ call_indirect type g t =
 -- ---- the rows, one for each instruction i, which the thread has passed
 
 abbrev pub instr_row : Tree → Thread → Store → ThreadAndStore
-instr_row Unreachable t g = store_stays g (at_trap traps.Unreachable)
+instr_row Unreachable t g = store_stays g (at_trap t traps.Unreachable)
 instr_row Nop t g = store_stays g (Goes t)
 instr_row (Block gives body) t g = store_stays g (Goes (opened_level t gives body t.todo (is_some gives) false))
 instr_row (Loop gives body) t g = store_stays g (Goes (opened_level t gives body body false true))

@@ -42,7 +42,7 @@ fn call_typed<'m>(
     callee: Callee<'m>,
     typing: &FuncType,
 ) -> Result<Next, AllocError>
-    ensures { IfOk result (λ a. after_of a thread.new ≡ limited_thread (frame_goes_on (called_function thread.old index callee.entry (func_type typing.now)))) }
+    ensures { IfOk result (λ a. after_of a thread.new ≡ limited_thread (frame_goes_on thread.old (called_function thread.old index callee.entry (func_type typing.now)))) }
 {
     let n = typing.params.len();
     if !thread.has_arguments(n) {
@@ -265,7 +265,7 @@ pub(crate) fn call_indirect<'m>(
 fn own_typed<'m>(module: &'m ValidModule, index: u32) -> Option<(Callee<'m>, &'m FuncType)>
     ensures types { IfSome result (λ own. type_of (module_of «module».now) index ≡ Some (func_type own.1.now)) }
     ensures at { IfSome result (λ own. slice_get (module_of «module».now).types own.0.type_index ≡ Some (func_type own.1.now)) }
-    ensures calls { IfSome result (λ own. (t : Thread) → call (module_of «module».now) index t ≡ frame_goes_on (called_function t index own.0 (func_type own.1.now))) }
+    ensures calls { IfSome result (λ own. (t : Thread) → call (module_of «module».now) index t ≡ frame_goes_on t (called_function t index own.0 (func_type own.1.now))) }
 {
     let imports = module.module().imports.len();
     let place = index as usize;

@@ -19,6 +19,6 @@ mod run;
 mod step;
 mod strand;
 
-pub use strand::{HandlerError, Pause, Strand};
+pub use strand::{Pause, Strand};
 pub use wasm_stack::CallSite;
 pub use wasm_store::{StartError, Store};

@@ -1,8 +1,9 @@
 // A thread as its owner has it.
-ghost use Rattle.std.specs.Prelude.{◌≡◌, ◌↔◌, IfOk, None, OnOk, Some, Err, false};
+ghost use Rattle.std.specs.Prelude.{◌≡◌, ℕ, IfOk, None, OnOk, Some, true};
 ghost use Rattle.wasm_types.specs.Modules.{module_of};
 ghost use Rattle.wasm_step.specs.Burst.{burst, most_instructions};
 ghost use Rattle.wasm_store.specs.Suits.{SuitsModule};
+ghost use Rattle.wasm_stack.specs.Thread.{functions_of};
 ghost use Rattle.wasm_step.specs.Pause.{StandsAt, pause_result};
 ghost use Rattle.wasm_step.specs.Strand.{IsAnswer, IsHandler, answered_strand, thread_in_handler, first_thread, is_in, new_thread};
 
@@ -40,14 +41,6 @@ impl<'m> Model for Strand<'m> {
     ghost invariant = { λ s. StandsFit (module_of s.«module».now) s.stack.value s.call };
 }
 
-/// Why a handler's frame is not put on top of a thread.
-#[derive(Clone, Copy, Debug, PartialEq, Eq, Drop)]
-pub enum HandlerError {
-    /// The thread would pass its limits.
-    Exhausted,
-    NoMemory,
-}
-
 /// Where a burst of a thread pauses.
 #[derive(Drop)]
 pub enum Pause<'m> {
@@ -55,8 +48,9 @@ pub enum Pause<'m> {
     AtCall(Strand<'m>, CallSite),
     /// The thread has ended.
     Ended,
-    /// The thread has trapped.
-    Trapped(Trap),
+    /// The thread has trapped. These are the functions of its frames as they were before the instruction that trapped, the
+    /// innermost first.
+    Trapped(Trap, Vec<u32>),
 }
 
 impl<'m> Strand<'m> {
@@ -117,32 +111,36 @@ impl<'m> Strand<'m> {
         })
     }
 
+    /// Whether a frame of this function, which handles a signal, keeps to the thread's limits.
+    pub fn has_handler_room(&self, func: u32) -> bool
+        requires { IsHandler self.now.«module» func }
+        ensures { (signal : ℕ) → result ≡ is_in (thread_in_handler self.now.«module» self.now.thread func signal) }
+    {
+        let callee = own(self.module, func);
+        can_handle(&self.stack, callee.declared())
+    }
+
     /// The thread with the frame of this function on top, which handles the signal.
-    pub fn push_handler(self, func: u32, signal: u32) -> Result<Strand<'m>, HandlerError>
+    pub fn push_handler(self, func: u32, signal: u32) -> Result<Strand<'m>, AllocError>
         requires handler { IsHandler self.«module» func }
         requires runs { self.call ≡ None }
-        ensures exhausted { (result ≡ Err HandlerError.Exhausted) ↔ (is_in (thread_in_handler self.entry.«module» self.entry.thread func signal) ≡ false) }
+        requires room { is_in (thread_in_handler self.«module» self.thread func signal) ≡ true }
         ensures same_module { IfOk result (λ s. s.«module» ≡ self.entry.«module») }
         ensures thread { IfOk result (λ s. thread_in_handler self.entry.«module» self.entry.thread func signal ≡ Some s.thread) }
         ensures call { IfOk result (λ s. s.call ≡ None) }
     {
         let callee = own(self.module, func);
-        if !can_handle(&self.stack, callee.declared()) {
-            return Err(HandlerError::Exhausted);
-        }
         let Strand {
             module,
             mut stack,
             call: _,
         } = self;
-        match handle(&mut stack, func, callee, signal) {
-            Ok(()) => Ok(Strand {
-                module,
-                stack,
-                call: None,
-            }),
-            Err(AllocError) => Err(HandlerError::NoMemory),
-        }
+        handle(&mut stack, func, callee, signal)?;
+        Ok(Strand {
+            module,
+            stack,
+            call: None,
+        })
     }
 
     /// A burst: at most 10,000,000 instructions until a call of the library, the thread's end or a trap.
@@ -173,9 +171,16 @@ impl<'m> Strand<'m> {
                 Ok(Pause::AtCall(strand, site))
             }
             Stopped::Ended => Ok(Pause::Ended),
-            Stopped::Trapped(trap) => Ok(Pause::Trapped(trap)),
+            Stopped::Trapped(trap) => Ok(Pause::Trapped(trap, stack.functions()?)),
             Stopped::Stuck => unreachable!(),
         }
+    }
+
+    /// The functions of the thread's frames, the innermost first.
+    pub fn functions(&self) -> Result<Vec<u32>, AllocError>
+        ensures { IfOk result (λ functions. functions.items ≡ functions_of self.now.thread) }
+    {
+        self.stack.functions()
     }
 
     /// An equal thread.

@@ -50,7 +50,9 @@ fn a_handler_runs_above_a_new_thread(rt: HostRuntime) -> Result<(), Fail> {
     let module = module(rt.alloc())?;
     assert!(rt; is_handler(&module, 1));
     let mut store = Store::start(rt.alloc(), &module)?;
-    let strand = Strand::new(rt.alloc(), &module, 1, 3)?.push_handler(1, 5)?;
+    let strand = Strand::new(rt.alloc(), &module, 1, 3)?;
+    assert!(rt; strand.has_handler_room(1));
+    let strand = strand.push_handler(1, 5)?;
     let copy = strand.copy()?;
     assert!(rt; matches!(copy.run(&mut store)?, Pause::Ended));
     assert_eq!(rt; store.global(0), Some(Value::I32(753)));

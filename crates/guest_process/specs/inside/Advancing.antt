@@ -8,7 +8,7 @@ use Rattle.lib_calls.specs.Answer.{Answer, answer_of}
 use Rattle.wasm_step.specs.Strand.{answered_strand}
 use Rattle.guest_process.specs.declared.waiting.Waiting.{Waiting}
 use Rattle.guest_process.specs.Answers.{after_need, handled, locked, narrow, spawned, unlocked, with_answer}
-use Rattle.guest_process.specs.GoesOn.{after_running, handler, with_handler_frame}
+use Rattle.guest_process.specs.GoesOn.{runs_handled}
 use Rattle.guest_process.specs.Kinds.{reply_value}
 use Rattle.guest_process.specs.State.{State, thread_at}
 
@@ -22,8 +22,7 @@ acted_on_answer _ S t c a = with_answer S c a
 
 -- the state once the thread of an entry went on, from one in which it was taken out and its answer has had its effects
 abbrev pub thread_gone_on : State → Waiting → Entry → State
-thread_gone_on S w e =
-    after_running S e.thread (with_handler_frame S.store.«module» (answered_strand w.strand (reply_value w.kind e.reply)) e.signal (handler S.handlers e.signal))
+thread_gone_on S w e = runs_handled S e.thread (answered_strand w.strand (reply_value w.kind e.reply)) e.signal
 
 -- the kind of the call at which it is
 abbrev pub pending_kind : State → ℕ → Option Kind
