@@ -50,11 +50,15 @@ pub(crate) fn add_breakpoint(
     ensures { IfOk result (λ text. PerformsCommand (breaks_at (session_state state.old) line.now kind (condition_meant condition) (scope_meant scope)) (session_state state.new) text) }
 {
     match scope {
-        WhichNodes::Everywhere => {
-            add(alloc, state, line, Trigger::Break(None, kind), condition)
-        }
+        WhichNodes::Everywhere => { add(alloc, state, line, Trigger::Break(None, kind), condition) }
         WhichNodes::At(Some(node)) => {
-            add(alloc, state, line, Trigger::Break(Some(node), kind), condition)
+            add(
+                alloc,
+                state,
+                line,
+                Trigger::Break(Some(node), kind),
+                condition,
+            )
         }
         WhichNodes::At(None) => Ok(Text::new(alloc)),
     }

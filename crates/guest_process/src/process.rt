@@ -235,7 +235,10 @@ impl<'m> Process<'m> {
                 Some(waiting) => waiting.strand.functions(),
                 None => Ok(Vec::new(alloc)),
             },
-            End::Trapped(_) if self.body.last_thread == Some(thread) => self.body.trap_frames.clone(),
+            End::Trapped(_) if self.body.last_thread == Some(thread) => self
+                .body
+                .trap_frames
+                .clone(),
             _ => Ok(Vec::new(alloc)),
         }
     }

@@ -2,7 +2,7 @@
 use Rattle.std.specs.Prelude.{ℕ, ◌-◌, Bool, false, nat_le, is_none, List, [], ◌∷◌, length, codes, bytes_eq, Option, Result, Ok, Err, if◌then◌else◌}
 use Rattle.std.specs.List.{find}
 use Rattle.watch_expr.specs.Expression.{Expression}
-use Rattle.watch_expr.specs.Faulty.{is_nested, lacks_node}
+use Rattle.watch_expr.specs.Faulty.{is_nested, lacks_some_node}
 use Rattle.watch_expr.specs.Spelling.{most_number}
 use Rattle.shell_lines.specs.Limits.{most_shown_bytes}
 use Rattle.shell_lines.specs.Lines.{expression_from, node_named, number_from, then_takes, token_at}
@@ -80,7 +80,7 @@ lacks_in_play Processes = false
 lacks_in_play (Threads node) = is_none node
 lacks_in_play (Datagram sender number) = false
 lacks_in_play (Printed node from) = is_none node
-lacks_in_play (Print x) = lacks_node false x
+lacks_in_play (Print x) = lacks_some_node x
 lacks_in_play (Mem node addr len) = is_none node
 lacks_in_play Again = false
 lacks_in_play Quit = false

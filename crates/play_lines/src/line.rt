@@ -15,7 +15,7 @@ use fri_bytes::Bytes;
 use schedule_text::{Item, is_item_line, read_item_line};
 use shell_lines::{LineRefusal, is_silent};
 use std::alloc::{AllocError, Global};
-use watch_expr::{ExprError, find_faults, lex};
+use watch_expr::{ExprError, find_faults, lacks_some_node, lex};
 
 // How many bytes a line has at most: enough for each item that a schedule of logs has.
 const MOST_ITEM_LINE: usize = 131_072;
@@ -105,7 +105,7 @@ fn names_none(spelled: &PlayerCommand) -> bool
     ensures { result ≡ lacks_in_play (player_command spelled.now) }
 {
     match spelled {
-        PlayerCommand::Print(expression) => find_faults(expression).no_node,
+        PlayerCommand::Print(expression) => lacks_some_node(expression),
         PlayerCommand::Threads(node) => node.is_none(),
         PlayerCommand::Printed(node, _) => node.is_none(),
         PlayerCommand::Mem(node, ..) => node.is_none(),

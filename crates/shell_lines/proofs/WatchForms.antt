@@ -72,8 +72,7 @@ module _ (law : ExactReading) (names : Tokens) where
   -- which tokens the expression is
   front_is : (ts : Tokens) (n : ℕ) (c : LineCommand) (w : Watched names ts c) → viable_tokens names [] ts ≡ n → (w.front ≡ take n ts) × (w.back ≡ drop n ts)
   front_is ts n c w viable =
-      let count : n ≡ length w.front = sym viable ∙ ap (viable_tokens names []) w.parts ∙ takes_front w.front w.back w.x w.o w.watched w.meets in
-      (
+      let count : n ≡ length w.front = sym viable ∙ ap (viable_tokens names []) w.parts ∙ takes_front w.front w.back w.x w.o w.watched w.meets in (
         sym (ap (λ (m : ℕ). take m ts) count ∙ ap (take (length w.front)) w.parts ∙ front_taken w.front w.back),
         sym (ap (λ (m : ℕ). drop m ts) count ∙ ap (drop (length w.front)) w.parts ∙ drop-append_seam w.front w.back),
       )
@@ -216,7 +215,9 @@ module _ (law : ExactReading) (names : Tokens) where
     spells = λ front rest c here e. watch_spells front rest here c e;
     reads = λ front rest c here w. watch_reads front rest here c w;
     stops = λ front rest n here e. watch_stops front rest here n e;
-    some =
-        (codes "$" ∷ codes "a" ∷ [], Watch (Var (codes "a")) None,
-        record { front = codes "$" ∷ codes "a" ∷ []; back = []; x = Var (codes "a"); o = None; parts = refl; watched = some_variable law names; meets = left_out; does = refl });
+    some = (
+      codes "$" ∷ codes "a" ∷ [],
+      Watch (Var (codes "a")) None,
+      record { front = codes "$" ∷ codes "a" ∷ []; back = []; x = Var (codes "a"); o = None; parts = refl; watched = some_variable law names; meets = left_out; does = refl },
+    );
   }

@@ -7,7 +7,7 @@ ghost use Rattle.shell_lines.specs.declared.line.Line.TheVariants.{Silent};
 ghost use Rattle.shell_lines.specs.inside.Reading.{SpellsCommand};
 ghost use Rattle.shell_lines.specs.Spelled.{command, condition as condition_meant, meaning, scope};
 ghost use Rattle.watch_expr.specs.Expression.{expression_of};
-ghost use Rattle.watch_expr.specs.Faulty.{is_nested, lacks_node, lacks_some_node, names_variable};
+ghost use Rattle.watch_expr.specs.Faulty.{is_nested, lacks_node, names_variable};
 ghost use Rattle.watch_expr.specs.Lexing.{is_blank};
 
 use crate::command::{DebuggerCommand, WhichNodes};
@@ -16,7 +16,7 @@ use crate::verbs::read_command;
 use embed_cmds::program_faults;
 use fri_bytes::Bytes;
 use std::alloc::{AllocError, Global};
-use watch_expr::{Expr, ExprError, Faults, find_faults, is_blank, lex};
+use watch_expr::{Expr, ExprError, Faults, find_faults, is_blank, lacks_some_node, lex};
 
 // How many bytes a line has at most.
 const MOST_LINE: usize = 4096;
@@ -98,14 +98,6 @@ fn condition_faults(condition: &Option<Expr>) -> Faults
     }
 }
 
-// Whether a name in an expression that is no condition is that of no node.
-fn lacks_node(expression: &Expr) -> bool
-    ensures { result ≡ lacks_some_node (expression_of expression.now) }
-{
-    let faults = find_faults(expression);
-    faults.no_node || faults.event
-}
-
 // Whether an aggregate is in an aggregate.
 fn has_nested(spelled: &DebuggerCommand) -> bool
     ensures { result ≡ has_nested (command spelled.now) }
@@ -127,11 +119,11 @@ fn names_none(spelled: &DebuggerCommand) -> bool
     ensures { result ≡ names_none (command spelled.now) }
 {
     match spelled {
-        DebuggerCommand::Print(expression) => lacks_node(expression),
+        DebuggerCommand::Print(expression) => lacks_some_node(expression),
         DebuggerCommand::Watch(expression, condition) => {
-            lacks_node(expression) || condition_faults(condition).no_node
+            lacks_some_node(expression) || condition_faults(condition).no_node
         }
-        DebuggerCommand::Set(_, expression) => lacks_node(expression),
+        DebuggerCommand::Set(_, expression) => lacks_some_node(expression),
         DebuggerCommand::Do(_, program) => program_faults(program).no_node,
         DebuggerCommand::Mem(node, ..) => node.is_none(),
         DebuggerCommand::Threads(node) => node.is_none(),
