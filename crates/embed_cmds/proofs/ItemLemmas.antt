@@ -3,7 +3,7 @@ use Rattle.std.proofs.Common.{◌≡◌, ℕ, zero, suc, Bool, true, false, cond
 use Rattle.std.specs.List.{list_all}
 use Rattle.std.proofs.lemmas.Bool.{and_parts, cases_Bool, not-true, or_parts}
 use Rattle.expression_text.specs.declared.expr.NodeName.TheVariants as node
-use Rattle.watch_expr.specs.Grammar.{BeginsExpr, IsExpr, clock, higher}
+use Rattle.watch_expr.specs.Grammar.{IsExpr, clock, higher}
 use Rattle.watch_expr.specs.Laws.{ExactReading, NoneApart, is_apart_token}
 use Rattle.watch_expr.specs.Computed.{begins_some_expression, expression_spelled, viable_tokens}
 use Rattle.watch_expr.specs.Expression.{Clock, Expression}

@@ -6,7 +6,6 @@ use Rattle.std.proofs.lemmas.Bool.{leb-true, leb-false, le-leb}
 use Rattle.expression_text.specs.declared.expr.Unary.{Unary}
 use Rattle.expression_text.specs.declared.expr.Binary.{Binary}
 use Rattle.expression_text.specs.declared.expr.Agg.{Agg}
-use Rattle.expression_text.specs.declared.expr.Width.{Width}
 use Rattle.expression_text.specs.declared.expr.NodeName.{NodeName}
 use Rattle.expression_text.specs.declared.expr.NodeName.TheVariants as node
 use Rattle.expression_text.specs.declared.stack.Opening.{Opening}

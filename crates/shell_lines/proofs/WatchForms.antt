@@ -1,11 +1,11 @@
 -- Watchpoints: an expression, as many tokens as begin one, and a condition behind it.
-use Rattle.std.proofs.Common.{◌≡◌, ℕ, zero, suc, ◌+◌, ◌-◌, ◌<◌, ◌≤◌, List, [], ◌∷◌, ◌++◌, length, take, drop, Option, Some, None, Result, Ok, Err, refl, sym, ap, ◌∙◌, subst, append_assoc, append-nil, add-one, arith}
+use Rattle.std.proofs.Common.{◌≡◌, ℕ, zero, suc, ◌+◌, ◌<◌, ◌≤◌, [], ◌∷◌, ◌++◌, length, take, drop, Option, Some, None, Result, Ok, Err, refl, sym, ap, ◌∙◌, subst, append_assoc, append-nil, add-one, arith}
 use Rattle.std.proofs.Math.Seq.{drop-append_seam}
 use Rattle.std.proofs.lemmas.List.{length-append, length-take-le, take-append-drop}
 use Rattle.std.specs.Prelude.{codes}
 use Rattle.watch_expr.specs.Computed.{expression_spelled, viable_tokens}
 use Rattle.watch_expr.specs.Expression.{Expression, Var}
-use Rattle.watch_expr.specs.Grammar.{BeginsExpr, IsExpr, TakesExpr}
+use Rattle.watch_expr.specs.Grammar.{BeginsExpr, IsExpr}
 use Rattle.watch_expr.specs.Laws.{ExactReading}
 use Rattle.shell_lines.specs.Grammar.{IsCondition, left_out, given}
 use Rattle.shell_lines.specs.Lines.{LineCommand, Watch, condition_from, expression_and_end, expression_before, then_takes}

@@ -3,7 +3,6 @@ use Rattle.std.specs.Prelude.{◌≡◌, ℕ, Result, Ok, Err, true, false, List
 use Rattle.expression_text.specs.declared.error.ExprError.{ExprError}
 use Rattle.expression_text.specs.declared.error.ExprError.TheVariants.{Syntax, NoNode, TooDeep, Nested, NoMemory}
 use Rattle.watch_expr.specs.Lexing.{LexedLine, column_of_token}
-use Rattle.shell_lines.specs.declared.line.Line.TheVariants as line
 use Rattle.shell_lines.specs.declared.command.DebuggerCommand.{DebuggerCommand as Spelled}
 use Rattle.watch_expr.specs.Computed.{cut_tokens}
 use Rattle.shell_lines.specs.declared.refusal.LineRefusal.TheVariants as refusal
