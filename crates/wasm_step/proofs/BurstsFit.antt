@@ -76,7 +76,7 @@ module _ (agree : TypesAgree) (m : Module) where
   limited_fits : (a : AfterStep) → AfterFits m a → AfterFits m (limited_thread a)
   limited_fits (Stops s) h = h
   limited_fits (Goes t) h =
-      elim (fits_limits t) as (λ b. AfterFits m (if b then Goes t else at_trap Exhausted)) [ true ↦ h | false ↦ tt ]
+      elim (fits_limits t) as (λ b. AfterFits m (if b then Goes t else at_trap t Exhausted)) [ true ↦ h | false ↦ tt ]
 
   -- ---- the ends, and bursts
 

@@ -26,11 +26,11 @@ use Rattle.wasm_step.specs.Fits.{known_operands, put_type, label_of_level, CodeL
 use Rattle.wasm_step.specs.inside.Standing.{AfterFits}
 use Rattle.wasm_step.specs.Reduce as Reduce
 use Rattle.wasm_types.specs.Functions.{TypesAgree, imported_type, own_type, type_of, same_types, same_type, own_func}
-use Rattle.wasm_stack.specs.After.{Stops, Calls, at_trap, frame_goes_on}
+use Rattle.wasm_stack.specs.After.{Goes, Stops, Calls, at_trap, frame_goes_on}
 use Rattle.wasm_store.specs.Store.{Store}
 use Rattle.wasm_step.specs.Strand.{IsResult, library_result, first_result}
 use Rattle.wasm_stack.specs.Thread as Thread'
-use Rattle.wasm_stack.specs.Thread.{Thread, Frame, without_operands, arguments, waiting_frame, has_room}
+use Rattle.wasm_stack.specs.Thread.{Thread, Frame, without_operands, arguments, waiting_frame, fits_limits, has_room}
 use Rattle.wasm_step.proofs.ThreadsFit.{never_none, is_same_equal, pops_type, RestOf, LeavesAt, with_result_fits}
 use Rattle.wasm_step.proofs.PlainRowsFit.{neither, step, After', End', Before, on_top_fits, on_i32_fits}
 
@@ -149,6 +149,11 @@ module _ (m : Module) where
         frames,
       )
 
+  -- a frame above those of a thread, where there is room for it
+  frame_fits : (t above : Thread) → ThreadFits m above → AfterFits m (frame_goes_on t (Some above))
+  frame_fits t above h =
+      elim (fits_limits above) as (λ b. AfterFits m (if b then Goes above else at_trap t traps.Exhausted)) [ true ↦ h | false ↦ tt ]
+
 module _ (m : Module) (c : Context) where
   caller_fits : (t : Thread) (type : FuncType) (more : List ValType) → RestOf m c t → types_of_values t.stack ≡ reverse type.params ++ more → LeavesAt m c t (put_type (result_of type) more) → FramesFit m (result_of type) (waiting_frame (without_operands (length type.params) t) ∷ t.callers)
   caller_fits t type more r h l = (
@@ -171,7 +176,7 @@ module _ (m : Module) (c : Context) where
       let fits : CallFits m (without_operands n t) f = λ o k. with_result_fits m c (result_of type) o (without_operands n t) r left (subst (λ g. IsResult g o) gives k) in
       subst (λ o. AfterFits m (Reduce.at_call o f type t)) (sym (args_are t type.params more h)) (by_room (has_room (length type.results) (without_operands n t)) fits)
     where
-      by_room : (b : Bool) → CallFits m (without_operands (length type.params) t) f → AfterFits m (if b then Stops (Calls (without_operands (length type.params) t) (site_of f (reverse (take (length type.params) t.stack)))) else at_trap traps.Exhausted)
+      by_room : (b : Bool) → CallFits m (without_operands (length type.params) t) f → AfterFits m (if b then Stops (Calls (without_operands (length type.params) t) (site_of f (reverse (take (length type.params) t.stack)))) else at_trap t traps.Exhausted)
       by_room true k = (subst (λ o. IsSome o) (sym is) refl, k)
       by_room false k = tt
 
@@ -180,8 +185,9 @@ module _ (m : Module) (c : Context) where
       let n = length type.params in
       let args = reverse (take n t.stack) in
       let inner = enter_fits m (waiting_frame (without_operands n t) ∷ t.callers) f func type args v own at (args_value_types t type.params more h) (caller_fits t type more r h l) in
+      let above = Thread'.entered_frame (without_operands n t) f func.body (args ++ zeros func.locals) (result_of type) in
       subst (λ o. AfterFits m (Reduce.call_typed f func o t)) (sym at)
-      (subst (λ o. AfterFits m (frame_goes_on (Thread'.called_with o n t f func (result_of type)))) (sym (args_are t type.params more h)) inner)
+      (subst (λ o. AfterFits m (frame_goes_on t (Thread'.called_with o n t f func (result_of type)))) (sym (args_are t type.params more h)) (frame_fits m t above inner))
 
   call_fits : (t : Thread) (f : ℕ) (type : FuncType) (more : List ValType) → IsValid m → RestOf m c t → type_of m f ≡ Some type → types_of_values t.stack ≡ reverse type.params ++ more → LeavesAt m c t (put_type (result_of type) more) → AfterFits m (Reduce.call m f t)
   call_fits t f type more v r is h l =
@@ -255,7 +261,7 @@ module _ (m : Module) (c : Context) where
   checked_fits t f k callee more v r there at h l =
       subst (λ w. AfterFits m (Reduce.call_if_same m f (type_of m f) w t)) (sym at) (by_type (type_of m f) refl there)
     where
-      by_test : (found : FuncType) (b : Bool) → type_of m f ≡ Some found → same_type found callee ≡ b → AfterFits m (if b then Reduce.call m f t else at_trap traps.TypeDiffers)
+      by_test : (found : FuncType) (b : Bool) → type_of m f ≡ Some found → same_type found callee ≡ b → AfterFits m (if b then Reduce.call m f t else at_trap t traps.TypeDiffers)
       by_test found true e q = call_fits t f callee more v r (e ∙ ap Some (same_type_equal found callee q)) h l
       by_test found false e q = tt
 

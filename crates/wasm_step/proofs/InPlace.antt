@@ -48,7 +48,7 @@ pub limited_within : (a : AfterStep) (u : Thread) → limited_thread a ≡ Goes 
 limited_within (Stops s) u e = cc
 limited_within (Goes t) u e = by_test (fits_limits t) refl e
   where
-    by_test : (b : Bool) → fits_limits t ≡ b → (if b then Goes t else at_trap Exhausted) ≡ Goes u → ThreadWithin u
+    by_test : (b : Bool) → fits_limits t ≡ b → (if b then Goes t else at_trap t Exhausted) ≡ Goes u → ThreadWithin u
     by_test true q e' = let same : t ≡ u = cc in subst (λ (t : Thread). ThreadWithin t) same (is_within_of t q)
     by_test false q e' = cc
 
@@ -56,7 +56,7 @@ limited_within (Goes t) u e = by_test (fits_limits t) refl e
 pub step_by : (t v u : Thread) (i : Tree) (g g' : Store) → t ≡ record v { todo = Then i v.todo } → instr_row i v g ≡ record { after = Goes u; store = g' } → ThreadWithin u → (n : ℕ) → burst (suc n) t g ≡ burst n u g'
 step_by t v u i g g' here goes within n =
     let at : settle t ≡ At i v = ap settle here ∙ settle_here (record v { todo = Then i v.todo }) refl in
-    burst_on n t v u g g' i at (ap (λ (b : ThreadAndStore). limited_thread b.after) goes ∙ ap (λ b. if b then Goes u else at_trap Exhausted) (within_is u within)) (ap (λ (b : ThreadAndStore). b.store) goes)
+    burst_on n t v u g g' i at (ap (λ (b : ThreadAndStore). limited_thread b.after) goes ∙ ap (λ b. if b then Goes u else at_trap u Exhausted) (within_is u within)) (ap (λ (b : ThreadAndStore). b.store) goes)
 
 pub within_one : (t : Thread) (x v : Value) → t.stack ≡ x ∷ drop 1 t.stack → ThreadWithin t → ThreadWithin (record t { stack = v ∷ drop 1 t.stack })
 within_one t x v st h = let one = ap length st in record { frames = h.frames; size = omega (arith, h.size, one) }

@@ -135,7 +135,7 @@ module _ (m : Module) (c : Context) (g : Store) (same : g.«module» ≡ m) (sui
     other_memory g (after_store g.memory addr width bits) suits (after_store_most g.memory addr width bits),
   )
     where
-      by_case : (b : Bool) → AfterFits m (if b then Goes t else at_trap traps.MemoryRange)
+      by_case : (b : Bool) → AfterFits m (if b then Goes t else at_trap t traps.MemoryRange)
       by_case true = goes m c t r l
       by_case false = tt
 

@@ -13,4 +13,4 @@ returns-then-type_index c =
     let type = func_type c.args.typing.now in
     let at = subst (λ i. slice_get m.types i ≡ Some type) (sym c.type_index.ensures ∙ c.if-type_index.true) c.requires in
     λ _ f t.
-    ap (λ (o : Option FuncType). call_if_same m f (Some type) o t) at ∙ ap (λ b. if b then call m f t else at_trap TypeDiffers) (same_as_itself type)
+    ap (λ (o : Option FuncType). call_if_same m f (Some type) o t) at ∙ ap (λ b. if b then call m f t else at_trap t TypeDiffers) (same_as_itself type)
