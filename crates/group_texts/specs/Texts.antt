@@ -117,19 +117,19 @@ process_lines name S = name ++ (codes " " ++ (end_text S.end ++ (codes "\n" ++ t
 -- ---- frames
 
 -- how many frames are told of a thread at most
-abbrev pub most_frames : ℕ
-most_frames = 64
+abbrev pub most_told_frames : ℕ
+most_told_frames = 64
 
 -- how many more there are
 abbrev pub left_frames : ℕ → List ℕ
-left_frames n = if nat_le n most_frames then [] else codes " and " ++ (decimal (n - most_frames) ++ codes " more")
+left_frames n = if nat_le n most_told_frames then [] else codes " and " ++ (decimal (n - most_told_frames) ++ codes " more")
 
 abbrev pub function_text : ℕ → List ℕ
 function_text f = codes " " ++ decimal f
 
 abbrev pub frames_text : List ℕ → List ℕ
 frames_text [] = codes " ended"
-frames_text (f ∷ fs) = flat_map function_text (take most_frames (f ∷ fs)) ++ left_frames (length (f ∷ fs))
+frames_text (f ∷ fs) = flat_map function_text (take most_told_frames (f ∷ fs)) ++ left_frames (length (f ∷ fs))
 
 -- the functions of a thread's frames
 abbrev pub frames_line : ℕ → List ℕ → List ℕ

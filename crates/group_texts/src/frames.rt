@@ -1,13 +1,13 @@
 // How the frames of a thread are shown.
 ghost use Rattle.std.specs.Prelude.{◌≡◌, ◌++◌, ◌∷◌, [], OnOk, length, take};
 ghost use Rattle.std.specs.List.{flat_map};
-ghost use Rattle.group_texts.specs.Texts.{frames_line, frames_text, function_text, left_frames, most_frames};
+ghost use Rattle.group_texts.specs.Texts.{frames_line, frames_text, function_text, left_frames, most_told_frames};
 
 use fri_text::Text;
 use std::alloc::AllocError;
 
 // How many frames are told of a thread at most.
-const MOST_FRAMES: usize = 64;
+const MOST_TOLD_FRAMES: usize = 64;
 
 /// The functions of a thread's frames, or that it has none. After want of memory a part of it may be at the end of the
 /// text.
@@ -32,12 +32,12 @@ fn push_all(text: &mut Text, frames: &[u32]) -> Result<(), AllocError>
 
 // Those that are told.
 fn told(frames: &[u32]) -> &[u32]
-    ensures { result.now ≡ take most_frames frames.now }
+    ensures { result.now ≡ take most_told_frames frames.now }
 {
-    if frames.len() <= MOST_FRAMES {
+    if frames.len() <= MOST_TOLD_FRAMES {
         frames
     } else {
-        &frames[..MOST_FRAMES]
+        &frames[..MOST_TOLD_FRAMES]
     }
 }
 
@@ -55,10 +55,10 @@ fn push_functions(text: &mut Text, frames: &[u32]) -> Result<(), AllocError>
 fn push_left(text: &mut Text, count: usize) -> Result<(), AllocError>
     ensures { OnOk result (text.new ≡ text.old ++ left_frames count) }
 {
-    if count <= MOST_FRAMES {
+    if count <= MOST_TOLD_FRAMES {
         return Ok(());
     }
     text.push_str(" and ")?;
-    text.push_u64((count - MOST_FRAMES) as u64)?;
+    text.push_u64((count - MOST_TOLD_FRAMES) as u64)?;
     text.push_str(" more")
 }

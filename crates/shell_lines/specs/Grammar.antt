@@ -7,7 +7,7 @@ use Rattle.watch_expr.specs.Grammar.{IsExpr}
 use Rattle.watch_expr.specs.Spelling.{is_word, number_of}
 use Rattle.embed_cmds.specs.Grammar.{IsProgram}
 use Rattle.embed_cmds.specs.Tree.{Statements}
-use Rattle.shell_lines.specs.Limits.{most_shown_bytes, most_shown_events, most_thread}
+use Rattle.shell_lines.specs.Limits.{most_shown_bytes, most_shown_events, greatest_thread}
 use Rattle.shell_lines.specs.Lines.{At, Back, Break, LineCommand, Continue, Delete, Do, Events, Everywhere, Frames, Goto, ListPoints, ListVariables, Mem, Print, Quit, Rcontinue, SetTo, Step, Threads, Watch, WhichNodes, node_called}
 
 -- the token says which nodes: one by its name, or a star for all
@@ -36,7 +36,7 @@ pub data IsCommand (names : List (List ℕ)) : List (List ℕ) → LineCommand �
   mem : (node from count : List ℕ) (addr len : ℕ) → is_word node ≡ true → number_of from ≡ Some addr → number_of count ≡ Some len → 1 ≤ len → len ≤ most_shown_bytes
       → IsCommand names (codes "mem" ∷ node ∷ from ∷ count ∷ []) (Mem (node_called names node) addr len)
   threads : (node : List ℕ) → is_word node ≡ true → IsCommand names (codes "threads" ∷ node ∷ []) (Threads (node_called names node))
-  frames : (node word : List ℕ) (t : ℕ) → is_word node ≡ true → number_of word ≡ Some t → t ≤ most_thread → IsCommand names (codes "frames" ∷ node ∷ word ∷ []) (Frames (node_called names node) t)
+  frames : (node word : List ℕ) (t : ℕ) → is_word node ≡ true → number_of word ≡ Some t → t ≤ greatest_thread → IsCommand names (codes "frames" ∷ node ∷ word ∷ []) (Frames (node_called names node) t)
   last_events : IsCommand names (codes "events" ∷ []) (Events 10)
   events : (word : List ℕ) (n : ℕ) → number_of word ≡ Some n → 1 ≤ n → n ≤ most_shown_events → IsCommand names (codes "events" ∷ word ∷ []) (Events n)
   watch : {ts us : List (List ℕ)} {x : Expression} {c : Option Expression} → IsExpr names ts x → IsCondition names us c → IsCommand names (codes "watch" ∷ (ts ++ us)) (Watch x c)

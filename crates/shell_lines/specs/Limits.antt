@@ -10,8 +10,8 @@ abbrev pub most_shown_bytes : ℕ
 most_shown_bytes = 256
 
 -- the greatest number of a thread
-abbrev pub most_thread : ℕ
-most_thread = 63
+abbrev pub greatest_thread : ℕ
+greatest_thread = 63
 
 -- how many events one line shows at most
 abbrev pub most_shown_events : ℕ

@@ -10,7 +10,7 @@ use Rattle.watch_expr.specs.Expression.{Expression}
 use Rattle.embed_cmds.specs.Faulty.{lacks_names, nests_aggregates}
 use Rattle.embed_cmds.specs.Reading.{program_of, word_of}
 use Rattle.embed_cmds.specs.Tree.{Statements}
-use Rattle.shell_lines.specs.Limits.{most_shown_bytes, most_shown_events, most_thread}
+use Rattle.shell_lines.specs.Limits.{most_shown_bytes, most_shown_events, greatest_thread}
 use Rattle.shell_lines.specs.declared.command.Verb.{Verb}
 use Rattle.shell_lines.specs.declared.command.Verb.TheVariants as verb
 
@@ -177,7 +177,7 @@ command_of_verb names texts verb.Mem =
     then_takes (token_at (number_from 1 most_shown_bytes) texts 3) (λ len. ends_at texts 4 (Mem node addr len))))
 command_of_verb names texts verb.Threads = then_takes (token_at (node_named names) texts 1) (λ node. ends_at texts 2 (Threads node))
 command_of_verb names texts verb.Frames =
-    then_takes (token_at (node_named names) texts 1) (λ node. then_takes (token_at (number_from 0 most_thread) texts 2) (λ t. ends_at texts 3 (Frames node t)))
+    then_takes (token_at (node_named names) texts 1) (λ node. then_takes (token_at (number_from 0 greatest_thread) texts 2) (λ t. ends_at texts 3 (Frames node t)))
 command_of_verb names texts verb.Events = then_takes (count_or 1 most_shown_events 10 texts) (λ n. ends_at texts 2 (Events n))
 command_of_verb names texts verb.Watch =
     then_takes (expression_before names texts 1) (λ p. then_takes (condition_from names texts p.1) (λ c. Ok (Watch p.0 c)))
