@@ -20,7 +20,7 @@ use watch_expr::{ExprError, MOST_NUMBER, Tokens};
 const MOST_SHOWN_BYTES: u64 = 256;
 
 // The greatest number of a thread.
-const MOST_THREAD: u64 = 63;
+const GREATEST_THREAD: u64 = 63;
 
 // How many events one line shows at most.
 const MOST_SHOWN_EVENTS: u64 = 1000;
@@ -156,7 +156,7 @@ fn read_frames(tokens: &Tokens<'_>, names: &[Bytes]) -> Result<DebuggerCommand, 
     ensures { ReadsCommand tokens.now (command_of_verb names.now (token_texts tokens.now) verb.Frames) result }
 {
     let node = read_node(tokens, 1, names)?;
-    let thread = read_number(tokens, 2, 0, MOST_THREAD)?;
+    let thread = read_number(tokens, 2, 0, GREATEST_THREAD)?;
     ending(tokens, 3, DebuggerCommand::Frames(node, thread))
 }
 
