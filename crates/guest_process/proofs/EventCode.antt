@@ -17,6 +17,7 @@ use Rattle.wasm_step.specs.Burst.{burst}
 use Rattle.wasm_step.specs.Suits.{SuitsModule}
 use Rattle.wasm_step.specs.Laws.{KeepsModule}
 use Rattle.wasm_step.specs.Thread.{Thread}
+use Rattle.wasm_stack.specs.Thread.{functions_of}
 use Rattle.wasm_stack.specs.declared.call.CallSite.{CallSite}
 use Rattle.guest_process.specs.declared.end.End.{End}
 use Rattle.guest_process.specs.declared.end.End.TheVariants.{Exited, Trapped}
@@ -29,7 +30,7 @@ use Rattle.lib_calls.specs.Answer.{Answer, answer_of}
 use Rattle.guest_process.specs.inside.Advancing.{acted_on_answer, pending_kind as kind_of}
 use Rattle.guest_process.specs.Answers.{effects_of_answer, exited_process, narrow}
 use Rattle.guest_process.specs.Fits.{Each, StateFits, live_has}
-use Rattle.guest_process.specs.GoesOn.{after_running, instruction_budget, with_event_counted, finished_if_all_over, handler, thread_runs_on, stands, stopped_thread, stopped_at_call, with_handler_frame}
+use Rattle.guest_process.specs.GoesOn.{after_running, instruction_budget, with_event_counted, finished_if_all_over, handler, runs_handled, thread_runs_on, stands, stopped_thread, stopped_at_call, with_handler_frame}
 use Rattle.guest_process.specs.Kinds.{ends_process, reply_value}
 use Rattle.guest_process.specs.Legal.{reason, reason_at}
 use Rattle.guest_process.specs.Next.{next, next_at_thread}
@@ -83,23 +84,23 @@ set_again (slot ∷ slots) (suc t) a b = ap (λ slots. slot ∷ slots) (set_agai
 with_again : (S : State) (t : ℕ) (slot : Slot Waiting) → with_thread (with_thread S t Lent) t slot ≡ with_thread S t slot
 with_again S t slot = ap (λ slots. record S { crew = record S.crew { threads = slots } }) (set_again S.crew.threads t Lent slot)
 
-abbrev ended : State → End → State
-ended S end = record S { end = end }
+abbrev ended : State → End → List ℕ → State
+ended S end frames = record S { end = end; trap_frames = frames }
 
 called_out : (S : State) (t : ℕ) (thread : Thread) (site : CallSite) (o : Option Kind) → stopped_at_call (with_thread S t Lent) t thread site o ≡ stopped_at_call S t thread site o
 called_out S t thread site (Some kind) = with_again S t (Kept (stands S thread site kind))
-called_out S t thread site None = ap (λ S'. ended S' (Trapped Unreachable)) (with_again S t Over)
+called_out S t thread site None = ap (λ S'. ended S' (Trapped Unreachable) []) (with_again S t Over)
 
 stopped_out : (S : State) (t : ℕ) (stop : Halt) → stopped_thread (with_thread S t Lent) t stop ≡ stopped_thread S t stop
 stopped_out S t (Calls thread site) = called_out S t thread site (kind_at S.store.«module» site.func)
 stopped_out S t Ends = ap (λ S'. finished_if_all_over S') (with_again S t Over)
-stopped_out S t (Traps trap) = ap (λ S'. ended S' (Trapped trap)) (with_again S t Over)
-stopped_out S t Sticks = ap (λ S'. ended S' (Trapped Unreachable)) (with_again S t Over)
+stopped_out S t (Traps trap functions) = ap (λ S'. ended S' (Trapped trap) functions) (with_again S t Over)
+stopped_out S t Sticks = ap (λ S'. ended S' (Trapped Unreachable) []) (with_again S t Over)
 
-runs_out : (S : State) (t : ℕ) (o : Option Thread) → after_running (with_thread S t Lent) t o ≡ after_running S t o
-runs_out S t None = ap (λ S'. ended S' (Trapped Exhausted)) (with_again S t Over)
-runs_out S t (Some thread) =
-    let run = burst instruction_budget thread S.store in
+runs_out : (S : State) (t : ℕ) (thread : Thread) (o : Option Thread) → after_running (with_thread S t Lent) t thread o ≡ after_running S t thread o
+runs_out S t thread None = ap (λ S'. ended S' (Trapped Exhausted) (functions_of thread)) (with_again S t Over)
+runs_out S t thread (Some above) =
+    let run = burst instruction_budget above S.store in
     stopped_out (record S { store = run.store }) t run.stop
 
 exits_by : (k : Kind) (S : State) (t : ℕ) (w : Waiting) (a : Answer) (signal clock : ℕ) → kind_numbered w.call.kind ≡ Some k → ends_process k ≡ true
@@ -112,13 +113,14 @@ exits_by _ S t w a signal clock e h = cc
 -- how a thread goes on that was taken out of the state after its answer
 abbrev pub goes_out : Kind → State → ℕ → Strand → ℕ → ℕ → ℕ → State
 goes_out k S t strand reply signal clock =
-    after_running (with_event_counted (with_thread S t Lent) t clock) t (with_handler_frame S.store.«module» (answered_strand strand (reply_value k reply)) signal (handler S.handlers signal))
+    runs_handled (with_event_counted (with_thread S t Lent) t clock) t (answered_strand strand (reply_value k reply)) signal
 
 runs_by : (k : Kind) (S : State) (t : ℕ) (strand : Strand) (reply signal clock : ℕ) → ends_process k ≡ false → goes_out k S t strand reply signal clock ≡ thread_runs_on k S t strand reply signal clock
 runs_by k S t strand reply signal clock h =
-    let thread = with_handler_frame S.store.«module» (answered_strand strand (reply_value k reply)) signal (handler S.handlers signal) in
-    runs_out (with_event_counted S t clock) t thread
-    ∙ ap (λ ends. cond ends (with_event_counted S t clock) (after_running (with_event_counted S t clock) t thread)) (sym h)
+    let counted = with_event_counted S t clock in
+    let answered = answered_strand strand (reply_value k reply) in
+    runs_out counted t answered.thread (with_handler_frame S.store.«module» answered signal (handler S.handlers signal))
+    ∙ ap (λ ends. cond ends counted (runs_handled counted t answered signal)) (sym h)
 
 -- ---- what is done before the thread is taken out
 

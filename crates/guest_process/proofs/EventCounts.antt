@@ -53,18 +53,18 @@ called_events S t thread site None = refl
 stopped_events : (S : State) (t : ℕ) (stop : Halt) → (stopped_thread S t stop).events ≡ S.events
 stopped_events S t (Calls thread site) = called_events S t thread site (kind_at S.store.«module» site.func)
 stopped_events S t Ends = settled_events _ _
-stopped_events S t (Traps trap) = refl
+stopped_events S t (Traps trap functions) = refl
 stopped_events S t Sticks = refl
 
-runs_events : (S : State) (t : ℕ) (o : Option Thread) → (after_running S t o).events ≡ S.events
-runs_events S t None = refl
-runs_events S t (Some thread) =
-    let run = burst instruction_budget thread S.store in
+runs_events : (S : State) (t : ℕ) (thread : Thread) (o : Option Thread) → (after_running S t thread o).events ≡ S.events
+runs_events S t thread None = refl
+runs_events S t thread (Some above) =
+    let run = burst instruction_budget above S.store in
     stopped_events (record S { store = run.store }) t run.stop
 
-event_events : (b : Bool) (S : State) (t : ℕ) (o : Option Thread) → (cond b S (after_running S t o)).events ≡ S.events
-event_events true S t o = refl
-event_events false S t o = runs_events S t o
+event_events : (b : Bool) (S : State) (t : ℕ) (thread : Thread) (o : Option Thread) → (cond b S (after_running S t thread o)).events ≡ S.events
+event_events true S t thread o = refl
+event_events false S t thread o = runs_events S t thread o
 
 -- ---- a legal entry counts once
 
@@ -73,7 +73,8 @@ counts_at S e None h = cc
 counts_at S e (Some w) h =
     let k = w.kind in
     let S' = effects_of_answer k S e.thread w.call (answer_of e) in
-    event_events (ends_process k) (with_event_counted S' e.thread e.clock) e.thread (with_handler_frame S'.store.«module» (answered_strand w.strand (reply_value k e.reply)) e.signal (handler S'.handlers e.signal))
+    let strand = answered_strand w.strand (reply_value k e.reply) in
+    event_events (ends_process k) (with_event_counted S' e.thread e.clock) e.thread strand.thread (with_handler_frame S'.store.«module» strand e.signal (handler S'.handlers e.signal))
     ∙ ap (λ n. n + 1) (answer_events k S e.thread w.call (answer_of e))
 
 pub counts : CountsEvents

@@ -136,26 +136,27 @@ module _ (laws : MarkLaws) where
   stopped_store : (S : State) (t : ℕ) (stop : Halt) → (stopped_thread S t stop).store ≡ S.store
   stopped_store S t (Calls thread site) = called_store S t thread site (kind_at S.store.«module» site.func)
   stopped_store S t Ends = settled_store _ _
-  stopped_store S t (Traps trap) = refl
+  stopped_store S t (Traps trap functions) = refl
   stopped_store S t Sticks = refl
 
-  runs_marks : (S : State) (t : ℕ) (o : Option Thread) → MarkedStore S.store (after_running S t o).store
-  runs_marks S t None = laws.nothing S.store
-  runs_marks S t (Some thread) =
-      let run = burst instruction_budget thread S.store in
-      subst (λ g. MarkedStore S.store g) (sym (stopped_store (record S { store = run.store }) t run.stop)) (record { later = laws.keeps instruction_budget thread S.store; told = laws.tells instruction_budget thread S.store })
+  runs_marks : (S : State) (t : ℕ) (thread : Thread) (o : Option Thread) → MarkedStore S.store (after_running S t thread o).store
+  runs_marks S t thread None = laws.nothing S.store
+  runs_marks S t thread (Some above) =
+      let run = burst instruction_budget above S.store in
+      subst (λ g. MarkedStore S.store g) (sym (stopped_store (record S { store = run.store }) t run.stop)) (record { later = laws.keeps instruction_budget above S.store; told = laws.tells instruction_budget above S.store })
 
-  event_marks : (b : Bool) (S : State) (t : ℕ) (o : Option Thread) → MarkedStore S.store (cond b S (after_running S t o)).store
-  event_marks true S t o = laws.nothing S.store
-  event_marks false S t o = runs_marks S t o
+  event_marks : (b : Bool) (S : State) (t : ℕ) (thread : Thread) (o : Option Thread) → MarkedStore S.store (cond b S (after_running S t thread o)).store
+  event_marks true S t thread o = laws.nothing S.store
+  event_marks false S t thread o = runs_marks S t thread o
 
   -- an event of a thread that stands so, as far as the number of the next
   ran_marks : (S : State) (e : Entry) (w : Waiting) → MarkedStore S.store (thread_runs_on w.kind (effects_of_answer w.kind S e.thread w.call (answer_of e)) e.thread w.strand e.reply e.signal e.clock).store
   ran_marks S e w =
       let after = effects_of_answer w.kind S e.thread w.call (answer_of e) in
       let ran = thread_runs_on w.kind after e.thread w.strand e.reply e.signal e.clock in
-      let thread = with_handler_frame after.store.«module» (answered_strand w.strand (reply_value w.kind e.reply)) e.signal (handler after.handlers e.signal) in
-      laws.follow S.store after.store ran.store (effects_marks w.kind S e.thread w.call (answer_of e)) (event_marks (ends_process w.kind) (with_event_counted after e.thread e.clock) e.thread thread)
+      let strand = answered_strand w.strand (reply_value w.kind e.reply) in
+      let above = with_handler_frame after.store.«module» strand e.signal (handler after.handlers e.signal) in
+      laws.follow S.store after.store ran.store (effects_marks w.kind S e.thread w.call (answer_of e)) (event_marks (ends_process w.kind) (with_event_counted after e.thread e.clock) e.thread strand.thread above)
 
   more_within : (ss : List ℕ) (n m : ℕ) → n ≤ m → AreWithin n ss → AreWithin m ss
   more_within [] n m le w = tt

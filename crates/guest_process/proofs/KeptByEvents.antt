@@ -87,8 +87,8 @@ module _ (P : Waiting → Type 0) where
   set_each (first ∷ rest) zero slot f g = (g, f.1)
   set_each (first ∷ rest) (suc t) slot f g = (f.0, set_each rest t slot f.1 g)
 
-  set_kept : (S : State) (t : ℕ) (slot : Slot Waiting) (end : End) → Each P S.crew.threads → HoldsOfSlot P slot → Keeps P t S (record (with_thread S t slot) { end = end })
-  set_kept S t slot end f g = record {
+  set_kept : (S : State) (t : ℕ) (slot : Slot Waiting) (end : End) (frames : List ℕ) → Each P S.crew.threads → HoldsOfSlot P slot → Keeps P t S (record (with_thread S t slot) { end = end; trap_frames = frames })
+  set_kept S t slot end frames f g = record {
     who = refl;
     count = refl;
     «module» = refl;
@@ -110,14 +110,14 @@ module _ (P : Waiting → Type 0) where
   Stand m = (S : State) (thread : Thread) (site : CallSite) (kind : Kind) → S.store.«module» ≡ m → kind_at m site.func ≡ Some kind → P (stands S thread site kind)
 
   called_kept : (S : State) (t : ℕ) (thread : Thread) (site : CallSite) → Each P S.crew.threads → Stand S.store.«module» → (o : Option Kind) → kind_at S.store.«module» site.func ≡ o → Keeps P t S (stopped_at_call S t thread site o)
-  called_kept S t thread site f g (Some kind) e = set_kept S t (Kept (stands S thread site kind)) S.end f (g S thread site kind refl e)
-  called_kept S t thread site f g None e = set_kept S t Over _ f tt
+  called_kept S t thread site f g (Some kind) e = set_kept S t (Kept (stands S thread site kind)) S.end S.trap_frames f (g S thread site kind refl e)
+  called_kept S t thread site f g None e = set_kept S t Over _ _ f tt
 
   stopped_kept : (S : State) (t : ℕ) (stop : Halt) → Each P S.crew.threads → Stand S.store.«module» → Keeps P t S (stopped_thread S t stop)
   stopped_kept S t (Calls thread site) f g = called_kept S t thread site f g (kind_at S.store.«module» site.func) refl
-  stopped_kept S t Ends f g = settled_kept t S (with_thread S t Over) (all_over (with_thread S t Over).crew.threads) (set_kept S t Over S.end f tt)
-  stopped_kept S t (Traps trap) f g = set_kept S t Over _ f tt
-  stopped_kept S t Sticks f g = set_kept S t Over _ f tt
+  stopped_kept S t Ends f g = settled_kept t S (with_thread S t Over) (all_over (with_thread S t Over).crew.threads) (set_kept S t Over S.end S.trap_frames f tt)
+  stopped_kept S t (Traps trap functions) f g = set_kept S t Over _ _ f tt
+  stopped_kept S t Sticks f g = set_kept S t Over _ _ f tt
 
   burst_kept : (S : State) (t : ℕ) (run : BurstResult) → run.store.«module» ≡ S.store.«module» → Each P S.crew.threads → Stand S.store.«module» → Keeps P t S (process_after_burst S t run)
   burst_kept S t run e f g =
@@ -125,13 +125,13 @@ module _ (P : Waiting → Type 0) where
       (record { who = refl; count = refl; «module» = e; room = refl; threads = f; others = λ u h. refl; holders = refl; handlers = refl; clock = refl; events = refl })
       (stopped_kept (record S { store = run.store }) t run.stop f (subst Stand (sym e) g))
 
-  runs_kept : KeepsModule → (S : State) (t : ℕ) (o : Option Thread) → Each P S.crew.threads → Stand S.store.«module» → Keeps P t S (after_running S t o)
-  runs_kept keeps S t None f g = set_kept S t Over _ f tt
-  runs_kept keeps S t (Some thread) f g = burst_kept S t (burst instruction_budget thread S.store) (keeps instruction_budget thread S.store) f g
+  runs_kept : KeepsModule → (S : State) (t : ℕ) (thread : Thread) (o : Option Thread) → Each P S.crew.threads → Stand S.store.«module» → Keeps P t S (after_running S t thread o)
+  runs_kept keeps S t thread None f g = set_kept S t Over _ _ f tt
+  runs_kept keeps S t thread (Some above) f g = burst_kept S t (burst instruction_budget above S.store) (keeps instruction_budget above S.store) f g
 
-  event_kept : KeepsModule → (b : Bool) (S : State) (t : ℕ) (o : Option Thread) → Each P S.crew.threads → Stand S.store.«module» → Keeps P t S (cond b S (after_running S t o))
-  event_kept keeps true S t o f g = kept_same t S f
-  event_kept keeps false S t o f g = runs_kept keeps S t o f g
+  event_kept : KeepsModule → (b : Bool) (S : State) (t : ℕ) (thread : Thread) (o : Option Thread) → Each P S.crew.threads → Stand S.store.«module» → Keeps P t S (cond b S (after_running S t thread o))
+  event_kept keeps true S t thread o f g = kept_same t S f
+  event_kept keeps false S t thread o f g = runs_kept keeps S t thread o f g
 
   awaits_kept : (t : ℕ) (S S' : State) → Keeps P t S S' → Keeps P t S (awaits_event S')
   awaits_kept t S S' k = record { who = k.who; count = k.count; «module» = k.«module»; room = k.room; threads = k.threads; others = k.others; holders = k.holders; handlers = k.handlers; clock = k.clock; events = k.events }
@@ -139,8 +139,9 @@ module _ (P : Waiting → Type 0) where
   -- as it goes on after the answer
   pub went_on : KeepsModule → (k : Kind) (S : State) (t : ℕ) (w : Waiting) (reply signal clock : ℕ) → Each P S.crew.threads → Stand S.store.«module» → Keeps P t (with_event_counted S t clock) (thread_goes_on k S t w.strand reply signal clock)
   went_on keeps k S t w reply signal clock f g =
+      let strand = answered_strand w.strand (reply_value k reply) in
       awaits_kept t (with_event_counted S t clock) (thread_runs_on k S t w.strand reply signal clock)
-      (event_kept keeps (ends_process k) (with_event_counted S t clock) t (with_handler_frame S.store.«module» (answered_strand w.strand (reply_value k reply)) signal (handler S.handlers signal)) f g)
+      (event_kept keeps (ends_process k) (with_event_counted S t clock) t strand.thread (with_handler_frame S.store.«module» strand signal (handler S.handlers signal)) f g)
 
   -- ---- the answer
 
@@ -177,7 +178,7 @@ module _ (P : Waiting → Type 0) where
       })
       (affects_none S f)
       (record { who = refl; count = refl; «module» = refl; room = λ few. few; threads = f; clock = refl; events = refl })
-      (λ e. let over = set_kept S t Over S.end f tt in record { who = refl; count = refl; «module» = refl; room = λ few. omega (arith, over.room, few); threads = over.threads; clock = refl; events = refl })
+      (λ e. let over = set_kept S t Over S.end S.trap_frames f tt in record { who = refl; count = refl; «module» = refl; room = λ few. omega (arith, over.room, few); threads = over.threads; clock = refl; events = refl })
 
   -- all of an event, from its clock on
   pub event_affects : KeepsModule → (k : Kind) (S : State) (t : ℕ) (c : Call) (a : Answer) (w : Waiting) (signal clock : ℕ) → Each P S.crew.threads → Begins S.store.«module» → Stand S.store.«module» → Affects P (with_event_counted S t clock) (thread_goes_on k (effects_of_answer k S t c a) t w.strand a.reply signal clock)

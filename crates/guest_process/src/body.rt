@@ -11,6 +11,7 @@ ghost use Rattle.guest_process.specs.State.{is_running};
 
 use crate::calls::call_of_site;
 use crate::end::End;
+use crate::frames::Frames;
 use crate::waiting::Waiting;
 use coop_threads::{Crew, Status};
 use signal_points::Handlers;
@@ -33,7 +34,7 @@ pub(crate) struct Body<'m> {
     pub(crate) last_thread: Option<u16>,
     pub(crate) end: End,
     /// The functions of the frames of the thread that trapped.
-    pub(crate) trap_frames: Vec<u32>,
+    pub(crate) trap_frames: Frames,
 }
 
 impl<'m> Body<'m> {
@@ -49,13 +50,13 @@ impl<'m> Body<'m> {
     /// A thread that was taken out traps, with these functions of its frames.
     pub(crate) fn trap(&mut self, thread: u16, trap: Trap, functions: Vec<u32>)
         requires { IsTaken self.old.crew thread }
-        ensures state { state_of self.new ≡ trapped_thread (state_of self.old) thread trap functions.entry.items }
+        ensures state { state_of self.new ≡ trapped_thread (state_of self.old) thread trap functions.items }
         ensures same_module { self.new.«module» ≡ self.old.«module» }
         ensures store { self.new.store ≡ self.old.store }
     {
         self.crew.end(thread);
         self.end = End::Trapped(trap);
-        self.trap_frames = functions;
+        self.trap_frames = Frames::new(functions);
     }
 
     /// A thread that was taken out stops where its burst paused.
@@ -108,7 +109,7 @@ impl<'m> Body<'m> {
             events: self.events,
             last_thread: self.last_thread,
             end: self.end,
-            trap_frames: self.trap_frames.clone()?,
+            trap_frames: self.trap_frames.copy()?,
         })
     }
 

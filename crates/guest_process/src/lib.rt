@@ -15,6 +15,7 @@ mod body;
 mod calls;
 mod divergence;
 mod end;
+mod frames;
 mod handlers;
 mod judge;
 pub mod laws;

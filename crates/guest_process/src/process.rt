@@ -21,6 +21,7 @@ use crate::answer::handler;
 use crate::body::Body;
 use crate::divergence::Divergence;
 use crate::end::End;
+use crate::frames::Frames;
 use crate::need::Need;
 use crate::waiting::{Waiting, beginning};
 use coop_threads::{Crew, Status};
@@ -238,7 +239,7 @@ impl<'m> Process<'m> {
             End::Trapped(_) if self.body.last_thread == Some(thread) => self
                 .body
                 .trap_frames
-                .clone(),
+                .list(),
             _ => Ok(Vec::new(alloc)),
         }
     }
@@ -304,7 +305,7 @@ fn begin<'m>(
         events: 0,
         last_thread: None,
         end: End::Running,
-        trap_frames: Vec::new(alloc),
+        trap_frames: Frames::new(Vec::new(alloc)),
     };
     let body = Box::new(alloc, body)?;
     Ok(Process { body })

@@ -18,7 +18,7 @@ state_of p = record {
   events = p.events;
   last_thread = p.last_thread;
   end = p.end;
-  trap_frames = p.trap_frames.items;
+  trap_frames = p.trap_frames;
 }
 
 -- what holds of each process of a valid module

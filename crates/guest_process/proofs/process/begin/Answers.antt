@@ -1,4 +1,4 @@
-use Rattle.std.proofs.Common.{refl, ap, sym, subst, ◌∙◌}
+use Rattle.std.proofs.Common.{None, refl, ap, sym, subst, ◌∙◌}
 use Rattle.coop_threads.specs.Crew.{empty, with_live}
 use Rattle.wasm_types.specs.Modules.{Module, module_of}
 use Rattle.wasm_types.specs.Valid.{IsValid}
@@ -19,6 +19,7 @@ invariant_of-result c =
     let waiting = c.beginning.ensures ∙ ap waits_at_begin (same_module ∙ call) in
     let crew = c.in-Ok.ensures.ok ∙ ap (λ crew. with_live crew c.beginning.result) c.new-crew.ensures ∙ ap (with_live empty) waiting in
     let valid = subst (λ r. IsValid (module_of r)) c.module.ensures.same c.module.ensures.valid in
+    let frames = c.new-3.ensures ∙ c.new-2.ensures.items in
     let p : Body = record {
       alloc = c.args.alloc;
       «module» = c.args.«module»;
@@ -29,6 +30,8 @@ invariant_of-result c =
       handlers = c.new.result;
       clock = 0;
       events = 0;
+      last_thread = None;
       end = Running;
+      trap_frames = c.new-3.result;
     } in
-    subst IsOfModule (sym c.in_ok-body.ensures.ok) (is_process c.stamps_no_later.ensures.written c.stamps_no_later.ensures.fresh p c.args.store s.thread c.requires.who c.requires.count c.requires.store valid c.requires.suits (rw (c.begin_event.ensures, crew, c.new.ensures) refl))
+    subst IsOfModule (sym c.in_ok-body.ensures.ok) (is_process c.stamps_no_later.ensures.written c.stamps_no_later.ensures.fresh p c.args.store s.thread c.requires.who c.requires.count c.requires.store valid c.requires.suits (rw (c.begin_event.ensures, crew, c.new.ensures, frames) refl))

@@ -5,7 +5,7 @@ use Rattle.lib_calls.specs.Entry.{entry_of}
 use Rattle.wasm_types.specs.Modules.{module_of}
 use Rattle.wasm_step.specs.Strand.{IsHandler, answered_strand}
 use Rattle.guest_process.specs.Answers.{exited_process}
-use Rattle.guest_process.specs.GoesOn.{after_running, with_event_counted, handler, with_handler_frame}
+use Rattle.guest_process.specs.GoesOn.{with_event_counted, handler, runs_handled}
 use Rattle.guest_process.specs.Kinds.{reply_value}
 use Rattle.guest_process.specs.inside.Meanings.{state_of}
 use Rattle.guest_process.specs.Sound.{StandsAtKind}
@@ -104,6 +104,6 @@ returns-clause-state c =
     let at = taken_is S e (pending_kind S e.thread) w c.requires.legal (ap (λ S'. thread_at S' e.thread) (sym after) ∙ sym c.take.ensures.value ∙ c.in-Some.is) in
     let ends = sym c.ends_process.ensures ∙ c.if-ends_process.false in
     ap awaits_event (c.in_ok-go_on.ensures.state
-    ∙ ap (λ crew. after_running (with_event_counted (record S' { crew = crew }) e.thread e.clock) e.thread (with_handler_frame S'.store.«module» (answered_strand w.strand (reply_value w.kind e.reply)) e.signal (handler S'.handlers e.signal))) c.in-Some.ensures.some
+    ∙ ap (λ crew. runs_handled (with_event_counted (record S' { crew = crew }) e.thread e.clock) e.thread (answered_strand w.strand (reply_value w.kind e.reply)) e.signal) c.in-Some.ensures.some
     ∙ ap (λ S'. goes_out w.kind S' e.thread w.strand e.reply e.signal e.clock) after)
     ∙ goes S e w c.requires.process.fits c.requires.legal at ends
