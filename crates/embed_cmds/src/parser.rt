@@ -9,7 +9,9 @@ ghost use Rattle.embed_cmds.specs.Tree.{item_of, statement_of, statements};
 use crate::faults::program_faults;
 use crate::keyword::Keyword;
 use crate::program::{Program, SayItem, Stmt};
-use crate::token::{expect, names_event_node, read_expression, read_keyword, read_word, stands, string_at};
+use crate::token::{
+    expect, names_event_node, read_expression, read_keyword, read_word, stands, string_at,
+};
 use fri_bytes::Bytes;
 use std::alloc::Global;
 use watch_expr::{ExprError, Tokens};
