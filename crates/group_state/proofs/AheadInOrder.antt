@@ -44,10 +44,13 @@ no_front [] k is = refl
 no_front (a ∷ xs) zero is = absurd (cc)
 no_front (a ∷ xs) (suc k) is = no_front xs k is
 
+none_past : {X : Type 0} (xs : List X) (k : ℕ) → slice_get xs k ≡ None → length xs ≤ k
+none_past [] k is = omega arith
+none_past (a ∷ xs) zero is = absurd (cc)
+none_past (a ∷ xs) (suc k) is = let below = none_past xs k is in omega (arith, below)
+
 pub none_left : {X : Type 0} (xs : List X) (k : ℕ) → slice_get xs k ≡ None → nat_le (length xs) k ≡ true
-none_left [] k is = refl
-none_left (a ∷ xs) zero is = absurd (cc)
-none_left (a ∷ xs) (suc k) is = none_left xs k is
+none_left xs k is = let past = none_past xs k is in elim (leb_tells (length xs) k) [ inl t ↦ t.0 | inr f ↦ absurd (omega (arith, f.1, past)) ]
 
 pub some_left : {X : Type 0} (xs : List X) (k : ℕ) → k < length xs → nat_le (length xs) k ≡ false
 some_left xs k within = elim (leb_tells (length xs) k) [ inl t ↦ absurd (omega (arith, t.1, within)) | inr f ↦ f.0 ]
