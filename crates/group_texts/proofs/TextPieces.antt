@@ -43,11 +43,11 @@ lines_more text next all ts t u within one is whole =
 -- ---- the functions of frames
 
 -- one function more
-pub functions_more : (text next all : List ℕ) (fs : List ℕ) (i f : ℕ) → i < length fs → f ≡ get_or fs i f → next ≡ text ++ function_text f → text ++ flat_map function_text (drop i fs) ≡ all
+pub functions_more : (text next all : List ℕ) (fs : List ℕ) (i : ℕ) → i < length fs → next ≡ text ++ function_text (get_or fs i 0) → text ++ flat_map function_text (drop i fs) ≡ all
     → next ++ flat_map function_text (drop (i + 1) fs) ≡ all
-functions_more text next all fs i f within here is whole =
-    let behind : drop i fs ≡ f ∷ drop (i + 1) fs = drop_more fs i f within ∙ ap (λ (g : ℕ). g ∷ drop (i + 1) fs) (sym here) in
-    piece text next (function_text f) (flat_map function_text (drop (i + 1) fs)) all is (ap (λ (l : List ℕ). text ++ flat_map function_text l) (sym behind) ∙ whole)
+functions_more text next all fs i within is whole =
+    let f = get_or fs i 0 in
+    piece text next (function_text f) (flat_map function_text (drop (i + 1) fs)) all is (ap (λ (l : List ℕ). text ++ flat_map function_text l) (sym (drop_more fs i 0 within)) ∙ whole)
 
 -- ---- a name that is not there
 

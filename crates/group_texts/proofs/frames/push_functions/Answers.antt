@@ -1,10 +1,14 @@
 use Rattle.std.specs.List.{flat_map}
-use Rattle.std.proofs.Common.{◌++◌}
+use Rattle.std.proofs.Common.{◌∙◌, ◌++◌, ℕ, List, ap, append_assoc, codes, decimal, get_or}
 use Rattle.group_texts.specs.Texts.{function_text}
 use Rattle.group_texts.proofs.TextPieces.{functions_more}
 use Rattle.group_texts.proofs.frames.push_functions.Goals as goal
 
 pub loop-frame-preserved : goal.loop-frame-preserved
 loop-frame-preserved c =
-    functions_more c.loop-frame.text c.push_u64.new.text (c.args.text.now ++ flat_map function_text c.args.frames.now) c.args.frames.now c.loop-frame.frame-index c.frame-item.result
-    c.loop-frame-test.true c.frame-item.is _ c.loop-frame.invariant
+    let text = c.loop-frame.text in
+    let fs = c.args.frames.now in
+    let f = get_or fs c.loop-frame.frame-index 0 in
+    let number = c.in_ok-push_u64.ensures.ok ∙ ap (λ (n : ℕ). c.push_str.new.self ++ decimal n) c.from.ensures in
+    let is = number ∙ ap (λ (t : List ℕ). t ++ decimal f) c.in_ok-push_str.ensures.ok ∙ append_assoc text (codes " ") (decimal f) in
+    functions_more text c.push_u64.new.self (c.args.text.now ++ flat_map function_text fs) fs c.loop-frame.frame-index c.loop-frame-test.true is c.loop-frame.invariant
