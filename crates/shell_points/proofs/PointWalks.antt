@@ -1,6 +1,6 @@
 -- What points do at a position, by what they read, and how a walk goes on.
 use Rattle.std.proofs.Common.{◌≡◌, ℕ, ℤ, zero, suc, ◌+◌, ◌-◌, ◌<◌, ◌≤◌, Bool, true, false, cond, drop, List, [], ◌∷◌, ◌++◌, length, get_or, map, Option, Some, None, inl, inr, refl, sym, ap, ◌∙◌, arith}
-use Rattle.std.specs.Prelude.{◌==◌, ◌||◌, codes, nat_le, option_map, slice_get}
+use Rattle.std.specs.Prelude.{◌==◌, codes, nat_le, option_map, slice_get}
 use Rattle.std.proofs.lemmas.Bool.{eqb-true, le-leb, ne_eqb}
 use Rattle.std.proofs.lemmas.Bool.Decides.{leb_tells}
 use Rattle.std.proofs.lemmas.List.{drop_more}
@@ -144,22 +144,6 @@ over_without end at = elim (leb_tells end at) [
       t.0 ∙ sym (ap (λ (n : ℕ). n == 0) none)
   | inr f ↦ f.0 ∙ sym (not_none (end - at) (omega (arith, f.1)))
 ]
-
-pub over_with : (n end at : ℕ) → (n == 0 || nat_le end at) ≡ (steps_of (Some n) (end - at) == 0)
-over_with zero end at = elim (leb_tells 0 (end - at)) [
-  | inl t ↦ sym (ap (λ (b : Bool). cond b 0 (end - at) == 0) t.0)
-  | inr f ↦ absurd (omega (arith, f.1))
-]
-over_with (suc n) end at =
-    let some : (suc n == 0) ≡ false = not_none (suc n) (omega arith) in
-    let rest : nat_le end at ≡ (steps_of (Some (suc n)) (end - at) == 0) = elim (leb_tells (suc n) (end - at)) [
-      | inl t ↦ elim (leb_tells end at) [
-        | inl u ↦ absurd (omega (arith, t.1, u.1))
-        | inr f ↦ f.0 ∙ sym (ap (λ (b : Bool). cond b (suc n) (end - at) == 0) t.0 ∙ some)
-      ]
-      | inr f ↦ over_without end at ∙ sym (ap (λ (b : Bool). cond b (suc n) (end - at) == 0) f.0)
-    ] in
-    ap (λ (b : Bool). b || nat_le end at) some ∙ rest
 
 abbrev end_of : List Replaying → ℕ
 end_of start = length (events_of_replays start)
