@@ -3,7 +3,6 @@ use Rattle.std.specs.Prelude.{ℕ, ◌+◌, ◌-◌, min, Bool, true, false, ◌
 use Rattle.std.specs.List.{flat_map}
 use Rattle.fri_text.specs.Hex.{hex_word}
 use Rattle.call_table.specs.declared.kind.Kind.{Kind}
-use Rattle.proc_replay.specs.Replaying.{Replaying}
 use Rattle.guest_process.specs.Meanings.{thread_frames}
 use Rattle.guest_process.specs.State.{State}
 use Rattle.watch_expr.specs.Expression.{Expression}
