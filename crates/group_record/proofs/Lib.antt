@@ -21,3 +21,4 @@ pub mod GroupOfSchedule
 pub mod EventTakes
 pub mod ReadySignals
 pub mod RunStands
+pub mod IdleItems

@@ -5,6 +5,7 @@ pub mod Images
 pub mod Files
 pub mod Answer
 pub mod Live
+pub mod Idle
 pub mod Laws
 pub mod Standing
 pub mod RunLaws

@@ -1,5 +1,6 @@
 // What holds of each recording, as calls that do nothing.
 ghost use Rattle.group_record.specs.Laws.{Agreement, Beginning, CutAgreement, Delivery, TakesDrawn, TakesWaiting};
+ghost use Rattle.group_record.specs.Idle.{IdleLeftOut};
 ghost use Rattle.group_record.specs.Live.{LiveStates, LiveSummary};
 ghost use Rattle.group_record.specs.Standing.{Standing};
 
@@ -65,4 +66,10 @@ pub fn taking()
 pub fn live_groups()
     ensures states { LiveStates }
     ensures summary { LiveSummary }
+{}
+
+/// Tries and items that are idle where they come may be left out of a schedule: the run makes the same steps, and a log is
+/// full in both or in neither.
+pub fn idle_left_out()
+    ensures { IdleLeftOut }
 {}
