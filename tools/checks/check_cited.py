@@ -14,7 +14,7 @@ from collections import defaultdict
 
 from tools_path import TOP
 
-PAGES = ("README.md", "docs/proved.md", "docs/architecture.md", "docs/contributing.md", "docs/DECISIONS.md")
+PAGES = ("README.md", "docs/theorem.md", "docs/proved.md", "docs/architecture.md", "docs/inside.md", "docs/contributing.md", "docs/DECISIONS.md")
 CRATES = os.path.join(TOP, "crates")
 SPEC = re.compile(r"^ *(?:(?:abbrev|unfoldable|opaque|pub|record|data) )*([^\s:(){}|]+)(?=[^:\n]* :|(?: [^:\n]*)? where| [^:=\n]*=)", re.M)
 CODE = re.compile(r"\b(?:fn|struct|enum|trait|type|mod|const|static|ghost) (\w+)|^ *(?:ensures|requires)\*? (\w+) \{|^ *(?:pub(?:\([a-z]+\))? )?(\w+)(?=[:,({]| \{| =)|^'(\w+):", re.M)
