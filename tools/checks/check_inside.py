@@ -1,9 +1,8 @@
 #!/usr/bin/env python3
 """Checks that the files of each crate's specs/ tell its promise from its inside: a definition that the promise needs stands in
-specs/, any other in specs/inside/, and the table of docs/architecture.md names the files that are there.
+specs/, and any other in specs/inside/.
 
 check_inside.py                     checks
-check_inside.py --write             writes the names of the files of specs/inside/ into the table, and then checks
 check_inside.py --list [CRATE ..]   tells of each file if it is promised, inside or mixed, and checks nothing
 
 The promise needs what one of these cites, and what that cites in turn:
@@ -38,9 +37,6 @@ BLOCK_OF = re.compile(r"impl(?:<[^>]*>)? (?:(?P<trait>[\w:]+)(?:<.*>)? for )?(?P
 NAMED = re.compile(r"^pub (?:const )*(?:fn|struct|enum|trait|const|type) (\w+)", re.M)
 EXPORT = re.compile(r"^pub use (\w+)::(?:\{([^}]*)\}|(\w+));", re.M)
 CLAUSE = re.compile(r"\b(?:requires|ensures|ghost)\b[^{};]*(\{(?:[^{}]|\{(?:[^{}]|\{[^{}]*\})*\})*\})")
-# The table of the crates in docs/architecture.md.
-TABLE = re.compile(r"^\| crate \| stands on \|.*\n(?:\|.*\n)*", re.M)
-ROW = re.compile(r"^\| `(\w+)` \|.*\|$", re.M)
 
 
 @dataclass
@@ -208,35 +204,12 @@ class Specs:
         return [name for name in names if (crate, module, name) in self.promised], [name for name in names if (crate, module, name) not in self.promised]
 
 
-def inside_files(crate):
-    return [module.partition(".")[2] for module, _ in files_of(crate, "specs", ".antt") if module.startswith("inside.")]
-
-
-def with_inside(row):
-    """The row of a crate with the files that are inside it."""
-    line, crate = row.group(0), row.group(1)
-    files = inside_files(crate)
-    bare = re.sub(r"; inside .*(?= \|$)", "", line)
-    return bare[:-2] + "; inside " + ", ".join("`%s`" % name for name in files) + " |" if files else bare
-
-
 def misplaced(specs):
     """What is wrong with the files: the definitions that stand on the other side."""
     for crate, module in specs.definitions:
         is_inside = module.startswith("inside.")
         for name in specs.parts(crate, module)[0 if is_inside else 1]:
             yield "%s: %s of specs/%s is %s" % (crate, name, module.replace(".", "/"), "promised" if is_inside else "inside")
-
-
-def untold(page):
-    for row in ROW.finditer(TABLE.search(read(page)).group(0)):
-        if with_inside(row) != row.group(0):
-            yield "%s: docs/architecture.md names other files of specs/inside than there are" % row.group(1)
-
-
-def told(page):
-    """The page, with the files that are there in its table."""
-    return TABLE.sub(lambda table: ROW.sub(with_inside, table.group(0)), read(page))
 
 
 def list_files(specs, crates):
@@ -247,17 +220,13 @@ def list_files(specs, crates):
 
 
 def main():
-    specs, page = Specs(), os.path.join(TOP, "docs", "architecture.md")
+    specs = Specs()
     if sys.argv[1:2] == ["--list"]:
         list_files(specs, sys.argv[2:])
         return 0
-    if sys.argv[1:] == ["--write"]:
-        text = told(page)
-        with open(page, "w", encoding="utf-8") as file:
-            file.write(text)
-    elif sys.argv[1:]:
+    if sys.argv[1:]:
         sys.exit(__doc__)
-    wrong = [*misplaced(specs), *untold(page)]
+    wrong = list(misplaced(specs))
     print("\n".join([*wrong, "inside: %s" % ("%d are not as they are told" % len(wrong) if wrong else "as expected")]))
     return 1 if wrong else 0
 

@@ -16,7 +16,7 @@ def drilled(rounds):
 
 def rounds(script):
     script.case("drills of so many rounds, with zeros in front too")
-    for word in ("1", "2", "3", "4", "10", "10000", "100000", "01", "010", "00000000000000000000000000003"):
+    for word in ("1", "2", "3", "4", "5", "6", "7", "10", "123", "4096", "10000", "99999", "100000", "01", "010", "00000000000000000000000000003"):
         script.run("drill " + word, "Done", *drilled(int(word)))
 
 

@@ -160,6 +160,11 @@ def order(script):
     ):
         script.file("s", text("friday 1\nprocess a %s\nprocess b %s\n" % (first, second)))
         script.run("record s", status, "friday: " + said)
+    for place in range(16):
+        modules = ["far" if p == place else "least" for p in range(16)]
+        script.file("s", text("friday 1\n" + "".join("process p%d %s\n" % it for it in enumerate(modules))))
+        script.run("record s", "Refused", "friday: refused far: 7 BadSegment")
+    script.show("p0.log", None)
     script.show("a.log", None)
     script.file("s", text("friday 1\nprocess a least\nprocess b least\nrun 1 0\n"))
     script.run("record s", "Done", "a: 0 events, running", "b: 1 events, finished", "items: 1 acted, 0 idle")

@@ -191,6 +191,7 @@ def sends(script):
         ("chunks out of order", [(at, b"abcdef"[at : at + 2]) for at in (4, 2, 0, 4, 2)], 4, 3),
         ("chunks without bytes: at the end, within, and past the end", [*((at, b"") for at in (0, 1)), (0, b"ab"), *((at, b"") for at in range(4))], 2, 2),
         ("the greatest offsets, by which bytes would come round to the first one", ((0, b"ab"), *NEAR_MOST), 2, 6),
+        ("forty gaps, and the bytes that go on at last", (*((at, b"x") for at in range(1, 41)), (0, b"ab")), 2, 40),
     ):
         writer = straight(2, 0, "a", *(send(1, chunk(7, at, data)) for at, data in chunks))
         case(script, "a stream with " + name, (writer,), "0 -> 1 stream 7: %d written, 0 read" % written, "streams: 1, %d odd, 0 foreign" % odd)
@@ -251,6 +252,7 @@ TAKES = (
     ("no chunk behind the tag of one", [((0, 2), data) for data in (b"abcdef", b"", chunk(1, 0)[:13])], 0, 0),
     ("chunks behind each other's tags", [((0, 2), MORE), ((0, 3), WHOLE)], 0, 2),
     ("chunks without a tag", [(None, WHOLE), (None, MORE)], 0, 0),
+    ("a chunk behind tags of forty clocks at which nothing was sent, and then the first one", [*(((0, at), WHOLE) for at in range(8, 48)), ((0, 2), WHOLE)], 6, 40),
 )
 
 

@@ -1,0 +1,44 @@
+"""What a definition reaches: all that it cites, and what those cite, down to leaves that are taken as words."""
+
+from definitions.reading import Home
+
+
+class Reached:
+    """The definitions that some reach, in the order in which a reader meets them, and the leaves at which that ends."""
+
+    def __init__(self, files, leaves):
+        self.files, self.leaf_crates = files, leaves
+        self.met, self.leaves = {}, {}
+
+    def found(self, home):
+        """The file that declares a name, also where a crate hands on the files of one below."""
+        file = self.files.get((home.crate, home.file))
+        if file and home.name in file.definitions:
+            return file
+        others = [it for (_, name), it in self.files.items() if name == home.file and home.name in it.definitions]
+        return others[0] if others else None
+
+    def follow(self, home):
+        """Meets a definition and then what it cites, line by line."""
+        left = [home]
+        while left:
+            home = left.pop(0)
+            file = self.found(home)
+            if file is None:
+                continue
+            there = Home(file.crate, file.file, home.name)
+            if file.crate in self.leaf_crates:
+                self.leaves.setdefault(there)
+                continue
+            definition = file.definitions[home.name]
+            if definition in self.met:
+                continue
+            self.met[definition] = there
+            left += [cited for word in definition.words for cited in self.cited(file, word) if word not in definition.names]
+
+    @staticmethod
+    def cited(file, word):
+        if word in file.definitions:
+            yield Home(file.crate, file.file, word)
+        elif word in file.imported:
+            yield file.imported[word]
