@@ -124,6 +124,11 @@ with_byte reader b = record { session = reader.session; begun = reader.begun ++ 
 abbrev pub at_line_end : {X : Type 0} → SessionReader X → X → SessionReader X
 at_line_end reader next = record { session = next; begun = []; count = reader.count + 1 }
 
+-- what was printed so far
+pub part_so_far : {X S : Type 0} (stands : X → S → Type 0) (talker : Talker S) (printed now : Option (List ℕ)) (reader : SessionReader X) (taken : List ℕ) → SessionStands stands talker printed now reader taken → SaysPart talker printed now taken
+part_so_far stands talker printed now reader taken s = part_of talker printed now taken (length (spoken_text talker (whole_lines taken))) (omega (arith, s.count_is, s.within))
+    (s.text ∙ ap (append_known printed) (sym (take-length (spoken_text talker (whole_lines taken)))))
+
 module _ {X S : Type 0} (stands : X → S → Type 0) (talker : Talker S) (printed now : Option (List ℕ)) (reader : SessionReader X) (taken : List ℕ) (s : SessionStands stands talker printed now reader taken) (b : ℕ) where
   -- a byte that ends no line
   pub stands_other : is_line_feed b ≡ false → reader.count < most_input → SessionStands stands talker printed now (with_byte reader b) (taken ++ b ∷ [])
@@ -199,8 +204,7 @@ module _ {X S : Type 0} (stands : X → S → Type 0) (talker : Talker S) (print
 
   -- nothing more was printed
   pub part_kept : SaysPart talker printed now (taken ++ b ∷ [])
-  part_kept = part_more talker printed now taken (b ∷ []) (part_of talker printed now taken (length (spoken_text talker (whole_lines taken))) (omega (arith, s.count_is, s.within))
-      (s.text ∙ ap (append_known printed) (sym (take-length (spoken_text talker (whole_lines taken))))))
+  part_kept = part_more talker printed now taken (b ∷ []) (part_so_far stands talker printed now reader taken s)
 
   pub overruns : most_input ≤ reader.count → InputOverruns talker printed now (taken ++ b ∷ [])
   overruns full =

@@ -136,24 +136,28 @@ fn take_piece<S: LineSession, K: Sink>(
     let LineReader {
         mut session,
         mut begun,
-        mut count,
+        count,
     } = reader;
+    let room = MOST_INPUT - count;
+    let (mut from, mut at) = (0, 0);
     for b in piece {
-        if count >= MOST_INPUT {
+        if at >= room {
             return Err(Ended::TooLarge);
         }
-        begun.push(*b)?;
-        count += 1;
+        at += 1;
         if *b != b'\n' {
             continue;
         }
+        begun.extend_from_slice(&piece[from..at])?;
         session = answer(alloc, session, begun.as_slice(), out)?;
-        begun = Vec::new(alloc);
+        begun.clear();
+        from = at;
     }
+    begun.extend_from_slice(&piece[from..])?;
     Ok(LineReader {
         session,
         begun,
-        count,
+        count: count + at,
     })
 }
 

@@ -1,11 +1,14 @@
 // Text that is put together piece by piece.
-ghost use Rattle.std.specs.Prelude.{◌≡◌, [], ◌++◌, decimal, OnOk, OnErr};
+ghost use Rattle.std.specs.Prelude.{◌≡◌, ◌+◌, ◌≤◌, [], ◌++◌, decimal, OnOk, OnErr, vec_capacity, vec_len};
 ghost use Rattle.std.specs.Fmt.{signed_decimal};
 ghost use Rattle.fri_text.specs.Hex.{hex_word};
 
 use itoa::Buffer;
 use std::alloc::{AllocError, Global};
 use std::marker::Model;
+
+// How many bytes most lines find room in.
+const LINE_ROOM: usize = 64;
 
 /// Text in the making. Contracts see the list of its bytes. Each call adds at the end, and adds nothing
 /// where there is no memory for all of it.
@@ -59,14 +62,27 @@ impl Text {
         ensures ok { OnOk result (self.new ≡ self.old ++ b.now) }
         ensures err { OnErr result (self.new ≡ self.old) }
     {
-        self.bytes.extend_from_slice(b)
+        if self.bytes.len() + b.len() > self.bytes.capacity() {
+            make_room(&mut self.bytes, b.len())?;
+        }
+        match b {
+            [byte] => {
+                self.bytes.push_reserved(*byte);
+                Ok(())
+            }
+            _ => self.bytes.extend_from_slice(b),
+        }
     }
 
     /// Adds the number in decimal digits, with no zero in front.
+    #[tactic(auto, using(std::proofs::lemmas::Fmt::decimal_digit))]
     pub fn push_u64(&mut self, v: u64) -> Result<(), AllocError>
         ensures ok { OnOk result (self.new ≡ self.old ++ decimal v) }
         ensures err { OnErr result (self.new ≡ self.old) }
     {
+        if v < 10 {
+            return self.push_bytes(&[b'0' + v as u8]);
+        }
         let mut buffer = Buffer::new();
         self.push_str(buffer.format(v))
     }
@@ -76,6 +92,9 @@ impl Text {
         ensures ok { OnOk result (self.new ≡ self.old ++ signed_decimal v) }
         ensures err { OnErr result (self.new ≡ self.old) }
     {
+        if let Ok(number) = u64::try_from(v) {
+            return self.push_u64(number);
+        }
         let mut buffer = Buffer::new();
         self.push_str(buffer.format(v))
     }
@@ -91,4 +110,14 @@ impl Text {
         let digits = hex::encode(alloc, b)?;
         self.push_str(digits.as_str())
     }
+}
+
+// Asks for room for so many bytes more, and for a whole line at least.
+#[cold]
+#[inline(never)]
+fn make_room(bytes: &mut Vec<u8>, count: usize) -> Result<(), AllocError>
+    ensures room { OnOk result (vec_len bytes.new + count ≤ vec_capacity bytes.new) }
+    ensures same { bytes.new.items ≡ bytes.old.items }
+{
+    bytes.reserve(count.max(LINE_ROOM))
 }

@@ -16,7 +16,7 @@ use Rattle.conversation.specs.Talker.{Answered}
 use Rattle.play_lines.specs.Refusals.{play_refusal_line}
 use Rattle.play_lines.specs.declared.refusal.PlayRefusal.TheVariants as refusal
 use Rattle.play_command.specs.Play.{PlayState, counts_line, full_line, played_text, items_so_far, plays_item, process_of_item, refuses_play, played_run, step_lines, steps_since, with_played}
-use Rattle.play_command.specs.declared.live_play.Playing.{Playing}
+use Rattle.play_command.specs.declared.live_play.Play.{Play}
 use Rattle.play_command.specs.declared.told.Told.{Told}
 use Rattle.play_command.specs.inside.Answers.{AnswersOnce, StandsInPlay}
 use Rattle.play_command.specs.inside.Playing.{GoesOnBy, IsPlaying, WentOn, told_if}
@@ -32,7 +32,7 @@ plays_as many full state i =
     cond many (refuses_play state refusal.TooManyTries) (cond full (refuses_play state refusal.Full) (record { text = played_text state.group i (played_run state) (played_run (with_played state i)); state = with_played state i; quits = false }))
 
 -- the code answered this, and goes on so
-abbrev pub AnswersIn : Playing → List ℕ → Answered PlayState → Type 0
+abbrev pub AnswersIn : Play → List ℕ → Answered PlayState → Type 0
 AnswersIn new text answered = (text ≡ answered.text) × (answered.quits ≡ false) × StandsInPlay new answered.state
 
 joined : (state : PlayState) (i : Item) → state.own ++ (state.more ++ i ∷ []) ≡ items_so_far state ++ i ∷ []
@@ -47,16 +47,16 @@ over n m is = grind (arith, nat_tests)
 within : (n m : ℕ) → m ≤ n → nat_lt n m ≡ false
 within n m is = grind (arith, nat_tests)
 
-pub refuses_many : (old : Playing) (i : Item) (tries_then : ℕ) (text : List ℕ) → tries_then ≡ old.tries + tries i → most_runs < tries_then → text ≡ play_refusal_line refusal.TooManyTries → AnswersOnce old (λ state. plays_item state i) old text
+pub refuses_many : (old : Play) (i : Item) (tries_then : ℕ) (text : List ℕ) → tries_then ≡ old.tries + tries i → most_runs < tries_then → text ≡ play_refusal_line refusal.TooManyTries → AnswersOnce old (λ state. plays_item state i) old text
 refuses_many old i tries_then text is many said state s =
     let more = counted_more state i in
     let here : nat_lt most_runs (run_count (items_so_far (with_played state i))) ≡ true = over _ _ (omega (arith, is, many, more, s.tries)) in
     subst (λ (many : Bool). AnswersIn old text (plays_as many (is_some (played_run state).full) state i)) (sym here) (said, refl, s)
 
-few_yet : (old : Playing) (i : Item) (tries_then : ℕ) (state : PlayState) → tries_then ≡ old.tries + tries i → tries_then ≤ most_runs → StandsInPlay old state → nat_lt most_runs (run_count (items_so_far (with_played state i))) ≡ false
+few_yet : (old : Play) (i : Item) (tries_then : ℕ) (state : PlayState) → tries_then ≡ old.tries + tries i → tries_then ≤ most_runs → StandsInPlay old state → nat_lt most_runs (run_count (items_so_far (with_played state i))) ≡ false
 few_yet old i tries_then state is few s = let more = counted_more state i in within _ _ (omega (arith, is, few, more, s.tries))
 
-pub refuses_full : (old : Playing) (i : Item) (tries_then : ℕ) (text : List ℕ) → tries_then ≡ old.tries + tries i → tries_then ≤ most_runs → old.full ≡ true → text ≡ play_refusal_line refusal.Full → AnswersOnce old (λ state. plays_item state i) old text
+pub refuses_full : (old : Play) (i : Item) (tries_then : ℕ) (text : List ℕ) → tries_then ≡ old.tries + tries i → tries_then ≤ most_runs → old.full ≡ true → text ≡ play_refusal_line refusal.Full → AnswersOnce old (λ state. plays_item state i) old text
 refuses_full old i tries_then text is few full said state s =
     subst (λ (many : Bool). AnswersIn old text (plays_as many (is_some (played_run state).full) state i)) (sym (few_yet old i tries_then state is few s))
     (subst (λ (full : Bool). AnswersIn old text (plays_as false full state i)) (sym full ∙ s.full) (said, refl, s))
@@ -88,7 +88,7 @@ told_so group i before after live told told_after full name text w no_text tells
 
 -- ---- where the play then stands
 
-pub plays_on : (old new : Playing) (i : Item) (told told_after : Told) (name text : List ℕ)
+pub plays_on : (old new : Play) (i : Item) (told told_after : Told) (name text : List ℕ)
     → new.schedule.now ≡ old.schedule.now → new.modules.now ≡ old.modules.now → new.names.items ≡ old.names.items → old.full ≡ false → new.tries ≡ old.tries + tries i → new.tries ≤ most_runs
     → told.text ≡ [] → told.tells ≡ true → told.acted ≡ 0 → told.idle ≡ 0 → ((number : ℕ) → GoesOnBy old.names.items (λ group. after_item group number i) old.live told new.live told_after new.full)
     → ((state : PlayState) → StandsInPlay old state → name ≡ name_of_process state.group (process_of_item i)) → text ≡ told_after.text ++ cond new.full (full_line name) (counts_line told_after.acted told_after.idle)

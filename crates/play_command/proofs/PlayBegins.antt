@@ -15,7 +15,7 @@ use Rattle.group_record.specs.Run.{RunProgress, after_items, no_progress_yet, ru
 use Rattle.record_command.specs.Record.{items_line}
 use Rattle.play_command.specs.Outcome.{opening_play}
 use Rattle.play_command.specs.Play.{played_run}
-use Rattle.play_command.specs.declared.live_play.Playing.{Playing}
+use Rattle.play_command.specs.declared.live_play.Play.{Play}
 use Rattle.play_command.specs.declared.told.Told.{Told}
 use Rattle.play_command.specs.inside.Answers.{OpensWith}
 use Rattle.play_command.specs.inside.Playing.{IsPlaying, IsUnderWay, StopsAtItem}
@@ -75,18 +75,18 @@ same_group s t ms ns first other same_schedule same_modules is that =
 of_opening : (schedule : Schedule) (first : List State) → played_run (opening_play schedule first) ≡ run (group_of schedule first) schedule.items
 of_opening schedule first = ap (run (group_of schedule first)) (append-nil schedule.items)
 
-pub opens : (schedule : Schedule) (modules : List Module) (playing : Playing) (told : Told) (text : List ℕ) (done : IsDone schedule (first_states schedule modules) playing.live told None) → playing.schedule.now ≡ schedule → playing.names.items ≡ names_of schedule → map module_of playing.modules.now ≡ modules
-    → playing.tries ≡ run_count schedule.items → playing.full ≡ false → text ≡ items_line told.acted told.idle → OpensWith schedule modules done.first playing text
-opens schedule modules playing told text done schedule_is named modules_are counted not_full said =
+pub opens : (schedule : Schedule) (modules : List Module) (play : Play) (told : Told) (text : List ℕ) (done : IsDone schedule (first_states schedule modules) play.live told None) → play.schedule.now ≡ schedule → play.names.items ≡ names_of schedule → map module_of play.modules.now ≡ modules
+    → play.tries ≡ run_count schedule.items → play.full ≡ false → text ≡ items_line told.acted told.idle → OpensWith schedule modules done.first play text
+opens schedule modules play told text done schedule_is named modules_are counted not_full said =
     let opened = of_opening schedule done.first in
     record {
       schedule_is = schedule_is;
       modules_are = modules_are;
       stands = record {
-        group = λ other that. same_group schedule playing.schedule.now modules (map module_of playing.modules.now) done.first other schedule_is modules_are done.is_begun that;
+        group = λ other that. same_group schedule play.schedule.now modules (map module_of play.modules.now) done.first other schedule_is modules_are done.is_begun that;
         names = sym named;
         own = ap (λ (s : Schedule). s.items) (sym schedule_is);
-        live = subst (λ (d : RunProgress). IsLiveAfter (group_of schedule done.first) d.steps playing.live) (sym opened) done.stands;
+        live = subst (λ (d : RunProgress). IsLiveAfter (group_of schedule done.first) d.steps play.live) (sym opened) done.stands;
         tries = counted ∙ ap run_count (sym (append-nil schedule.items));
         full = not_full ∙ ap (λ (o : Option ℕ). is_some o) (sym (ap (λ (d : RunProgress). d.full) opened ∙ done.stopped));
       };

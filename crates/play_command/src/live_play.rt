@@ -10,12 +10,19 @@ use shared_module::SharedModule;
 
 /// A group that goes on by the items so far, how often these try, and whether a log is full.
 #[derive(Drop)]
-pub(crate) struct Playing<'m> {
+pub(crate) struct Play<'m> {
     pub(crate) schedule: &'m Schedule,
     pub(crate) modules: &'m [SharedModule],
     pub(crate) names: Vec<Bytes>,
     pub(crate) live: LiveGroup<'m>,
     pub(crate) tries: u64,
     pub(crate) full: bool,
-    ghost playing: { IsPlaying schedule.now (map module_of modules.now) names.items live tries },
+}
+
+/// A play whose group stands in a run.
+#[derive(Drop)]
+pub(crate) struct Playing<'m> {
+    // Behind a box, since it is moved at each line.
+    pub(crate) play: Box<Play<'m>>,
+    ghost playing: { IsPlaying play.value.schedule.now (map module_of play.value.modules.now) play.value.names.items play.value.live play.value.tries },
 }

@@ -1,5 +1,5 @@
 // What each line does to a play, and answers.
-ghost use Rattle.std.specs.Prelude.{◌≡◌, ◌≤◌, ◌+◌, ◌++◌, IfOk, false, length, map, if◌then◌else◌};
+ghost use Rattle.std.specs.Prelude.{◌≡◌, ◌≤◌, ◌+◌, ◌++◌, IfOk, OnOk, false, length, map, if◌then◌else◌};
 ghost use Rattle.wasm_types.specs.Modules.{module_of};
 ghost use Rattle.schedule_text.specs.Limits.{most_runs};
 ghost use Rattle.schedule_text.specs.Schedule.{IsInRange, run_count, tries as tries_of_item};
@@ -8,10 +8,11 @@ ghost use Rattle.play_lines.specs.Lines.{Again};
 ghost use Rattle.play_lines.specs.Spelled.{player_command};
 ghost use Rattle.play_command.specs.Play.{command_in_play, counts_line, full_line, plays_item, process_of_item};
 ghost use Rattle.play_command.specs.inside.Answers.{AnswersOnce, AnswersPlay, OpensPlay};
+ghost use Rattle.play_command.specs.inside.Playing.{IsPlaying};
 ghost use Rattle.play_command.specs.inside.Shown.{Shows};
 
 use crate::going::{perform, perform_all};
-use crate::live_play::Playing;
+use crate::live_play::{Play, Playing};
 use crate::shown::{
     show_datagram, show_memory, show_printed, show_processes, show_threads, show_value,
 };
@@ -45,7 +46,7 @@ impl<'m> Playing<'m> {
         }
         let mut text = Text::new(alloc);
         push_items_line(&mut text, told.acted, told.idle)?;
-        let playing = Playing {
+        let play = Play {
             schedule,
             modules,
             names,
@@ -53,14 +54,15 @@ impl<'m> Playing<'m> {
             tries: tries_of(schedule.items()),
             full: false,
         };
-        Ok((playing, text))
+        let play = Box::new(alloc, play)?;
+        Ok((Playing { play }, text))
     }
 
     // The same play with the items of the file alone.
     fn again(self, alloc: Global) -> Result<(Playing<'m>, Text), AllocError>
-        ensures { IfOk result (λ said. AnswersOnce self.entry (λ state. command_in_play state Again) said.0 said.1) }
+        ensures { IfOk result (λ said. AnswersOnce self.entry.play.value (λ state. command_in_play state Again) said.0.play.value said.1) }
     {
-        match Playing::begin(alloc, self.schedule, self.modules) {
+        match Playing::begin(alloc, self.play.schedule, self.play.modules) {
             Ok(opened) => Ok(opened),
             Err(RecordError::NoMemory) => Err(AllocError),
             Err(_) => unreachable!(),
@@ -69,15 +71,15 @@ impl<'m> Playing<'m> {
 
     // Does an item, unless there would be too many tries, or a log was full before.
     fn play_item(self, alloc: Global, item: &Item) -> Result<(Playing<'m>, Text), AllocError>
-        requires { IsInRange (length self.names.items) item.now }
-        ensures { IfOk result (λ said. AnswersOnce self.entry (λ state. plays_item state item.now) said.0 said.1) }
+        requires { IsInRange (length self.play.value.names.items) item.now }
+        ensures { IfOk result (λ said. AnswersOnce self.entry.play.value (λ state. plays_item state item.now) said.0.play.value said.1) }
     {
-        let tries = self.tries + item.tries();
+        let tries = self.play.tries + item.tries();
         if tries > MOST_RUNS {
             let text = refused_play(alloc, PlayRefusal::TooManyTries)?;
             return Ok((self, text));
         }
-        if self.full {
+        if self.play.full {
             let text = refused_play(alloc, PlayRefusal::Full)?;
             return Ok((self, text));
         }
@@ -91,41 +93,25 @@ impl<'m> Playing<'m> {
         item: &Item,
         tries: u64,
     ) -> Result<(Playing<'m>, Text), AllocError>
-        requires in_range { IsInRange (length self.names.items) item.now }
-        requires room { self.full ≡ false }
-        requires tries { tries ≡ self.tries + tries_of_item item.now }
+        requires in_range { IsInRange (length self.play.value.names.items) item.now }
+        requires room { self.play.value.full ≡ false }
+        requires tries { tries ≡ self.play.value.tries + tries_of_item item.now }
         requires few { tries ≤ most_runs }
-        ensures { IfOk result (λ said. AnswersOnce self.entry (λ state. plays_item state item.now) said.0 said.1) }
+        ensures { IfOk result (λ said. AnswersOnce self.entry.play.value (λ state. plays_item state item.now) said.0.play.value said.1) }
     {
-        let Playing {
-            schedule,
-            modules,
-            names,
-            mut live,
-            ..
-        } = self;
-        let mut told = Told::new(alloc, true);
-        let full = perform(&mut live, &names, item, &mut told)?;
-        let name = names[process_of_item(item) as usize].as_slice();
-        let text = ended(told, full, name)?;
-        let playing = Playing {
-            schedule,
-            modules,
-            names,
-            live,
-            tries,
-            full,
-        };
-        Ok((playing, text))
+        let Playing { mut play } = self;
+        let text = play.take_item(alloc, item, tries)?;
+        Ok((Playing { play }, text))
     }
 
-    // What a command answers, and whether the session goes on.
+    // What a command answers, and whether the session goes on. Apart, so that items pay nothing for what it needs.
+    #[inline(never)]
     fn command(
         self,
         alloc: Global,
         command: &PlayerCommand,
     ) -> Result<(Playing<'m>, Text, Go), AllocError>
-        ensures { IfOk result (λ said. AnswersPlay self.entry (λ state. command_in_play state (player_command command.now)) said.0 said.1 said.2) }
+        ensures { IfOk result (λ said. AnswersPlay self.entry.play.value (λ state. command_in_play state (player_command command.now)) said.0.play.value said.1 said.2) }
     {
         match command {
             PlayerCommand::Again => {
@@ -142,9 +128,9 @@ impl<'m> Playing<'m> {
 
     // What a command shows that changes nothing.
     fn shown(&self, alloc: Global, command: &PlayerCommand) -> Result<Text, AllocError>
-        ensures { IfOk result (λ text. Shows self.now.names.items self.now.live (player_command command.now) text) }
+        ensures { IfOk result (λ text. Shows self.now.play.value.names.items self.now.play.value.live (player_command command.now) text) }
     {
-        let (live, names) = (&self.live, self.names.as_slice());
+        let (live, names) = (&self.play.live, self.play.names.as_slice());
         match command {
             PlayerCommand::Processes => show_processes(alloc, live, names),
             PlayerCommand::Threads(node) => show_threads(alloc, live, names, *node),
@@ -160,6 +146,27 @@ impl<'m> Playing<'m> {
     }
 }
 
+impl<'m> Play<'m> {
+    // Does an item, with which there are so many tries. After want of memory the group may have no process.
+    fn take_item(&mut self, alloc: Global, item: &Item, tries: u64) -> Result<Text, AllocError>
+        requires playing { IsPlaying self.old.schedule.now (map module_of self.old.modules.now) self.old.names.items self.old.live self.old.tries }
+        requires in_range { IsInRange (length self.old.names.items) item.now }
+        requires room { self.old.full ≡ false }
+        requires tries { tries ≡ self.old.tries + tries_of_item item.now }
+        requires few { tries ≤ most_runs }
+        ensures answers { IfOk result (λ text. AnswersOnce self.old (λ state. plays_item state item.now) self.new text) }
+        ensures playing { OnOk result (IsPlaying self.new.schedule.now (map module_of self.new.modules.now) self.new.names.items self.new.live self.new.tries) }
+    {
+        let mut told = Told::new(alloc, true);
+        let full = perform(&mut self.live, &self.names, item, &mut told)?;
+        let name = self.names[process_of_item(item) as usize].as_slice();
+        let text = ended(told, full, name)?;
+        self.tries = tries;
+        self.full = full;
+        Ok(text)
+    }
+}
+
 impl<'m> LineSession for Playing<'m> {
     ghost use Rattle.play_command.specs.Play.{PlayState, play_answer};
     ghost use Rattle.play_command.specs.inside.Answers.{StandsInPlay};
@@ -168,7 +175,7 @@ impl<'m> LineSession for Playing<'m> {
 
     ghost answer = { play_answer };
 
-    ghost stands = { StandsInPlay };
+    ghost stands = { λ playing. StandsInPlay playing.play.value };
 
     fn answer_line(
         self,
@@ -176,7 +183,7 @@ impl<'m> LineSession for Playing<'m> {
         line: &[u8],
     ) -> Result<(Playing<'m>, Text, Go), AllocError> {
         schedule_text::laws::exact_item_lines();
-        match read_play_line(alloc, line, &self.names)? {
+        match read_play_line(alloc, line, &self.play.names)? {
             PlayLine::Silent => Ok((self, Text::new(alloc), Go::On)),
             PlayLine::Refused(why) => {
                 let text = refused_play(alloc, why)?;

@@ -1,11 +1,10 @@
 // What a line of a play is.
 ghost use Rattle.std.specs.Prelude.{◌≡◌, ◌<◌, ◌≤◌, ◌^◌, IfOk, Ok, length, true};
 ghost use Rattle.play_lines.specs.Lines.{lacks_in_play, nests_in_play};
-ghost use Rattle.play_lines.specs.Meaning.{item_meaning, judged_play, play_meaning};
+ghost use Rattle.play_lines.specs.Meaning.{judged_play, play_meaning};
 ghost use Rattle.play_lines.specs.Spelled.{play_line_meaning, player_command};
 ghost use Rattle.play_lines.specs.inside.Reading.{SpellsPlay};
 ghost use Rattle.play_lines.specs.declared.line.PlayLine.TheVariants.{Silent};
-ghost use Rattle.schedule_text.specs.ItemLine.{item_of_line};
 ghost use Rattle.shell_lines.specs.Meaning.{is_silent};
 
 use crate::command::PlayerCommand;
@@ -39,14 +38,19 @@ pub fn read_play_line(alloc: Global, bytes: &[u8], names: &[Bytes]) -> Result<Pl
     ensures line { IfOk result (λ line. play_line_meaning line ≡ play_meaning names.now bytes.now) }
     ensures silent { length bytes.now ≤ 131072 → is_silent bytes.now ≡ true → result ≡ Ok Silent }
 {
+    schedule_text::laws::exact_item_lines();
     if bytes.len() > MOST_ITEM_LINE {
         return Ok(refuses(LineRefusal::TooLong));
     }
     if is_silent(bytes) {
         return Ok(PlayLine::Silent);
     }
+    // Most lines are items, and whether one begins as an item does is only asked where it is none.
+    if let Some(item) = read_item_line(alloc, bytes, names.len() as u32)? {
+        return Ok(PlayLine::Plays(item));
+    }
     if is_item_line(bytes) {
-        return read_item(alloc, bytes, names.len() as u32);
+        return Ok(PlayLine::Refused(PlayRefusal::BadItem));
     }
     if bytes.len() > MOST_LINE {
         return Ok(refuses(LineRefusal::TooLong));
@@ -68,17 +72,8 @@ fn refuses(why: LineRefusal) -> PlayLine
     PlayLine::Refused(PlayRefusal::AsLine(why))
 }
 
-// The item of a line, where a schedule with so many processes could have it.
-fn read_item(alloc: Global, bytes: &[u8], processes: u32) -> Result<PlayLine, AllocError>
-    ensures { IfOk result (λ line. play_line_meaning line ≡ item_meaning (item_of_line processes bytes.now)) }
-{
-    match read_item_line(alloc, bytes, processes)? {
-        Some(item) => Ok(PlayLine::Plays(item)),
-        None => Ok(PlayLine::Refused(PlayRefusal::BadItem)),
-    }
-}
-
-// The command that a line spells.
+// The command that a line spells. Apart, so that items pay nothing for what it needs.
+#[inline(never)]
 fn spelled(alloc: Global, bytes: &[u8], names: &[Bytes]) -> Result<PlayerCommand, ExprError>
     requires some { 1 ≤ length names.now }
     requires few { length names.now < 2 ^ 32 }
@@ -114,6 +109,7 @@ fn names_none(spelled: &PlayerCommand) -> bool
 }
 
 // A command of the grammar, unless something is wrong with it.
+#[inline(never)]
 fn judge(spelled: PlayerCommand) -> PlayLine
     ensures { play_line_meaning result ≡ judged_play (player_command spelled) }
 {
