@@ -5,7 +5,7 @@ use Rattle.fri_outside.specs.Outside.{Folder}
 use Rattle.group_record.specs.Run.{IsMoment, RunStep, log_of, processes_in_group}
 use Rattle.record_command.specs.Agreement.{IsAtMomentOfRun, IsStoppedInHeads, IsRecordable, LeavesCut, MayFollowLog, Nothing, group_in, steps_in}
 use Rattle.record_command.specs.Laws.{RecordingsLeaveLogs, RecordingsStand}
-use Rattle.headline.specs.Headline.{Headline, HoldsProcess, LeftIsShown, ShowsMoment, ShowsSteps, logs_in, logs_of_run}
+use Rattle.headline.specs.Headline.{Headline, HoldsProcess, LeftIsShown, ShowsMoment, ShowsSteps, logs_in, logs_of_run, run_to}
 use Rattle.headline.specs.Shown.{no_cut}
 
 module _ {before : Folder} {name : List ℕ} (r : IsRecordable before name) (steps : List RunStep) (cut : ℕ → List ℕ) (after folder : Folder) where
@@ -14,7 +14,7 @@ module _ {before : Folder} {name : List ℕ} (r : IsRecordable before name) (ste
 
   -- a folder that has the logs that were left has those of the run
   holds : LeavesCut (group_in r) steps cut after → (ps : List ℕ) → Below ps → AllByRecursion (HoldsProcess r (logs_in (group_in r) after) folder) ps
-      → AllByRecursion (HoldsProcess r (logs_of_run (group_in r) steps cut) folder) ps
+      → AllByRecursion (HoldsProcess r (logs_of_run (run_to r steps) cut) folder) ps
   holds left [] below has = tt
   holds left (p ∷ ps) below has = (record { «module» = has.0.«module»; log = has.0.log ∙ left p below.0 }, holds left ps below.1 has.1)
 

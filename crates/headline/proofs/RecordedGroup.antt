@@ -27,7 +27,7 @@ use Rattle.log_pairs.specs.Valid.{GoTogether}
 use Rattle.record_command.specs.Agreement.{IsRecordable, group_in}
 use Rattle.record_command.specs.Expected.{module_name, modules_of, schedule_in, schedule_or_refusal}
 use Rattle.schedule_text.specs.Limits.{most_schedule}
-use Rattle.headline.specs.Headline.{HoldsProcess, files_of_process, logs_of_run}
+use Rattle.headline.specs.Headline.{HoldsProcess, files_of_process, logs_of_run, run_to}
 use Rattle.headline.proofs.LoadedPairs.{PairStands, log_stands}
 use Rattle.headline.proofs.ShownReplays.{replay_of}
 
@@ -149,8 +149,8 @@ module_by name held = and_then (bytes_or_stop name (found_within most_module hel
 same_module : (before folder : Folder) (name : List ℕ) → get folder name ≡ get before name → module_in folder name ≡ module_in before name
 same_module before folder name same = ap (module_by name) same
 
-pub pair_stands : ReadsModules → {before : Folder} {name : List ℕ} (r : IsRecordable before name) (steps : List RunStep) (cut : ℕ → List ℕ) (folder : Folder) (p : ℕ) → HoldsProcess r (logs_of_run (group_in r) steps cut) folder p
-    → (t : TellsBeforeRest (group_in r) steps p (cut p)) → PairStands folder (files_of_process r.schedule p) (replay_of (group_in r) steps cut p t)
+pub pair_stands : ReadsModules → {before : Folder} {name : List ℕ} (r : IsRecordable before name) (steps : List RunStep) (cut : ℕ → List ℕ) (folder : Folder) (p : ℕ) → HoldsProcess r (logs_of_run (run_to r steps) cut) folder p
+    → (t : TellsBeforeRest (group_in r) steps p (cut p)) → PairStands folder (files_of_process r.schedule p) (replay_of (run_to r steps) cut p t)
 pair_stands reads {before} r steps cut folder p holds t =
     let b = begins_in r p t.first t.begun in
     record {

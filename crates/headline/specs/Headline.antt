@@ -1,7 +1,7 @@
 -- The main theorem: the modules and the logs of a recording, and these alone, make `replay` and `debug` show what was recorded.
-use Rattle.std.specs.Prelude.{◌≡◌, ◌≢◌, ◌⊎◌, ◌<◌, ◌↔◌, ℕ, Bool, List, [], ◌∷◌, ◌++◌, length, map, Option, Some, Ok, Contains}
+use Rattle.std.specs.Prelude.{◌≡◌, ◌≢◌, ◌⊎◌, ◌<◌, ◌==◌, ℕ, Bool, List, [], ◌∷◌, ◌++◌, length, filter, map, Option, Some, Ok}
 use Rattle.std.specs.FinMap.{get}
-use Rattle.std.specs.List.{AllByRecursion, slice_index_or}
+use Rattle.std.specs.List.{AllByRecursion, list_any, range_with_len, slice_index_or}
 use Rattle.fri_outside.specs.Outside.{Folder}
 use Rattle.fri_outside.specs.Several.{with_files}
 use Rattle.schedule_text.specs.Schedule.{Schedule}
@@ -18,9 +18,36 @@ use Rattle.record_command.specs.Agreement.{IsAtMomentOfRun, IsStoppedInHeads, Is
 use Rattle.record_command.specs.Expected.{module_name, record_outcome}
 use Rattle.replay_command.specs.Report.{replay_outcome}
 use Rattle.debug_command.specs.Debug.{debug_outcome, session_outcome}
-use Rattle.headline.specs.Shown.{AreShown, RecordedRun, ShowsGroup, no_cut, recorded_images, recorded_report, recorded_run}
+use Rattle.headline.specs.Shown.{AreShown, RecordedRun, ShowsGroup, no_cut, recorded_images, recorded_report}
+
+-- ---- what is shown of some of a recording
+
+-- the number is one of these
+abbrev pub is_among : List ℕ → ℕ → Bool
+is_among ps p = list_any (λ q. q == p) ps
+
+-- those of so many processes that are among these, in the order of their numbers
+abbrev pub sorted_of : ℕ → List ℕ → List ℕ
+sorted_of count ps = filter (is_among ps) (range_with_len 0 count)
+
+-- the pairs of these processes are read to replays, which show what was recorded
+pub record IsShown (run : RecordedRun) (cut : ℕ → List ℕ) (folder : Folder) (ps : List ℕ) (pairs : List Pair) : Type 0 where
+  -- the replays of the processes in the order of their numbers
+  pub start : List Replaying
+  pub opened : replays_of_pairs folder pairs ≡ Ok start
+  pub each : AreShown run cut (sorted_of (processes_in_group run.group) ps) start
+  -- `replay` says what was recorded, and leaves the images of it: with all processes those of the recording
+  pub replay : (images : Bool) → replay_outcome images pairs folder ≡ Ok (recorded_report images run cut (sorted_of (processes_in_group run.group) ps))
+  pub images : length ps ≡ processes_in_group run.group → recorded_images run (sorted_of (processes_in_group run.group) ps) ≡ all_images run.group run.steps
+  -- `debug` answers each line by the group of these replays alone, which shows the recording
+  pub debug : (input : List ℕ) → debug_outcome pairs (Some input) folder ≡ Some (session_outcome start input)
+  pub shows : ShowsGroup run (sorted_of (processes_in_group run.group) ps) start
 
 -- ---- the words that name some of a recording
+
+-- what was recorded by these steps
+abbrev pub run_to : {before : Folder} {schedule_name : List ℕ} → IsRecordable before schedule_name → List RunStep → RecordedRun
+run_to r steps = record { group = group_in r; steps = steps }
 
 -- the numbers differ from each other
 abbrev pub AreDistinct : List ℕ → Type 0
@@ -39,22 +66,11 @@ files_of_process schedule p = record { module_name = module_name schedule p; log
 abbrev pub pairs_of_processes : Schedule → List ℕ → List Pair
 pairs_of_processes schedule ps = map (files_of_process schedule) ps
 
--- each number is below those after it
-abbrev pub AscendNumbers : List ℕ → Type 0
-AscendNumbers [] = Unit {0}
-AscendNumbers (p ∷ ps) = AllByRecursion (λ q. p < q) ps × AscendNumbers ps
-
--- the same numbers in order
-pub record AreInOrder (ps sorted : List ℕ) : Type 0 where
-  pub ascend : AscendNumbers sorted
-  pub count : length sorted ≡ length ps
-  pub same : (p : ℕ) → Contains ps p ↔ Contains sorted p
-
 -- ---- the folder
 
--- the log of each process, by these steps, and what stands after it
-abbrev pub logs_of_run : GroupStart → List RunStep → (ℕ → List ℕ) → ℕ → Option (List ℕ)
-logs_of_run group steps cut p = Some (log_of group steps p ++ cut p)
+-- the log of each process, by what was recorded, and what stands after it
+abbrev pub logs_of_run : RecordedRun → (ℕ → List ℕ) → ℕ → Option (List ℕ)
+logs_of_run run cut p = Some (log_of run.group run.steps p ++ cut p)
 
 -- the log of each process that a folder has
 abbrev pub logs_in : GroupStart → Folder → ℕ → Option (List ℕ)
@@ -68,26 +84,11 @@ pub record HoldsProcess {before : Folder} {schedule_name : List ℕ} (r : IsReco
 
 -- ---- the whole
 
--- the pairs of these processes are read to replays, which show what was recorded
-pub record IsShown (run : RecordedRun) (cut : ℕ → List ℕ) (folder : Folder) (ps : List ℕ) (pairs : List Pair) : Type 0 where
-  -- the processes in the order of their numbers, and their replays
-  pub sorted : List ℕ
-  pub in_order : AreInOrder ps sorted
-  pub start : List Replaying
-  pub opened : replays_of_pairs folder pairs ≡ Ok start
-  pub each : AreShown run.group run.steps cut sorted start
-  -- `replay` says what was recorded, and leaves the images of it: with all processes those of the recording
-  pub replay : (images : Bool) → replay_outcome images pairs folder ≡ Ok (recorded_report images run.group run.steps cut sorted)
-  pub images : length ps ≡ processes_in_group run.group → recorded_images run.group run.steps sorted ≡ all_images run.group run.steps
-  -- `debug` answers each line by the group of these replays alone, which shows the recording
-  pub debug : (input : List ℕ) → debug_outcome pairs (Some input) folder ≡ Some (session_outcome start input)
-  pub shows : ShowsGroup run.group run.steps sorted start
-
 -- in every folder that has the modules and these logs of these processes, and whatever else, these are shown as they were
 -- after these steps
 abbrev pub ShowsLogs : {before : Folder} {schedule_name : List ℕ} → IsRecordable before schedule_name → List RunStep → (ℕ → List ℕ) → (ℕ → Option (List ℕ)) → List ℕ → Type 0
 ShowsLogs r steps cut logs ps =
-    (folder : Folder) → AllByRecursion (HoldsProcess r logs folder) ps → IsShown (recorded_run (group_in r) steps) cut folder ps (pairs_of_processes r.schedule ps)
+    (folder : Folder) → AllByRecursion (HoldsProcess r logs folder) ps → IsShown (run_to r steps) cut folder ps (pairs_of_processes r.schedule ps)
 
 -- At each moment of the run of a schedule that can be recorded, so also where the recording was stopped or a log was full:
 -- the logs of some processes are shown as they were recorded. After each log there may stand a first part of one more entry,
@@ -95,7 +96,7 @@ ShowsLogs r steps cut logs ps =
 abbrev pub Headline : Type 0
 Headline = (before : Folder) (schedule_name : List ℕ) (r : IsRecordable before schedule_name) (steps : List RunStep) → IsMoment steps (steps_in r)
     → (cut : ℕ → List ℕ) (ps : List ℕ) → AreProcesses (processes_in_group (group_in r)) ps → AllByRecursion (λ p. MayFollowLog (group_in r) (steps_in r) steps p (cut p)) ps
-    → ShowsLogs r steps cut (logs_of_run (group_in r) steps cut) ps
+    → ShowsLogs r steps cut (logs_of_run (run_to r steps) cut) ps
 
 -- ---- what a recording leaves
 

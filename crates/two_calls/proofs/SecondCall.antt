@@ -26,7 +26,7 @@ use Rattle.friday_app.specs.Command.{Command, Debug, Record, Replay}
 use Rattle.friday_app.specs.Expected.{expected}
 use Rattle.friday_app.specs.Run.{CommandRun}
 use Rattle.two_calls.specs.Calls.{CameTo, ShowsRecorded, ShowsThese, printed_by}
-use Rattle.headline.specs.Headline.{AreProcesses, HoldsProcess, ShowsSteps, logs_in, pairs_of_processes}
+use Rattle.headline.specs.Headline.{AreProcesses, HoldsProcess, ShowsSteps, logs_in, pairs_of_processes, run_to, sorted_of}
 use Rattle.headline.specs.Shown.{no_cut, recorded_report}
 use Rattle.two_calls.proofs.LeftByRecording.{IsDone, is_done, module_not_written, schedule_formed}
 
@@ -94,7 +94,7 @@ these gives images before name r second old middle new answer is first run ps ar
       left = rec.left;
       shown = shown;
       replayed = λ asked names answers.
-          came_to (Some (Replay asked pairs)) (Ok (recorded_report asked (group_in r) (steps_in r) no_cut shown.sorted)) rec.folder (printed_by images r old.taken) middle new answer
+          came_to (Some (Replay asked pairs)) (Ok (recorded_report asked (run_to r (steps_in r)) no_cut (sorted_of (processes_in_group (group_in r)) ps))) rec.folder (printed_by images r old.taken) middle new answer
           (subst (λ (c : Option Command). CommandRun c middle new answer) names run)
           (ap (option_map (replay_outcome asked pairs)) rec.told ∙ ap (λ (o : CommandOutcome). Some o) (shown.replay asked)) rec.told rec.printed answers;
       debugged = λ names answers input typed.

@@ -14,8 +14,8 @@ use Rattle.record_command.specs.Agreement.{IsRecordable, group_in, run_in, steps
 use Rattle.record_command.specs.Record.{recorded_work}
 use Rattle.debug_command.specs.Debug.{session_outcome}
 use Rattle.friday_app.specs.Command.{Command, Debug, Record, Replay}
-use Rattle.headline.specs.Headline.{AreProcesses, IsShown, pairs_of_processes}
-use Rattle.headline.specs.Shown.{no_cut, recorded_report, recorded_run}
+use Rattle.headline.specs.Headline.{AreProcesses, IsShown, pairs_of_processes, run_to, sorted_of}
+use Rattle.headline.specs.Shown.{no_cut, recorded_report}
 
 -- a call had this outcome: its text follows what was printed before, and its files in the folder that was there
 pub record CameTo (outcome : CommandOutcome) (folder : Folder) (printed : Option (List ℕ)) (new : Outside) (answer : Status) : Type 0 where
@@ -42,9 +42,9 @@ pub record ShowsThese {before : Folder} {schedule_name : List ℕ} (images : Boo
   pub whole : (run_in r).full ≡ None
   pub folder : Folder
   pub left : with_files (logs_of_steps (group_in r) (steps_in r) ++ images_of images (group_in r) (run_in r)) (Some before) ≡ Some folder
-  pub shown : IsShown (recorded_run (group_in r) (steps_in r)) no_cut folder ps (pairs_of_processes r.schedule ps)
+  pub shown : IsShown (run_to r (steps_in r)) no_cut folder ps (pairs_of_processes r.schedule ps)
   pub replayed : (asked : Bool) → second.command ≡ Some (Replay asked (pairs_of_processes r.schedule ps)) → IsAnswerStatus second.answer
-      → CameTo (Ok (recorded_report asked (group_in r) (steps_in r) no_cut shown.sorted)) folder (printed_by images r second.old.taken) second.new second.answer
+      → CameTo (Ok (recorded_report asked (run_to r (steps_in r)) no_cut (sorted_of (processes_in_group (group_in r)) ps))) folder (printed_by images r second.old.taken) second.new second.answer
   pub debugged : second.command ≡ Some (Debug (pairs_of_processes r.schedule ps)) → IsAnswerStatus second.answer
       → WhenTold second.old.hearing.left (λ input. CameTo (session_outcome shown.start input) folder (printed_by images r second.old.taken) second.new second.answer)
 
