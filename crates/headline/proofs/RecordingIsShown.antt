@@ -25,14 +25,14 @@ use Rattle.group_state.specs.Laws.{Ordered, SendsFirst}
 use Rattle.group_state.specs.Place.{ReplaysFit}
 use Rattle.command_run.specs.Laws.{ReadsModules}
 use Rattle.command_run.specs.Outcome.{CommandStop, CommandWork, and_then}
-use Rattle.log_pairs.specs.Pairs.{Loaded, replays_of, replays_of_pairs, sort_replays}
+use Rattle.log_pairs.specs.Pairs.{Loaded, Pair, replays_of, replays_of_pairs, sort_replays}
 use Rattle.log_pairs.specs.Valid.{GoTogether}
 use Rattle.record_command.specs.Agreement.{IsRecordable, LogsAgree, MayFollowLog, Front, Nothing, group_in, steps_in}
 use Rattle.record_command.specs.Laws.{RecordingsAgree}
 use Rattle.replay_command.specs.Report.{replay_work}
 use Rattle.conversation.specs.Opening.{opened_outcome}
 use Rattle.debug_command.specs.Debug.{debug_opener}
-use Rattle.headline.specs.Headline.{AreDistinct, AreProcesses, Headline, HoldsProcess, IsShown, logs_of_run, pairs_of_processes, run_to, sorted_of}
+use Rattle.headline.specs.Headline.{AreDistinct, AreHeld, AreProcesses, Headline, IsShown, logs_of_run, run_to, sorted_of}
 use Rattle.headline.specs.Shown.{AreShown, RecordedRun, ShowsGroup, ShowsProcess}
 use Rattle.headline.proofs.RecordedGroup.{HasBegun, has_begun, pair_stands, schedule_formed, together}
 use Rattle.headline.proofs.LoadedPairs.{AllStand, AllTogether, opened}
@@ -158,12 +158,12 @@ module _ (reads : ReadsModules) (gives : GivesSchedules) (beginning : Beginning)
   all_known [] below follow = tt
   all_known (p ∷ ps) below follow = (known p below.0 follow.0, all_known ps below.1 follow.1)
 
-  abbrev Held : List ℕ → Type 0
-  Held ps = AllByRecursion (HoldsProcess r (logs_of_run run cut) folder) ps
-
-  all_stand : (ps : List ℕ) (below : Below ps) (follow : AllFollow ps) → Held ps → AllStand folder (pairs_of_processes r.schedule ps) (replays ps below follow)
-  all_stand [] below follow held = tt
-  all_stand (p ∷ ps) below follow held = (pair_stands reads r steps cut folder p held.0 (tells p below.0 follow.0), all_stand ps below.1 follow.1 held.1)
+  all_stand : (ps : List ℕ) (pairs : List Pair) (below : Below ps) (follow : AllFollow ps) → AreHeld r (logs_of_run run cut) folder ps pairs → AllStand folder pairs (replays ps below follow)
+  all_stand [] [] below follow held = tt
+  all_stand (p ∷ ps) (pair ∷ pairs) below follow held =
+      (pair_stands reads r steps cut folder p pair held.0 (tells p below.0 follow.0), all_stand ps pairs below.1 follow.1 held.1)
+  all_stand [] (pair ∷ pairs) below follow held = absurd held
+  all_stand (p ∷ ps) [] below follow held = absurd held
 
   one_together : (p : ℕ) → p < count → (ps : List ℕ) (below : Below ps) (follow : AllFollow ps) → AllByRecursion (λ q. p ≢ q) ps
       → AllByRecursion (λ s. GoTogether (head_of_log (group_in r) p) s.head) (replays ps below follow)
@@ -192,9 +192,8 @@ module _ (reads : ReadsModules) (gives : GivesSchedules) (beginning : Beginning)
         receives = received run ps start stands.steps fits sends order.0 taken;
       }
 
-  pub is_shown : (ps : List ℕ) → AreProcesses count ps → AllFollow ps → Held ps → IsShown run cut folder ps (pairs_of_processes r.schedule ps)
-  is_shown ps are follow held =
-      let pairs = pairs_of_processes r.schedule ps in
+  pub is_shown : (ps : List ℕ) (pairs : List Pair) → AreProcesses count ps → AllFollow ps → AreHeld r (logs_of_run run cut) folder ps pairs → IsShown run cut folder ps pairs
+  is_shown ps pairs are follow held =
       let unsorted = replays ps are.within follow in
       let sorted = sorted_of count ps in
       let start = sort_replays [] unsorted in
@@ -202,7 +201,7 @@ module _ (reads : ReadsModules) (gives : GivesSchedules) (beginning : Beginning)
       subst (λ (ns : List ℕ). AreKnown run cut ns start) (in_order count ps are)
       (all_sorted (Known run cut) (process_is run cut) [] ps [] unsorted tt (all_known ps are.within follow)) in
       let shown = are_shown run cut sorted start all in
-      let read = opened folder pairs unsorted (all_stand ps are.within follow held) (all_together ps are.within follow are.apart) in
+      let read = opened folder pairs unsorted (all_stand ps pairs are.within follow held) (all_together ps are.within follow are.apart) in
       let opens : replays_of_pairs folder pairs ≡ Ok start =
       ap (λ (o : Result (List Loaded) CommandStop). and_then o (λ ls. and_then (replays_of ls) (λ rs. Ok (sort_replays [] rs)))) read.loaded
       ∙ ap (λ (o : Result (List Replaying) CommandStop). and_then o (λ rs. Ok (sort_replays [] rs))) read.begun in
@@ -219,5 +218,5 @@ module _ (reads : ReadsModules) (gives : GivesSchedules) (beginning : Beginning)
       }
 
 pub headline : ReadsModules → GivesSchedules → Beginning → Standing → RecordingsAgree → Ordered → SendsFirst → Headline
-headline reads gives beginning standing agree ordered sends before name r steps moment cut ps are follow folder held =
-    is_shown reads gives beginning standing agree ordered sends before folder name r steps moment cut ps are follow held
+headline reads gives beginning standing agree ordered sends before name r steps moment cut ps are follow folder pairs held =
+    is_shown reads gives beginning standing agree ordered sends before folder name r steps moment cut ps pairs are follow held

@@ -1,11 +1,9 @@
 -- The main theorem: the modules and the logs of a recording, and these alone, make `replay` and `debug` show what was recorded.
-use Rattle.std.specs.Prelude.{◌≡◌, ◌≢◌, ◌⊎◌, ◌<◌, ◌==◌, ℕ, Bool, List, [], ◌∷◌, ◌++◌, length, filter, map, Option, Some, Ok}
+use Rattle.std.specs.Prelude.{◌≡◌, ◌≢◌, ◌⊎◌, ◌<◌, ◌==◌, ℕ, Bool, List, [], ◌∷◌, ◌++◌, length, filter, Option, Some, Ok}
 use Rattle.std.specs.FinMap.{get}
-use Rattle.std.specs.List.{AllByRecursion, list_any, range_with_len, slice_index_or}
+use Rattle.std.specs.List.{AllByRecursion, list_any, range_with_len}
 use Rattle.fri_outside.specs.Outside.{Folder}
 use Rattle.fri_outside.specs.Several.{with_files}
-use Rattle.schedule_text.specs.Schedule.{Schedule}
-use Rattle.group_record.specs.Answer.{names_of}
 use Rattle.group_record.specs.Images.{images as all_images}
 use Rattle.group_record.specs.Logs.{log_name}
 use Rattle.group_record.specs.Run.{GroupStart, IsMoment, RunStep, log_of, name_of_process, processes_in_group}
@@ -20,7 +18,23 @@ use Rattle.replay_command.specs.Report.{replay_outcome}
 use Rattle.debug_command.specs.Debug.{debug_outcome, session_outcome}
 use Rattle.headline.specs.Shown.{AreShown, RecordedRun, ShowsGroup, no_cut, recorded_images, recorded_report}
 
--- ---- what is shown of some of a recording
+-- ---- the files of a recording, in any folder and under any names
+
+-- of process p a folder has the module, as the recording found it, and this log, under the names of the pair. Nothing else of
+-- the folder matters
+pub record HoldsPair {before : Folder} {schedule_name : List ℕ} (r : IsRecordable before schedule_name) (logs : ℕ → Option (List ℕ))
+    (folder : Folder) (p : ℕ) (pair : Pair) : Type 0 where
+  pub «module» : get folder pair.module_name ≡ get before (module_name r.schedule p)
+  pub log : get folder pair.log_name ≡ logs p
+
+-- so it has those of each of these processes, in the same order
+abbrev pub AreHeld : {before : Folder} {schedule_name : List ℕ} → IsRecordable before schedule_name → (ℕ → Option (List ℕ)) → Folder → List ℕ → List Pair → Type 0
+AreHeld r logs folder [] [] = Unit {0}
+AreHeld r logs folder (p ∷ ps) (pair ∷ pairs) = HoldsPair r logs folder p pair × AreHeld r logs folder ps pairs
+AreHeld r logs folder [] (pair ∷ pairs) = ⊥
+AreHeld r logs folder (p ∷ ps) [] = ⊥
+
+-- ---- what is shown of them
 
 -- the number is one of these
 abbrev pub is_among : List ℕ → ℕ → Bool
@@ -43,7 +57,7 @@ pub record IsShown (run : RecordedRun) (cut : ℕ → List ℕ) (folder : Folder
   pub debug : (input : List ℕ) → debug_outcome pairs (Some input) folder ≡ Some (session_outcome start input)
   pub shows : ShowsGroup run (sorted_of (processes_in_group run.group) ps) start
 
--- ---- the words that name some of a recording
+-- ---- the theorem for some of the processes, at any moment of a recording
 
 -- what was recorded by these steps
 abbrev pub run_to : {before : Folder} {schedule_name : List ℕ} → IsRecordable before schedule_name → List RunStep → RecordedRun
@@ -59,36 +73,15 @@ pub record AreProcesses (count : ℕ) (ps : List ℕ) : Type 0 where
   pub within : AllByRecursion (λ p. p < count) ps
   pub apart : AreDistinct ps
 
--- the files of process p: its module's, and its log's
-abbrev pub files_of_process : Schedule → ℕ → Pair
-files_of_process schedule p = record { module_name = module_name schedule p; log_name = log_name (slice_index_or (names_of schedule) p []) }
-
-abbrev pub pairs_of_processes : Schedule → List ℕ → List Pair
-pairs_of_processes schedule ps = map (files_of_process schedule) ps
-
--- ---- the folder
-
 -- the log of each process, by what was recorded, and what stands after it
 abbrev pub logs_of_run : RecordedRun → (ℕ → List ℕ) → ℕ → Option (List ℕ)
 logs_of_run run cut p = Some (log_of run.group run.steps p ++ cut p)
 
--- the log of each process that a folder has
-abbrev pub logs_in : GroupStart → Folder → ℕ → Option (List ℕ)
-logs_in group folder p = get folder (log_name (name_of_process group p))
-
--- of process p a folder has the module, as the recording found it, and this log. Nothing else of the folder matters
-pub record HoldsProcess {before : Folder} {schedule_name : List ℕ} (r : IsRecordable before schedule_name) (logs : ℕ → Option (List ℕ))
-    (folder : Folder) (p : ℕ) : Type 0 where
-  pub «module» : get folder (module_name r.schedule p) ≡ get before (module_name r.schedule p)
-  pub log : logs_in (group_in r) folder p ≡ logs p
-
--- ---- the whole
-
--- in every folder that has the modules and these logs of these processes, and whatever else, these are shown as they were
--- after these steps
+-- in every folder that has the modules and these logs of these processes, under whatever names, and whatever else, these are
+-- shown as they were after these steps
 abbrev pub ShowsLogs : {before : Folder} {schedule_name : List ℕ} → IsRecordable before schedule_name → List RunStep → (ℕ → List ℕ) → (ℕ → Option (List ℕ)) → List ℕ → Type 0
 ShowsLogs r steps cut logs ps =
-    (folder : Folder) → AllByRecursion (HoldsProcess r logs folder) ps → IsShown (run_to r steps) cut folder ps (pairs_of_processes r.schedule ps)
+    (folder : Folder) (pairs : List Pair) → AreHeld r logs folder ps pairs → IsShown (run_to r steps) cut folder ps pairs
 
 -- At each moment of the run of a schedule that can be recorded, so also where the recording was stopped or a log was full:
 -- the logs of some processes are shown as they were recorded. After each log there may stand a first part of one more entry,
@@ -99,6 +92,10 @@ Headline = (before : Folder) (schedule_name : List ℕ) (r : IsRecordable before
     → ShowsLogs r steps cut (logs_of_run (run_to r steps) cut) ps
 
 -- ---- what a recording leaves
+
+-- the log of each process that a folder has, under the name that `record` gives it
+abbrev pub logs_in : GroupStart → Folder → ℕ → Option (List ℕ)
+logs_in group folder p = get folder (log_name (name_of_process group p))
 
 -- the logs of some processes, as a folder has them, are shown so
 abbrev pub ShowsSteps : {before : Folder} {schedule_name : List ℕ} → IsRecordable before schedule_name → List RunStep → (ℕ → List ℕ) → Folder → Type 0

@@ -1,8 +1,8 @@
 // The main theorem, as calls that do nothing.
 ghost use Rattle.headline.specs.Headline.{Headline, LeftIsShown};
 
-/// The modules and the logs of some processes of a recording, and these alone, are shown as they were recorded, in
-/// whatever order they are named.
+/// The modules and the logs of some processes at any moment of a recording, and these alone, are shown as they were recorded,
+/// in whatever order they are named and whatever their files are called.
 pub fn recordings_are_shown()
     ensures { Headline }
 {
