@@ -1,5 +1,5 @@
 -- The recording is shown.
-use Rattle.std.proofs.Common.{◌≡◌, ◌≢◌, ◌∙◌, ◌<◌, ◌≤◌, ℕ, zero, suc, List, [], ◌∷◌, ◌++◌, length, take, slice_get, Some, Result, Ok, ap, append-nil, append_assoc, arith, subst, sym}
+use Rattle.std.proofs.Common.{◌≡◌, ◌≢◌, ◌∙◌, ◌<◌, ◌≤◌, ℕ, zero, suc, List, [], ◌∷◌, ◌++◌, length, map, take, slice_get, Some, None, Result, Ok, ap, append-nil, append_assoc, arith, subst, sym}
 use Rattle.std.specs.Prelude.{IsTrue}
 use Rattle.std.specs.List.{AllByRecursion}
 use Rattle.std.proofs.lemmas.Option.{same_Some}
@@ -22,7 +22,13 @@ use Rattle.group_record.specs.RunLaws.{before_steps}
 use Rattle.group_record.specs.Run.{GroupStart, Had, IsMoment, RunStep, entries_of_steps, entry_bytes, head_of_log, log_of, processes_in_group}
 use Rattle.group_record.specs.Standing.{RunStandsAs, Standing}
 use Rattle.group_state.specs.Laws.{Ordered, SendsFirst}
-use Rattle.group_state.specs.Place.{ReplaysFit}
+use Rattle.group_state.specs.Nodes.{nodes_at, seen_node}
+use Rattle.group_state.specs.Place.{ReplaysFit, events_of_replays, states_of_nodes}
+use Rattle.watch_expr.specs.Reads.{VariablesUnseen, no_variables}
+use Rattle.watch_expr.specs.Value.{value}
+use Rattle.embed_cmds.specs.Variables.{variable_value}
+use Rattle.shell_points.specs.Firing.{place_at}
+use Rattle.shell_points.specs.Laws.{ExactFiring}
 use Rattle.command_run.specs.Laws.{ReadsModules}
 use Rattle.command_run.specs.Outcome.{CommandStop, CommandWork, and_then}
 use Rattle.log_pairs.specs.Pairs.{Loaded, Pair, replays_of, replays_of_pairs, sort_replays}
@@ -36,7 +42,7 @@ use Rattle.headline.specs.Headline.{AreDistinct, AreHeld, AreProcesses, Headline
 use Rattle.headline.specs.Shown.{AreShown, RecordedRun, ShowsGroup, ShowsProcess}
 use Rattle.headline.proofs.RecordedGroup.{HasBegun, has_begun, pair_stands, schedule_formed, together}
 use Rattle.headline.proofs.LoadedPairs.{AllStand, AllTogether, opened}
-use Rattle.headline.proofs.RecordedOrder.{is_recorded, order_is}
+use Rattle.headline.proofs.RecordedOrder.{are_recorded, one_recorded, order_is}
 use Rattle.headline.proofs.ReceivedDatagrams.{received}
 use Rattle.headline.proofs.ReplayReport.{AllCome, all_of_them, report_is}
 use Rattle.headline.proofs.ShownReplays.{ComesTo, comes_to, replay_of, shows}
@@ -106,7 +112,7 @@ tells_by group all steps p cut cuts whole (Front later early e n split same shor
 
 -- ---- a folder that holds some processes of a recording
 
-module _ (reads : ReadsModules) (gives : GivesSchedules) (beginning : Beginning) (standing : Standing) (agree : RecordingsAgree) (ordered : Ordered) (sends : SendsFirst)
+module _ (reads : ReadsModules) (gives : GivesSchedules) (beginning : Beginning) (standing : Standing) (agree : RecordingsAgree) (ordered : Ordered) (sends : SendsFirst) (firing : ExactFiring) (unseen : VariablesUnseen)
     (before folder : Folder) (name : List ℕ) (r : IsRecordable before name) (steps : List RunStep) (moment : IsMoment steps (steps_in r)) (cut : ℕ → List ℕ) where
   begun : HasBegun (group_in r) r.schedule.items
   begun = has_begun reads gives beginning r
@@ -185,11 +191,16 @@ module _ (reads : ReadsModules) (gives : GivesSchedules) (beginning : Beginning)
       let shown = are_shown run cut ps start all in
       let fits = all_fit run cut ps start all in
       let order = order_is ordered run cut ps start fits shown in
+      let recorded = are_recorded run cut ps start shown order.0 in
       record {
         order = order.0;
         only = order.1;
-        moments = is_recorded run cut ps start shown order.0;
+        moments = recorded;
         receives = received run ps start stands.steps fits sends order.0 taken;
+        sends = sends start fits;
+        fires = firing.changes start;
+        values = λ x k states at. ap (λ (states : List State). value (map seen_node states) no_variables x) (one_recorded run ps (events_of_replays start) k (states_of_nodes start k) states (recorded k) at);
+        prints = λ variables x k none. (unseen (nodes_at (place_at start k)) (variable_value variables) no_variables None x none).0;
       }
 
   pub is_shown : (ps : List ℕ) (pairs : List Pair) → AreProcesses count ps → AllFollow ps → AreHeld r (logs_of_run run cut) folder ps pairs → IsShown run cut folder ps pairs
@@ -217,6 +228,6 @@ module _ (reads : ReadsModules) (gives : GivesSchedules) (beginning : Beginning)
         shows = group_is sorted start all;
       }
 
-pub headline : ReadsModules → GivesSchedules → Beginning → Standing → RecordingsAgree → Ordered → SendsFirst → Headline
-headline reads gives beginning standing agree ordered sends before name r steps moment cut ps are follow folder pairs held =
-    is_shown reads gives beginning standing agree ordered sends before folder name r steps moment cut ps pairs are follow held
+pub headline : ReadsModules → GivesSchedules → Beginning → Standing → RecordingsAgree → Ordered → SendsFirst → ExactFiring → VariablesUnseen → Headline
+headline reads gives beginning standing agree ordered sends firing unseen before name r steps moment cut ps are follow folder pairs held =
+    is_shown reads gives beginning standing agree ordered sends firing unseen before folder name r steps moment cut ps pairs are follow held

@@ -1,7 +1,8 @@
 -- What `replay` and `debug` show of a recording.
-use Rattle.std.specs.Prelude.{◌≡◌, ◌<◌, ◌≤◌, ℕ, Bool, false, IsTrue, List, [], ◌∷◌, length, map, take, slice_get, Some, Contains, if◌then◌else◌}
+use Rattle.std.specs.Prelude.{◌≡◌, ◌↔◌, ◌<◌, ◌≤◌, ℕ, suc, Bool, true, false, IsTrue, List, [], ◌∷◌, length, map, take, slice_get, Some, Contains, if◌then◌else◌}
 use Rattle.std.specs.List.{flat_map}
 use Rattle.lamport_tag.specs.Tag.{read_datagram}
+use Rattle.lamport_tag.specs.declared.Tag.{Tag}
 use Rattle.lib_calls.specs.Traffic.{is_sent, is_taken, prints}
 use Rattle.lib_calls.specs.declared.entry.Entry.{Entry}
 use Rattle.call_log.specs.Log.{entries_of, rest_of_log}
@@ -17,8 +18,16 @@ use Rattle.group_record.specs.Run.{GroupStart, RunStep, entries_of_steps, head_o
 use Rattle.proc_replay.specs.Course.{entries_ahead}
 use Rattle.proc_replay.specs.Replaying.{Replaying}
 use Rattle.group_state.specs.declared.report.ReportLine.{ReportLine}
+use Rattle.group_state.specs.Nodes.{nodes_at, seen_node}
 use Rattle.group_state.specs.Place.{after_entries, entry_clock, events_of_replays, node_event_count, states_of_nodes}
 use Rattle.group_state.specs.Tally.{AcceptedEvent, of_process, tally_of_events}
+use Rattle.watch_expr.specs.Expression.{Expression}
+use Rattle.watch_expr.specs.Faulty.{names_variable}
+use Rattle.watch_expr.specs.Reads.{no_variables}
+use Rattle.watch_expr.specs.Value.{value}
+use Rattle.embed_cmds.specs.Running.{value_in}
+use Rattle.embed_cmds.specs.Variables.{Variable}
+use Rattle.shell_points.specs.Firing.{place_at, value_at_position, watchpoint_fires}
 use Rattle.command_run.specs.Outcome.{CommandWork}
 use Rattle.lamport_tag.specs.Limits.{most_clock}
 use Rattle.replay_command.specs.Report.{report_text}
@@ -81,11 +90,13 @@ recorded_report images run cut ps = record {
 
 -- ---- what `debug` shows
 
--- after n events a process stood in the recording as this node does
-pub record IsRecorded (run : RecordedRun) (p n : ℕ) (now : List State) (node : ℕ) : Type 0 where
-  pub state : State
-  pub shown : slice_get now node ≡ Some state
-  pub recorded : slice_get (recorded_states run.group run.steps p) n ≡ Some state
+-- these states, one for each process, are those that the recording had after as many events of each as stand among the first k
+-- of this order
+pub record AreRecordedAt (run : RecordedRun) (ps : List ℕ) (order : List (NodeEvent Entry)) (k : ℕ) (states : List State) : Type 0 where
+  pub count : length states ≡ length ps
+  pub each : (node p : ℕ) → slice_get ps node ≡ Some p
+      → (state : State) × (slice_get states node ≡ Some state)
+      × (slice_get (recorded_states run.group run.steps p) (node_event_count node (take k order)) ≡ Some state)
 
 -- where the process q is one of these, this event of its own comes before place j of the order
 abbrev pub StandsBefore : List ℕ → List (NodeEvent Entry) → ℕ → ℕ → Entry → Type 0
@@ -111,8 +122,20 @@ pub record ShowsGroup (run : RecordedRun) (ps : List ℕ) (start : List Replayin
   pub order : IsOrder entry_clock (map (entries_of_steps run.steps) ps) (events_of_replays start)
   pub only : (es : List (NodeEvent Entry)) → IsOrder entry_clock (map (entries_of_steps run.steps) ps) es → es ≡ events_of_replays start
   -- at position k each process is as it was in the recording after as many of its events as stand among the first k
-  pub moments : (k node p : ℕ) → slice_get ps node ≡ Some p
-      → IsRecorded run p (node_event_count node (take k (events_of_replays start))) (states_of_nodes start k) node
+  pub moments : (k : ℕ) → AreRecordedAt run ps (events_of_replays start) k (states_of_nodes start k)
   -- each taken datagram is one from outside, or its send comes before it
   pub receives : (j node p : ℕ) (e : Entry) → slice_get ps node ≡ Some p → slice_get (events_of_replays start) j ≡ Some (node_event node e)
       → IsTrue (is_taken e) → ReceivedDatagram run ps (events_of_replays start) j (record { process = p; entry = e })
+  -- every event of the clock that a taken tag names comes before it, whoever made the tag
+  pub sends : (i j : ℕ) (sent taken : NodeEvent Entry) (tag : Tag)
+      → slice_get (events_of_replays start) i ≡ Some sent → slice_get (events_of_replays start) j ≡ Some taken
+      → taken.entry.tag ≡ Some tag → sent.entry.clock ≡ tag.clock → i < j
+  -- a watchpoint fires exactly where its value at two neighbouring positions is not the same
+  pub fires : (x : Expression) (k : ℕ)
+      → (watchpoint_fires start x (suc k) ≡ true) ↔ (value_at_position start x k ≡ value_at_position start x (suc k) → ⊥)
+  -- that value is the one over the recorded states
+  pub values : (x : Expression) (k : ℕ) (states : List State) → AreRecordedAt run ps (events_of_replays start) k states
+      → value_at_position start x k ≡ value (map seen_node states) no_variables x
+  -- and the one that `print` answers, where no variable is named
+  pub prints : (variables : List Variable) (x : Expression) (k : ℕ) → names_variable x ≡ false
+      → value_in (nodes_at (place_at start k)) variables x ≡ value_at_position start x k

@@ -12,6 +12,8 @@ pub fn recordings_are_shown()
     group_record::laws::standing();
     record_command::laws::recordings_agree();
     group_state::laws::ordered();
+    watch_expr::laws::variables_unseen();
+    shell_points::laws::exact_firing();
 }
 
 /// What `record` leaves is shown so: the whole run after an answer, and wherever it was stopped after its heads a moment of
