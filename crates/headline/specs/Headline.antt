@@ -57,11 +57,27 @@ pub record IsShown (run : RecordedRun) (cut : ℕ → List ℕ) (folder : Folder
   pub debug : (input : List ℕ) → debug_outcome pairs (Some input) folder ≡ Some (session_outcome start input)
   pub shows : ShowsGroup run (sorted_of (processes_in_group run.group) ps) start
 
--- ---- the theorem for some of the processes, at any moment of a recording
+-- ---- the theorem for whole recordings
 
 -- what was recorded by these steps
 abbrev pub run_to : {before : Folder} {schedule_name : List ℕ} → IsRecordable before schedule_name → List RunStep → RecordedRun
 run_to r steps = record { group = group_in r; steps = steps }
+
+-- the numbers of all its processes
+abbrev pub processes_of : {before : Folder} {schedule_name : List ℕ} → IsRecordable before schedule_name → List ℕ
+processes_of r = range_with_len 0 (processes_in_group (group_in r))
+
+-- the whole log of each
+abbrev pub whole_logs : {before : Folder} {schedule_name : List ℕ} → IsRecordable before schedule_name → ℕ → Option (List ℕ)
+whole_logs r p = Some (log_of (group_in r) (steps_in r) p)
+
+-- Wherever a schedule and its modules can be recorded: in every folder that has the modules and the whole logs of all the
+-- processes, under whatever names, these files make `replay` and `debug` show the whole run
+abbrev pub WholeRecordings : Type 0
+WholeRecordings = (before : Folder) (schedule_name : List ℕ) (r : IsRecordable before schedule_name) (folder : Folder) (pairs : List Pair)
+    → AreHeld r (whole_logs r) folder (processes_of r) pairs → IsShown (run_to r (steps_in r)) no_cut folder (processes_of r) pairs
+
+-- ---- the theorem for some of the processes, at any moment of a recording
 
 -- the numbers differ from each other
 abbrev pub AreDistinct : List ℕ → Type 0
