@@ -1,11 +1,13 @@
 #!/usr/bin/env python3
-"""Records groups by schedules drawn at random, moves the modules and the logs alone into an empty folder, and checks that
-replay and debug show there what was recorded: for every choice of the processes, in several orders of the words.
+"""Records groups by schedules drawn at random, moves the modules and the logs alone into an empty folder under names drawn at
+random, and checks that replay and debug show there what was recorded: for every choice of the processes, in several orders of
+the words.
 
 check_shown.py [--groups N] [--seed N] [PROGRAM]   (200 groups, the program that answers ./friday, if none is given)
 """
 
 import argparse
+import collections
 import itertools
 import os
 import random
@@ -33,6 +35,9 @@ GUESTS = [
 # The parts of memory that are compared at each position that is drawn.
 PLACES = (1024, 4096, 65536, 66552)
 ORDERS = 3
+
+# A process, with the names under which its module and its log stand.
+Shown = collections.namedtuple("Shown", "name module log")
 
 
 def called(program, folder, *words, typed=""):
@@ -70,14 +75,32 @@ def recorded(program, draw, folder, guests=GUESTS):
     return names, modules, called(program, folder, "record", "--images", "schedule")
 
 
+def moved(draw, names, modules, here, there):
+    """Moves the logs of these processes, each with a copy of its module, to names that are drawn: also to those that another
+    process's log had, and into a folder. Gives the processes with these names."""
+    os.mkdir(os.path.join(there, "kept"))
+    free = [file for name in names for file in (name, name + ".log", os.path.join("kept", name + ".log"), os.path.join("kept", name + ".wasm"))]
+    files = draw.sample(free, 2 * len(names))
+    group = [Shown(name, files.pop(), files.pop()) for name in names]
+    for process, module in zip(group, modules):
+        shutil.copy(os.path.join(here, module), os.path.join(there, process.module))
+        os.rename(os.path.join(here, process.name + ".log"), os.path.join(there, process.log))
+    return group
+
+
+def files_in(folder):
+    """The files of a folder and of those in it, by their names from there."""
+    return {os.path.relpath(os.path.join(path, file), folder) for path, _, files in os.walk(folder) for file in files}
+
+
 def pairs_of(chosen):
-    return [word for name, module in chosen for word in (module, name + ".log")]
+    return [word for process in chosen for word in (process.module, process.log)]
 
 
 def check_replay(program, folder, chosen, summary, images):
     """The report has the recorded lines, in the order of the processes' numbers, and the images are those of the recording."""
     lines = called(program, folder, "replay", "--images", *pairs_of(chosen)).splitlines()
-    names = sorted(name for name, _ in chosen)
+    names = sorted(process.name for process in chosen)
     assert lines[:-1] == [summary[name] + ", log whole" for name in names], (chosen, lines)
     assert lines[-1].startswith("group: ")
     for name in names:
@@ -96,7 +119,7 @@ def session(positions, names):
 
 def memories(program, folder, chosen, positions):
     """The order of these processes' events, and what stands in their memories at each of these positions."""
-    names = sorted(name for name, _ in chosen)
+    names = sorted(process.name for process in chosen)
     text = called(program, folder, "debug", *pairs_of(chosen), typed="\n".join(session(positions, names)) + "\n")
     lines = text.splitlines()
     parts = [line.partition(": ") for line in lines]
@@ -119,7 +142,7 @@ def owner(event):
 def check_debug(program, draw, folder, chosen, whole, alone):
     """The order is that of the group without the events of the others, and at each position each process has the memory that it
     has alone after as many of its own events."""
-    names = {name for name, _ in chosen}
+    names = {process.name for process in chosen}
     order = [event for event in whole if owner(event) in names]
     positions = sorted(draw.sample(range(len(order) + 1), min(4, len(order) + 1)))
     events, answers = memories(program, folder, chosen, positions)
@@ -135,14 +158,12 @@ def check_group(program, draw):
         names, modules, text = recorded(program, draw, here)
         summary = {line.split(":")[0]: line.replace(", killed", ", running") for line in text.splitlines()[:-1]}
         images = {name: open(os.path.join(here, name), "rb").read() for name in os.listdir(here) if name.endswith((".mem", ".out"))}
-        for name in {*modules, *(name + ".log" for name in names)}:
-            os.rename(os.path.join(here, name), os.path.join(there, name))
-        group = list(zip(names, modules))
+        group = moved(draw, names, modules, here, there)
         whole, _ = memories(program, there, group, [])
         alone = {}
-        for name, module in group:
-            count = sum(owner(event) == name for event in whole)
-            _, alone[name] = memories(program, there, [(name, module)], range(count + 1))
+        for process in group:
+            count = sum(owner(event) == process.name for event in whole)
+            _, alone[process.name] = memories(program, there, [process], range(count + 1))
         for size in range(1, len(group) + 1):
             for chosen in itertools.combinations(group, size):
                 texts = set()
@@ -151,7 +172,7 @@ def check_group(program, draw):
                     texts.add(tuple(check_replay(program, there, shuffled, summary, images)))
                     check_debug(program, draw, there, shuffled, whole, alone)
                 assert len(texts) == 1, chosen
-        assert set(os.listdir(there)) == {*modules, *(name + ".log" for name in names)}
+        assert files_in(there) == set(pairs_of(group))
         return len(whole)
 
 

@@ -1,7 +1,7 @@
 -- Of a recording no datagram is stranger to the streams where it is taken than where it was sent.
-use Rattle.std.proofs.Common.{◌≡◌, ◌∙◌, ◌⊎◌, ◌<◌, ◌≤◌, ◌++◌, ℕ, zero, suc, Bool, true, false, cond, List, [], ◌∷◌, length, map, take, Option, Some, None, ap, arith, append_assoc, inl, inr, refl, subst, sym}
+use Rattle.std.proofs.Common.{◌≡◌, ◌∙◌, ◌⊎◌, ◌<◌, ◌≤◌, ◌+◌, ◌++◌, ℕ, zero, suc, Bool, true, false, cond, List, [], ◌∷◌, length, map, take, Option, Some, None, ap, arith, append_assoc, inl, inr, refl, subst, sym}
 use Rattle.std.specs.Prelude.{◌==◌, ◌&&◌, ◌||◌, nat_lt, filter, reverse, slice_get}
-use Rattle.std.specs.List.{AllByRecursion, flat_map, slice_index_or}
+use Rattle.std.specs.List.{AllByRecursion, flat_map, range_with_len, slice_index_or}
 use Rattle.std.proofs.lemmas.Bool.{cases_lt, eq-eqb, eqb-true}
 use Rattle.std.proofs.lemmas.Bool.Decides.{nat_tests}
 use Rattle.std.proofs.lemmas.Grind.{flat_map-append}
@@ -12,13 +12,13 @@ use Rattle.lib_calls.specs.Traffic.{is_sent, is_taken}
 use Rattle.lib_calls.specs.declared.entry.Entry.{Entry}
 use Rattle.call_log.specs.Head.{Head}
 use Rattle.group_order.specs.Order.{IsSorted, NodeEvent, list_of, node_event, of_node, event_precedes}
-use Rattle.group_record.specs.Run.{GroupStart, RunStep, entries_of_steps, processes_in_group}
+use Rattle.group_record.specs.Run.{RunStep, entries_of_steps, processes_in_group}
 use Rattle.group_state.specs.Place.{entry_clock, events_of_replays, group_count}
 use Rattle.proc_replay.specs.Replaying.{Replaying}
 use Rattle.byte_streams.specs.Laws.{IsTakenOf, IsUnsent, StrangeBySend, is_send_at}
 use Rattle.byte_streams.specs.Traffic.{Sent, SendOrReceive, mark_of_receive}
-use Rattle.headline.specs.Headline.{AscendNumbers}
-use Rattle.headline.specs.Shown.{AreShown, FromOutside, FromSend}
+use Rattle.headline.specs.Headline.{is_among, sorted_of}
+use Rattle.headline.specs.Shown.{AreShown, FromOutside, FromSend, RecordedRun}
 use Rattle.streams_command.specs.Streams.{process_at, received_traffic, traffic_by, traffic_of_events, traffic_of_event}
 use Rattle.friday_app.specs.Streams.{RecordedStreams, receiving_of, sending_of, tag_of, traffic_before}
 
@@ -93,6 +93,28 @@ index_at [] node p at = cc
 index_at (q ∷ ps) zero p at = same_Some q p at
 index_at (q ∷ ps) (suc node) p at = index_at ps node p at
 
+-- each number is below those after it
+abbrev Ascend : List ℕ → Type 0
+Ascend [] = Unit {0}
+Ascend (p ∷ ps) = AllByRecursion (λ q. p < q) ps × Ascend ps
+
+filter_above : (low : ℕ) (test : ℕ → Bool) (a n : ℕ) → low < a → AllByRecursion (λ q. low < q) (filter test (range_with_len a n))
+filter_above low test a zero less = tt
+filter_above low test a (suc n) less = by_test (test a) (filter_above low test (a + 1) n (omega (arith, less))) where
+  by_test : (b : Bool) → AllByRecursion (λ q. low < q) (filter test (range_with_len (a + 1) n)) → AllByRecursion (λ q. low < q) (cond b (a ∷ filter test (range_with_len (a + 1) n)) (filter test (range_with_len (a + 1) n)))
+  by_test true rest = (less, rest)
+  by_test false rest = rest
+
+filter_ascends : (test : ℕ → Bool) (a n : ℕ) → Ascend (filter test (range_with_len a n))
+filter_ascends test a zero = tt
+filter_ascends test a (suc n) = by_test (test a) (filter_above a test (a + 1) n (omega arith)) (filter_ascends test (a + 1) n) where
+  by_test : (b : Bool) → AllByRecursion (λ q. a < q) (filter test (range_with_len (a + 1) n)) → Ascend (filter test (range_with_len (a + 1) n)) → Ascend (cond b (a ∷ filter test (range_with_len (a + 1) n)) (filter test (range_with_len (a + 1) n)))
+  by_test true above rest = (above, rest)
+  by_test false above rest = rest
+
+sorted_ascend : (count : ℕ) (ps : List ℕ) → Ascend (sorted_of count ps)
+sorted_ascend count ps = filter_ascends (is_among ps) 0 count
+
 -- a number after the first is above it
 above_first : (first : ℕ) (ps : List ℕ) → AllByRecursion (λ q. first < q) ps → (node : ℕ) → node < length ps → first < slice_index_or ps node 0
 above_first first [] all node within = absurd (omega (arith, within))
@@ -100,7 +122,7 @@ above_first first (p ∷ ps) all zero within = all.0
 above_first first (p ∷ ps) all (suc node) within = above_first first ps all.1 node (omega (arith, within))
 
 -- of numbers that ascend each is at one place
-one_place : (ps : List ℕ) → AscendNumbers ps → (m n : ℕ) → m < length ps → n < length ps → slice_index_or ps m 0 ≡ slice_index_or ps n 0 → m ≡ n
+one_place : (ps : List ℕ) → Ascend ps → (m n : ℕ) → m < length ps → n < length ps → slice_index_or ps m 0 ≡ slice_index_or ps n 0 → m ≡ n
 one_place [] up m n first second same = absurd (omega (arith, first))
 one_place (p ∷ ps) up zero zero first second same = refl
 one_place (p ∷ ps) up zero (suc n) first second same = absurd (omega (arith, same, above_first p ps up.0 n (omega (arith, second))))
@@ -136,7 +158,7 @@ module _ (count : ℕ) (start : List Replaying) (q clock : ℕ) where
       (all_append (λ t. is_send_at q clock t ≡ false) (reverse (flat_map told mid)) (reverse (told e)) (unsent mid all.1) (unsent_one e all.0))
 
 -- an event after the send in the order, of one of these nodes, is of another process or at another clock
-other_event : (start : List Replaying) (ps : List ℕ) → map (λ (r : Replaying). r.head.process) start ≡ ps → AscendNumbers ps → (q node : ℕ) (sent : Entry) (e : NodeEvent Entry) → process_at start node ≡ q → node < length ps
+other_event : (start : List Replaying) (ps : List ℕ) → map (λ (r : Replaying). r.head.process) start ≡ ps → Ascend ps → (q node : ℕ) (sent : Entry) (e : NodeEvent Entry) → process_at start node ≡ q → node < length ps
     → event_precedes entry_clock (node_event node sent) e ≡ true → e.node < length ps → ((process_at start e.node == q) && (e.entry.clock == sent.clock)) ≡ false
 other_event start ps processes up q node sent e of within behind inside = by_process (process_at start e.node == q) refl where
   by_process : (b : Bool) → (process_at start e.node == q) ≡ b → (b && (e.entry.clock == sent.clock)) ≡ false
@@ -167,35 +189,36 @@ split_traffic f front mid e t is =
 -- ---- the recording
 
 module _ (strange : StrangeBySend) where
-  processes_are : (group : GroupStart) (steps : List RunStep) (cut : ℕ → List ℕ) (ps : List ℕ) (rs : List Replaying) → AreShown group steps cut ps rs → map (λ (r : Replaying). r.head.process) rs ≡ ps
-  processes_are group steps cut [] [] each = refl
-  processes_are group steps cut (p ∷ ps) (r ∷ rs) each =
-      ap (λ (h : Head). h.process ∷ map (λ (r : Replaying). r.head.process) rs) each.0.head ∙ ap (λ (qs : List ℕ). p ∷ qs) (processes_are group steps cut ps rs each.1)
-  processes_are group steps cut [] (r ∷ rs) each = absurd each
-  processes_are group steps cut (p ∷ ps) [] each = absurd each
+  processes_are : (run : RecordedRun) (cut : ℕ → List ℕ) (ps : List ℕ) (rs : List Replaying) → AreShown run cut ps rs → map (λ (r : Replaying). r.head.process) rs ≡ ps
+  processes_are run cut [] [] each = refl
+  processes_are run cut (p ∷ ps) (r ∷ rs) each =
+      ap (λ (h : Head). h.process ∷ map (λ (r : Replaying). r.head.process) rs) each.0.head ∙ ap (λ (qs : List ℕ). p ∷ qs) (processes_are run cut ps rs each.1)
+  processes_are run cut [] (r ∷ rs) each = absurd each
+  processes_are run cut (p ∷ ps) [] each = absurd each
 
-  count_is : (group : GroupStart) (steps : List RunStep) (cut : ℕ → List ℕ) (ps : List ℕ) (rs : List Replaying) → AreShown group steps cut ps rs → (node p : ℕ) → slice_get ps node ≡ Some p → group_count rs ≡ processes_in_group group
-  count_is group steps cut [] rs each node p at = cc
-  count_is group steps cut (q ∷ ps) [] each node p at = absurd each
-  count_is group steps cut (q ∷ ps) (r ∷ rs) each node p at = ap (λ (h : Head). h.count) each.0.head
+  count_is : (run : RecordedRun) (cut : ℕ → List ℕ) (ps : List ℕ) (rs : List Replaying) → AreShown run cut ps rs → (node p : ℕ) → slice_get ps node ≡ Some p → group_count rs ≡ processes_in_group run.group
+  count_is run cut [] rs each node p at = cc
+  count_is run cut (q ∷ ps) [] each node p at = absurd each
+  count_is run cut (q ∷ ps) (r ∷ rs) each node p at = ap (λ (h : Head). h.count) each.0.head
 
   pub recorded_streams : RecordedStreams
   recorded_streams run cut folder ps pairs s j node p e at here taken (FromOutside bytes given tag payload) = tt
   recorded_streams run cut folder ps pairs s j node p e at here taken (FromSend q k sent is_entry is_sent_into to tells stands) = λ small other other_at.
       let start = s.start in
+      let sorted = sorted_of (processes_in_group run.group) ps in
       let order = events_of_replays start in
       let told_by = tells small in
       let place = stands small other other_at in
       let send_event : NodeEvent Entry = node_event other sent in
-      let in_range = none_beyond (length s.sorted) order (λ n above. s.shows.order.own n ∙ list_beyond (map (entries_of_steps run.steps) s.sorted) n (omega (arith, above, length_lists run.steps s.sorted))) in
-      let b = between (λ x. x.node < length s.sorted) order s.shows.order.sorted in_range place.0 j send_event place.1 place.2 in
-      let processes = processes_are run.group run.steps cut s.sorted start s.each in
-      let count = count_is run.group run.steps cut s.sorted start s.each other q other_at in
-      let of_other : process_at start other ≡ q = ap (λ (qs : List ℕ). slice_index_or qs other 0) processes ∙ index_at s.sorted other q other_at in
-      let within = slice_get_within s.sorted other q other_at in
+      let in_range = none_beyond (length sorted) order (λ n above. s.shows.order.own n ∙ list_beyond (map (entries_of_steps run.steps) sorted) n (omega (arith, above, length_lists run.steps sorted))) in
+      let b = between (λ x. x.node < length sorted) order s.shows.order.sorted in_range place.0 j send_event place.1 place.2 in
+      let processes = processes_are run cut sorted start s.each in
+      let count = count_is run cut sorted start s.each other q other_at in
+      let of_other : process_at start other ≡ q = ap (λ (qs : List ℕ). slice_index_or qs other 0) processes ∙ index_at sorted other q other_at in
+      let within = slice_get_within sorted other q other_at in
       let sending = sending_of q sent in
-      let others = all_so (λ x. (event_precedes entry_clock send_event x ≡ true) × (x.node < length s.sorted)) (IsOther (group_count start) start q sent.clock) b.mid
-      (λ x h. other_event start s.sorted processes s.in_order.ascend q other sent x of_other within h.0 h.1) b.later in
+      let others = all_so (λ x. (event_precedes entry_clock send_event x ≡ true) × (x.node < length sorted)) (IsOther (group_count start) start q sent.clock) b.mid
+      (λ x h. other_event start sorted processes (sorted_ascend (processes_in_group run.group) ps) q other sent x of_other within h.0 h.1) b.later in
       let at_send : traffic_of_event (group_count start) (process_at start other) sent ≡ Sent sending ∷ [] =
       ap (λ t. traffic_by t (is_taken sent) (process_at start other) sent) (ap (λ n. is_sent n sent) count ∙ is_sent_into)
       ∙ ap (λ f. Sent (sending_of f sent) ∷ []) of_other in

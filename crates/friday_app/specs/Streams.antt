@@ -5,13 +5,14 @@ use Rattle.lamport_tag.specs.declared.Tag.{Tag}
 use Rattle.lib_calls.specs.Traffic.{is_taken}
 use Rattle.lib_calls.specs.declared.entry.Entry.{Entry}
 use Rattle.group_order.specs.Order.{node_event}
+use Rattle.group_record.specs.Run.{processes_in_group}
 use Rattle.group_state.specs.Place.{events_of_replays}
 use Rattle.group_state.specs.Tally.{AcceptedEvent}
 use Rattle.proc_replay.specs.Replaying.{Replaying}
 use Rattle.log_pairs.specs.Pairs.{Pair}
 use Rattle.byte_streams.specs.declared.mark.PayloadMark.TheVariants.{Strange}
 use Rattle.byte_streams.specs.Traffic.{ReceivedPayload, SentPayload, SendOrReceive, mark_of_receive, mark_of_send}
-use Rattle.headline.specs.Headline.{IsShown}
+use Rattle.headline.specs.Headline.{IsShown, sorted_of}
 use Rattle.headline.specs.Shown.{FromOutside, FromSend, ReceivedDatagram, RecordedRun}
 use Rattle.lamport_tag.specs.Limits.{most_clock}
 use Rattle.streams_command.specs.Streams.{traffic_of_events}
@@ -53,5 +54,5 @@ ReadsRecordedSend {ps = ps} {j = j} {taken = taken} start (FromSend q k sent at 
 abbrev pub RecordedStreams : Type 0
 RecordedStreams =
     (run : RecordedRun) (cut : ℕ → List ℕ) (folder : Folder) (ps : List ℕ) (pairs : List Pair) → (s : IsShown run cut folder ps pairs)
-    → (j node p : ℕ) (e : Entry) → slice_get s.sorted node ≡ Some p → slice_get (events_of_replays s.start) j ≡ Some (node_event node e) → IsTrue (is_taken e)
-    → (r : ReceivedDatagram run s.sorted (events_of_replays s.start) j (record { process = p; entry = e })) → ReadsRecordedSend s.start r
+    → (j node p : ℕ) (e : Entry) → slice_get (sorted_of (processes_in_group run.group) ps) node ≡ Some p → slice_get (events_of_replays s.start) j ≡ Some (node_event node e) → IsTrue (is_taken e)
+    → (r : ReceivedDatagram run (sorted_of (processes_in_group run.group) ps) (events_of_replays s.start) j (record { process = p; entry = e })) → ReadsRecordedSend s.start r

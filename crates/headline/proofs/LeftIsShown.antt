@@ -5,7 +5,8 @@ use Rattle.fri_outside.specs.Outside.{Folder}
 use Rattle.group_record.specs.Run.{IsMoment, RunStep, log_of, processes_in_group}
 use Rattle.record_command.specs.Agreement.{IsAtMomentOfRun, IsStoppedInHeads, IsRecordable, LeavesCut, MayFollowLog, Nothing, group_in, steps_in}
 use Rattle.record_command.specs.Laws.{RecordingsLeaveLogs, RecordingsStand}
-use Rattle.headline.specs.Headline.{Headline, HoldsProcess, LeftIsShown, ShowsMoment, ShowsSteps, logs_in, logs_of_run}
+use Rattle.log_pairs.specs.Pairs.{Pair}
+use Rattle.headline.specs.Headline.{AreHeld, Headline, LeftIsShown, ShowsMoment, ShowsSteps, logs_in, logs_of_run, run_to}
 use Rattle.headline.specs.Shown.{no_cut}
 
 module _ {before : Folder} {name : List ℕ} (r : IsRecordable before name) (steps : List RunStep) (cut : ℕ → List ℕ) (after folder : Folder) where
@@ -13,10 +14,11 @@ module _ {before : Folder} {name : List ℕ} (r : IsRecordable before name) (ste
   Below ps = AllByRecursion (λ p. p < processes_in_group (group_in r)) ps
 
   -- a folder that has the logs that were left has those of the run
-  holds : LeavesCut (group_in r) steps cut after → (ps : List ℕ) → Below ps → AllByRecursion (HoldsProcess r (logs_in (group_in r) after) folder) ps
-      → AllByRecursion (HoldsProcess r (logs_of_run (group_in r) steps cut) folder) ps
-  holds left [] below has = tt
-  holds left (p ∷ ps) below has = (record { «module» = has.0.«module»; log = has.0.log ∙ left p below.0 }, holds left ps below.1 has.1)
+  holds : LeavesCut (group_in r) steps cut after → (ps : List ℕ) (pairs : List Pair) → Below ps → AreHeld r (logs_in (group_in r) after) folder ps pairs → AreHeld r (logs_of_run (run_to r steps) cut) folder ps pairs
+  holds left [] [] below has = tt
+  holds left (p ∷ ps) (pair ∷ pairs) below has = (record { «module» = has.0.«module»; log = has.0.log ∙ left p below.0 }, holds left ps pairs below.1 has.1)
+  holds left [] (pair ∷ pairs) below has = absurd has
+  holds left (p ∷ ps) [] below has = absurd has
 
   all_follow : ((p : ℕ) → p < processes_in_group (group_in r) → MayFollowLog (group_in r) (steps_in r) steps p (cut p)) → (ps : List ℕ) → Below ps
       → AllByRecursion (λ p. MayFollowLog (group_in r) (steps_in r) steps p (cut p)) ps
@@ -25,8 +27,8 @@ module _ {before : Folder} {name : List ℕ} (r : IsRecordable before name) (ste
 
 shows_steps : Headline → {before : Folder} {name : List ℕ} (r : IsRecordable before name) (steps : List RunStep) → IsMoment steps (steps_in r) → (cut : ℕ → List ℕ) (after : Folder)
     → ((p : ℕ) → p < processes_in_group (group_in r) → MayFollowLog (group_in r) (steps_in r) steps p (cut p)) → LeavesCut (group_in r) steps cut after → ShowsSteps r steps cut after
-shows_steps law {before} {name} r steps moment cut after follows left ps are folder has =
-    law before name r steps moment cut ps are (all_follow r steps cut after folder follows ps are.within) folder (holds r steps cut after folder left ps are.within has)
+shows_steps law {before} {name} r steps moment cut after follows left ps are folder pairs has =
+    law before name r steps moment cut ps are (all_follow r steps cut after folder follows ps are.within) folder pairs (holds r steps cut after folder left ps pairs are.within has)
 
 pub left_is_shown_so : Headline → RecordingsLeaveLogs → RecordingsStand → LeftIsShown
 left_is_shown_so law leave stand images name answer before after made moment r = record {

@@ -8,4 +8,5 @@ pub mod RecordedGroup
 pub mod RecordedOrder
 pub mod ReceivedDatagrams
 pub mod RecordingIsShown
+pub mod WholeRecordings
 pub mod LeftIsShown

@@ -15,11 +15,11 @@ use Rattle.group_world.specs.History.{Act, Deliver, History, Inject}
 use Rattle.group_world.specs.History as world
 use Rattle.group_world.specs.Laws.{gives}
 use Rattle.group_record.specs.Laws.{TakesDatagram, TellsSend}
-use Rattle.group_record.specs.Run.{GroupStart, Had, RunStep, act_of, entries_of_steps, history_of_steps, processes_in_group}
+use Rattle.group_record.specs.Run.{Had, RunStep, act_of, entries_of_steps, history_of_steps, processes_in_group}
 use Rattle.group_record.specs.Standing.{IsRun}
 use Rattle.group_state.specs.Laws.{SendsFirst}
 use Rattle.group_state.specs.Place.{ReplaysFit, entry_clock, events_of_replays}
-use Rattle.headline.specs.Shown.{FromOutside, FromSend, ReceivedDatagram, StandsBefore, recorded_run}
+use Rattle.headline.specs.Shown.{FromOutside, FromSend, ReceivedDatagram, RecordedRun, StandsBefore}
 use Rattle.headline.proofs.RecordedCourse.{entries_stay}
 use Rattle.headline.proofs.RecordedOrder.{own_is, own_of, place_of}
 use Rattle.headline.proofs.ToldEntries.{nth_is_sent, was_had}
@@ -54,37 +54,37 @@ injects q p given bytes is = by_test (q == p) refl is where
   by_test true same is = record { to = eqb-true q p same; same = ap first_of is }
   by_test false other is = cc
 
-module _ (group : GroupStart) (steps : List RunStep) (ps : List ℕ) (start : List Replaying) (run : IsRun group steps) (fits : ReplaysFit start) (sends : SendsFirst)
-    (order : IsOrder entry_clock (map (entries_of_steps steps) ps) (events_of_replays start)) where
+module _ (run : RecordedRun) (ps : List ℕ) (start : List Replaying) (is_run : IsRun run.group run.steps) (fits : ReplaysFit start) (sends : SendsFirst)
+    (order : IsOrder entry_clock (map (entries_of_steps run.steps) ps) (events_of_replays start)) where
   -- the send of a tag that an event bears comes before it
-  before : (j node q k : ℕ) (e sent : Entry) → slice_get (events_of_replays start) j ≡ Some (node_event node e) → slice_get (entries_of_steps steps q) k ≡ Some sent → e.tag ≡ Some (record { sender = q; clock = sent.clock })
+  before : (j node q k : ℕ) (e sent : Entry) → slice_get (events_of_replays start) j ≡ Some (node_event node e) → slice_get (entries_of_steps run.steps q) k ≡ Some sent → e.tag ≡ Some (record { sender = q; clock = sent.clock })
       → StandsBefore ps (events_of_replays start) j q sent
   before j node q k e sent at among tag other given =
-      let place = place_of (events_of_replays start) other k sent (ap (λ (es : List Entry). slice_get es k) (own_is steps ps (events_of_replays start) order other q given) ∙ among) in
+      let place = place_of (events_of_replays start) other k sent (ap (λ (es : List Entry). slice_get es k) (own_is run.steps ps (events_of_replays start) order other q given) ∙ among) in
       (place.at, sends start fits place.at j (node_event other sent) (node_event node e) (record { sender = q; clock = sent.clock }) place.is at tag refl, place.is)
 
-  module _ (j node p : ℕ) (e : Entry) (at : slice_get (events_of_replays start) j ≡ Some (node_event node e)) (later early : List RunStep) (event : Event) (split : steps ≡ later ++ (Had p event ∷ early)) (is : event.entry ≡ e)
-      (t : TakesDatagram (processes_in_group group) early p event) where
-    from_send : (q n : ℕ) → t.giver.act ≡ Deliver q n → ReceivedDatagram (recorded_run group steps) ps (events_of_replays start) j (record { process = p; entry = e })
+  module _ (j node p : ℕ) (e : Entry) (at : slice_get (events_of_replays start) j ≡ Some (node_event node e)) (later early : List RunStep) (event : Event) (split : run.steps ≡ later ++ (Had p event ∷ early)) (is : event.entry ≡ e)
+      (t : TakesDatagram (processes_in_group run.group) early p event) where
+    from_send : (q n : ℕ) → t.giver.act ≡ Deliver q n → ReceivedDatagram run ps (events_of_replays start) j (record { process = p; entry = e })
     from_send q n act =
         let s = t.sent q n act in
         let told = t.told q n act in
-        let among : slice_get (entries_of_steps steps q) told.0 ≡ Some s.sent =
+        let among : slice_get (entries_of_steps run.steps q) told.0 ≡ Some s.sent =
         ap (λ (steps : List RunStep). slice_get (entries_of_steps steps q) told.0) (split ∙ sym (append_assoc later (Had p event ∷ []) early))
         ∙ entries_stay (later ++ (Had p event ∷ [])) early q told.0 s.sent
         (slice_get-get_or (entries_of_steps early q) told.0 s.sent told.1 ∙ ap (λ (x : Entry). Some x) told.2) in
         let named : s.sent.clock ≤ 2 ^ 62 → TellsSend e q s.sent = λ low. subst (λ (e : Entry). TellsSend e q s.sent) is (s.named low) in
-        FromSend q told.0 s.sent among (nth_is_sent (processes_in_group group) t.giver.earlier q n s.sent s.is) s.to named (λ low. before j node q told.0 e s.sent at among (named low).tag)
+        FromSend q told.0 s.sent among (nth_is_sent (processes_in_group run.group) t.giver.earlier q n s.sent s.is) s.to named (λ low. before j node q told.0 e s.sent at among (named low).tag)
 
-    from_outside : (q : ℕ) (given : List ℕ) → t.giver.act ≡ Inject q given → Injects q p given t.bytes → ReceivedDatagram (recorded_run group steps) ps (events_of_replays start) j (record { process = p; entry = e })
+    from_outside : (q : ℕ) (given : List ℕ) → t.giver.act ≡ Inject q given → Injects q p given t.bytes → ReceivedDatagram run ps (events_of_replays start) j (record { process = p; entry = e })
     from_outside q given act in_it =
         let there : t.giver.act ≡ Inject p t.bytes = act ∙ ap (λ (n : ℕ). Inject n given) in_it.to ∙ ap (Inject p) in_it.same in
         FromOutside t.bytes
-        (stays steps later early (Had p event) t.giver.later t.giver.earlier (Inject p t.bytes) split (t.giver.split ∙ ap (λ (act : Act). t.giver.later ++ act ∷ t.giver.earlier) there))
-        (subst (λ (e : Entry). e.tag ≡ (read_datagram (processes_in_group group) t.bytes).0) is t.tag)
-        (subst (λ (e : Entry). e.incoming ≡ take e.call.a1 (read_datagram (processes_in_group group) t.bytes).1) is t.payload)
+        (stays run.steps later early (Had p event) t.giver.later t.giver.earlier (Inject p t.bytes) split (t.giver.split ∙ ap (λ (act : Act). t.giver.later ++ act ∷ t.giver.earlier) there))
+        (subst (λ (e : Entry). e.tag ≡ (read_datagram (processes_in_group run.group) t.bytes).0) is t.tag)
+        (subst (λ (e : Entry). e.incoming ≡ take e.call.a1 (read_datagram (processes_in_group run.group) t.bytes).1) is t.payload)
 
-    by_act : (act : Act) → t.giver.act ≡ act → gives (processes_in_group group) t.giver.earlier act p ≡ t.bytes ∷ [] → ReceivedDatagram (recorded_run group steps) ps (events_of_replays start) j (record { process = p; entry = e })
+    by_act : (act : Act) → t.giver.act ≡ act → gives (processes_in_group run.group) t.giver.earlier act p ≡ t.bytes ∷ [] → ReceivedDatagram run ps (events_of_replays start) j (record { process = p; entry = e })
     by_act (world.Deliver q n) act given = from_send q n act
     by_act (world.Inject q bytes) act given = from_outside q bytes act (injects q p bytes t.bytes given)
     by_act (world.Event q x) act given = cc
@@ -93,13 +93,13 @@ module _ (group : GroupStart) (steps : List RunStep) (ps : List ℕ) (start : Li
     by_act (world.Signal q signal) act given = cc
     by_act (world.Kill q) act given = cc
 
-    came : ReceivedDatagram (recorded_run group steps) ps (events_of_replays start) j (record { process = p; entry = e })
+    came : ReceivedDatagram run ps (events_of_replays start) j (record { process = p; entry = e })
     came = by_act t.giver.act refl t.giver.gives_it
 
-  pub received : ((later early : List RunStep) (p : ℕ) (e : Event) → steps ≡ later ++ (Had p e ∷ early) → IsTrue (is_taken e.entry) → TakesDatagram (processes_in_group group) early p e)
-      → (j node p : ℕ) (e : Entry) → slice_get ps node ≡ Some p → slice_get (events_of_replays start) j ≡ Some (node_event node e) → IsTrue (is_taken e) → ReceivedDatagram (recorded_run group steps) ps (events_of_replays start) j (record { process = p; entry = e })
+  pub received : ((later early : List RunStep) (p : ℕ) (e : Event) → run.steps ≡ later ++ (Had p e ∷ early) → IsTrue (is_taken e.entry) → TakesDatagram (processes_in_group run.group) early p e)
+      → (j node p : ℕ) (e : Entry) → slice_get ps node ≡ Some p → slice_get (events_of_replays start) j ≡ Some (node_event node e) → IsTrue (is_taken e) → ReceivedDatagram run ps (events_of_replays start) j (record { process = p; entry = e })
   received takes j node p e is_node at taken =
       let own = own_of (events_of_replays start) j node e at in
-      let was = was_had group steps p own.0 e run (ap (λ (es : List Entry). slice_get es own.0) (sym (own_is steps ps (events_of_replays start) order node p is_node)) ∙ own.1) in
+      let was = was_had run.group run.steps p own.0 e is_run (ap (λ (es : List Entry). slice_get es own.0) (sym (own_is run.steps ps (events_of_replays start) order node p is_node)) ∙ own.1) in
       came j node p e at was.later was.early was.event was.split was.is
       (takes was.later was.early p was.event was.split (subst (λ (x : Entry). IsTrue (is_taken x)) (sym was.is) taken))

@@ -3,7 +3,7 @@ use Rattle.std.proofs.Common.{◌≡◌, ◌≢◌, ◌⊎◌, ◌∙◌, ◌<�
 use Rattle.std.specs.Prelude.{All, AllPairs, slice_index_or}
 use Rattle.std.specs.FinMap.{get}
 use Rattle.std.proofs.lemmas.List.{length-map}
-use Rattle.fri_outside.specs.Outside.{Folder, found_within}
+use Rattle.fri_outside.specs.Outside.{Folder, FoundFile, Held, Missing, Over, found_file, found_within}
 use Rattle.wasm_types.specs.Modules.{Module}
 use Rattle.wasm_types.specs.Valid.{IsValid}
 use Rattle.wasm_decode.specs.Sections.{module_of_bytes}
@@ -16,18 +16,21 @@ use Rattle.guest_process.specs.Start.{start}
 use Rattle.guest_process.specs.State.{State}
 use Rattle.group_record.specs.Answer.{first_states_from, group_of, with_first_state}
 use Rattle.group_record.specs.Laws.{Beginning, IsBegun}
-use Rattle.group_record.specs.Logs.{TellsBeforeRest, log_name}
+use Rattle.group_record.specs.Logs.{TellsBeforeRest}
 use Rattle.group_record.specs.Run.{GroupStart, RunStep, head_of_log, log_of, name_of_process, processes_in_group}
-use Rattle.command_run.specs.Inputs.{module_in, spelled_module, valid_module}
+use Rattle.command_run.specs.declared.refusal.Reason.{Reason}
+use Rattle.command_run.specs.Fault.{fault_of}
+use Rattle.command_run.specs.Inputs.{module_in, module_unless_refused, spelled_module, valid_module}
 use Rattle.command_run.specs.Laws.{ReadsModules}
 use Rattle.command_run.specs.Limits.{most_module}
 use Rattle.command_run.specs.Outcome.{CommandStop, and_then, bytes_or_stop, file_of}
 use Rattle.command_run.specs.OutcomeLaws.{result_follows, same_Ok_value, ok_value_or}
+use Rattle.log_pairs.specs.Pairs.{Pair}
 use Rattle.log_pairs.specs.Valid.{GoTogether}
 use Rattle.record_command.specs.Agreement.{IsRecordable, group_in}
 use Rattle.record_command.specs.Expected.{module_name, modules_of, schedule_in, schedule_or_refusal}
 use Rattle.schedule_text.specs.Limits.{most_schedule}
-use Rattle.headline.specs.Headline.{HoldsProcess, files_of_process, logs_of_run}
+use Rattle.headline.specs.Headline.{HoldsPair, logs_of_run, run_to}
 use Rattle.headline.proofs.LoadedPairs.{PairStands, log_stands}
 use Rattle.headline.proofs.ShownReplays.{replay_of}
 
@@ -143,21 +146,36 @@ begins_in {folder} r p S at =
 
 -- ---- its pair, in a folder that holds it
 
-abbrev module_by : List ℕ → Option (List ℕ) → Result Module CommandStop
-module_by name held = and_then (bytes_or_stop name (found_within most_module held)) (λ bytes. and_then (spelled_module name (module_of_bytes bytes)) (valid_module name))
+valid_again : (name other : List ℕ) (x m : Module) (why : Option Reason) → module_unless_refused name x why ≡ Ok m → module_unless_refused other x why ≡ Ok m
+valid_again name other x m None is = is
+valid_again name other x m (Some why) is = cc
 
-same_module : (before folder : Folder) (name : List ℕ) → get folder name ≡ get before name → module_in folder name ≡ module_in before name
-same_module before folder name same = ap (module_by name) same
+spelled_again : (name other : List ℕ) (o : Option Module) (m : Module) → and_then (spelled_module name o) (valid_module name) ≡ Ok m → and_then (spelled_module other o) (valid_module other) ≡ Ok m
+spelled_again name other None m is = cc
+spelled_again name other (Some x) m is = valid_again name other x m (fault_of x) is
 
-pub pair_stands : ReadsModules → {before : Folder} {name : List ℕ} (r : IsRecordable before name) (steps : List RunStep) (cut : ℕ → List ℕ) (folder : Folder) (p : ℕ) → HoldsProcess r (logs_of_run (group_in r) steps cut) folder p
-    → (t : TellsBeforeRest (group_in r) steps p (cut p)) → PairStands folder (files_of_process r.schedule p) (replay_of (group_in r) steps cut p t)
-pair_stands reads {before} r steps cut folder p holds t =
+abbrev module_by : List ℕ → FoundFile → Result Module CommandStop
+module_by name file = and_then (bytes_or_stop name file) (λ bytes. and_then (spelled_module name (module_of_bytes bytes)) (valid_module name))
+
+found_again : (name other : List ℕ) (file : FoundFile) (m : Module) → module_by name file ≡ Ok m → module_by other file ≡ Ok m
+found_again name other Missing m is = cc
+found_again name other Over m is = cc
+found_again name other (Held bytes) m is = spelled_again name other (module_of_bytes bytes) m is
+
+-- what is a module under one name is that module under another
+same_module : (before folder : Folder) (name other : List ℕ) (m : Module) → module_in before name ≡ Ok m → get folder other ≡ get before name → module_in folder other ≡ Ok m
+same_module before folder name other m is same =
+    ap (λ (held : Option (List ℕ)). module_by other (found_within most_module held)) same ∙ found_again name other (found_file before name most_module) m is
+
+pub pair_stands : ReadsModules → {before : Folder} {name : List ℕ} (r : IsRecordable before name) (steps : List RunStep) (cut : ℕ → List ℕ) (folder : Folder) (p : ℕ) (pair : Pair)
+    → HoldsPair r (logs_of_run (run_to r steps) cut) folder p pair → (t : TellsBeforeRest (group_in r) steps p (cut p)) → PairStands folder pair (replay_of (run_to r steps) cut p t)
+pair_stands reads {before} r steps cut folder p pair holds t =
     let b = begins_in r p t.first t.begun in
     record {
       «module» = b.«module»;
-      reads = same_module before folder (module_name r.schedule p) holds.«module» ∙ b.reads;
+      reads = same_module before folder (module_name r.schedule p) pair.module_name b.«module» b.reads holds.«module»;
       begins = b.begins;
-      log = log_stands reads folder (log_name (name_of_process (group_in r) p)) (log_of (group_in r) steps p ++ cut p) (head_of_log (group_in r) p) t.left holds.log t.within t.head;
+      log = log_stands reads folder pair.log_name (log_of (group_in r) steps p ++ cut p) (head_of_log (group_in r) p) t.left holds.log t.within t.head;
     }
 
 -- ---- the heads go together

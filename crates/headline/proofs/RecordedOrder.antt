@@ -8,33 +8,34 @@ use Rattle.lib_calls.specs.declared.entry.Entry.{Entry}
 use Rattle.group_order.specs.Order.{IsOrder, NodeEvent, list_of, node_event, of_node}
 use Rattle.proc_replay.specs.Course.{entries_ahead}
 use Rattle.proc_replay.specs.Replaying.{Replaying}
-use Rattle.group_record.specs.Run.{GroupStart, RunStep, entries_of_steps}
+use Rattle.guest_process.specs.State.{State}
+use Rattle.group_record.specs.Run.{RunStep, entries_of_steps}
 use Rattle.group_state.specs.Laws.{Ordered}
 use Rattle.group_state.specs.Place.{ReplaysFit, after_entries, entry_clock, events_of_replays, node_event_count, states_of_nodes, states_from}
-use Rattle.headline.specs.Shown.{AreShown, IsRecorded, ShowsProcess, recorded_run}
+use Rattle.headline.specs.Shown.{AreRecordedAt, AreShown, RecordedRun, ShowsProcess}
 
 -- ---- the replay of a process
 
-pub record Node (group : GroupStart) (steps : List RunStep) (cut : ℕ → List ℕ) (start : List Replaying) (node p : ℕ) : Type 0 where
+pub record Node (run : RecordedRun) (cut : ℕ → List ℕ) (start : List Replaying) (node p : ℕ) : Type 0 where
   pub replay : Replaying
   pub at : slice_get start node ≡ Some replay
-  pub shows : ShowsProcess group steps cut p replay
+  pub shows : ShowsProcess run cut p replay
 
-pub node_at : (group : GroupStart) (steps : List RunStep) (cut : ℕ → List ℕ) (ps : List ℕ) (rs : List Replaying) → AreShown group steps cut ps rs → (node p : ℕ) → slice_get ps node ≡ Some p → Node group steps cut rs node p
-node_at group steps cut [] [] shown node p at = cc
-node_at group steps cut (q ∷ ps) (r ∷ rs) shown zero p at =
-    record { replay = r; at = refl; shows = subst (λ (n : ℕ). ShowsProcess group steps cut n r) (same_Some q p at) shown.0 }
-node_at group steps cut (q ∷ ps) (r ∷ rs) shown (suc node) p at =
-    let rest = node_at group steps cut ps rs shown.1 node p at in record { replay = rest.replay; at = rest.at; shows = rest.shows }
-node_at group steps cut [] (r ∷ rs) shown node p at = absurd shown
-node_at group steps cut (q ∷ ps) [] shown node p at = absurd shown
+pub node_at : (run : RecordedRun) (cut : ℕ → List ℕ) (ps : List ℕ) (rs : List Replaying) → AreShown run cut ps rs → (node p : ℕ) → slice_get ps node ≡ Some p → Node run cut rs node p
+node_at run cut [] [] shown node p at = cc
+node_at run cut (q ∷ ps) (r ∷ rs) shown zero p at =
+    record { replay = r; at = refl; shows = subst (λ (n : ℕ). ShowsProcess run cut n r) (same_Some q p at) shown.0 }
+node_at run cut (q ∷ ps) (r ∷ rs) shown (suc node) p at =
+    let rest = node_at run cut ps rs shown.1 node p at in record { replay = rest.replay; at = rest.at; shows = rest.shows }
+node_at run cut [] (r ∷ rs) shown node p at = absurd shown
+node_at run cut (q ∷ ps) [] shown node p at = absurd shown
 
-pub aheads : (group : GroupStart) (steps : List RunStep) (cut : ℕ → List ℕ) (ps : List ℕ) (rs : List Replaying) → AreShown group steps cut ps rs → map entries_ahead rs ≡ map (entries_of_steps steps) ps
-aheads group steps cut [] [] shown = refl
-aheads group steps cut (p ∷ ps) (r ∷ rs) shown =
-    ap (λ (es : List Entry). es ∷ map entries_ahead rs) shown.0.accepted ∙ ap (λ (lists : List (List Entry)). entries_of_steps steps p ∷ lists) (aheads group steps cut ps rs shown.1)
-aheads group steps cut [] (r ∷ rs) shown = absurd shown
-aheads group steps cut (p ∷ ps) [] shown = absurd shown
+pub aheads : (run : RecordedRun) (cut : ℕ → List ℕ) (ps : List ℕ) (rs : List Replaying) → AreShown run cut ps rs → map entries_ahead rs ≡ map (entries_of_steps run.steps) ps
+aheads run cut [] [] shown = refl
+aheads run cut (p ∷ ps) (r ∷ rs) shown =
+    ap (λ (es : List Entry). es ∷ map entries_ahead rs) shown.0.accepted ∙ ap (λ (lists : List (List Entry)). entries_of_steps run.steps p ∷ lists) (aheads run cut ps rs shown.1)
+aheads run cut [] (r ∷ rs) shown = absurd shown
+aheads run cut (p ∷ ps) [] shown = absurd shown
 
 -- ---- what a node has
 
@@ -72,17 +73,47 @@ state_at a (s ∷ rs) es (suc i) r at =
     let here : suc a + i ≡ a + suc i = omega arith in
     state_at (suc a) rs es i r at ∙ ap (λ (n : ℕ). Some (after_entries r (node_event_count n es))) here
 
-pub is_recorded : (group : GroupStart) (steps : List RunStep) (cut : ℕ → List ℕ) (ps : List ℕ) (start : List Replaying) → AreShown group steps cut ps start → IsOrder entry_clock (map (entries_of_steps steps) ps) (events_of_replays start)
-    → (k node p : ℕ) → slice_get ps node ≡ Some p → IsRecorded (recorded_run group steps) p (node_event_count node (take k (events_of_replays start))) (states_of_nodes start k) node
-is_recorded group steps cut ps start shown order k node p at =
-    let n = node_at group steps cut ps start shown node p at in
-    let count = node_event_count node (take k (events_of_replays start)) in
-    let here : 0 + node ≡ node = omega arith in
-    record {
-      state = after_entries n.replay count;
-      shown = state_at 0 start (take k (events_of_replays start)) node n.replay n.at ∙ ap (λ (m : ℕ). Some (after_entries n.replay (node_event_count m (take k (events_of_replays start))))) here;
-      recorded = n.shows.moments count (omega (arith, fewer node k (events_of_replays start), ap length (own_is steps ps (events_of_replays start) order node p at)));
-    }
+states_count : (a : ℕ) (rs : List Replaying) (es : List (NodeEvent Entry)) → length (states_from a rs es) ≡ length rs
+states_count a [] es = refl
+states_count a (r ∷ rs) es = ap suc (states_count (suc a) rs es)
+
+shown_count : (run : RecordedRun) (cut : ℕ → List ℕ) (ps : List ℕ) (rs : List Replaying) → AreShown run cut ps rs → length rs ≡ length ps
+shown_count run cut [] [] shown = refl
+shown_count run cut (p ∷ ps) (r ∷ rs) shown = ap suc (shown_count run cut ps rs shown.1)
+shown_count run cut [] (r ∷ rs) shown = absurd shown
+shown_count run cut (p ∷ ps) [] shown = absurd shown
+
+pub are_recorded : (run : RecordedRun) (cut : ℕ → List ℕ) (ps : List ℕ) (start : List Replaying) → AreShown run cut ps start → IsOrder entry_clock (map (entries_of_steps run.steps) ps) (events_of_replays start)
+    → (k : ℕ) → AreRecordedAt run ps (events_of_replays start) k (states_of_nodes start k)
+are_recorded run cut ps start shown order k = record {
+  count = states_count 0 start (take k (events_of_replays start)) ∙ shown_count run cut ps start shown;
+  each = λ node p at.
+      let n = node_at run cut ps start shown node p at in
+      let count = node_event_count node (take k (events_of_replays start)) in
+      let here : 0 + node ≡ node = omega arith in (
+        after_entries n.replay count,
+        state_at 0 start (take k (events_of_replays start)) node n.replay n.at ∙ ap (λ (m : ℕ). Some (after_entries n.replay (node_event_count m (take k (events_of_replays start))))) here,
+        n.shows.moments count (omega (arith, fewer node k (events_of_replays start), ap length (own_is run.steps ps (events_of_replays start) order node p at))),
+      );
+}
+
+-- ---- there is one list of recorded states
+
+-- lists that are as long as another and have the same at each of its places
+same_lists : {A : Type 0} (ps : List ℕ) (xs ys : List A) → length xs ≡ length ps → length ys ≡ length ps
+    → ((node p : ℕ) → slice_get ps node ≡ Some p → slice_get xs node ≡ slice_get ys node) → xs ≡ ys
+same_lists [] [] [] long also same = refl
+same_lists (p ∷ ps) (x ∷ xs) (y ∷ ys) long also same =
+    ap (λ (z : _). z ∷ xs) (same_Some x y (same 0 p refl)) ∙ ap (λ (zs : List _). y ∷ zs) (same_lists ps xs ys (omega (arith, long)) (omega (arith, also)) (λ node q at. same (suc node) q at))
+same_lists [] (x ∷ xs) ys long also same = absurd (omega (arith, long))
+same_lists [] [] (y ∷ ys) long also same = absurd (omega (arith, also))
+same_lists (p ∷ ps) [] ys long also same = absurd (omega (arith, long))
+same_lists (p ∷ ps) (x ∷ xs) [] long also same = absurd (omega (arith, also))
+
+pub one_recorded : (run : RecordedRun) (ps : List ℕ) (order : List (NodeEvent Entry)) (k : ℕ) (some other : List State) → AreRecordedAt run ps order k some → AreRecordedAt run ps order k other → some ≡ other
+one_recorded run ps order k some other one two =
+    same_lists ps some other one.count two.count
+    (λ node p at. let a = one.each node p at in let b = two.each node p at in a.1 ∙ sym a.2 ∙ b.2 ∙ sym b.1)
 
 -- ---- places in the order
 
@@ -137,11 +168,11 @@ own_of (x ∷ es) j node e at = by_test (λ j here. own_of es j node e here) (x.
 
 -- ---- the order is that of the recorded events
 
-pub order_is : Ordered → (group : GroupStart) (steps : List RunStep) (cut : ℕ → List ℕ) (ps : List ℕ) (start : List Replaying) → ReplaysFit start → AreShown group steps cut ps start
-    → IsOrder entry_clock (map (entries_of_steps steps) ps) (events_of_replays start) × ((es : List (NodeEvent Entry)) → IsOrder entry_clock (map (entries_of_steps steps) ps) es → es ≡ events_of_replays start)
-order_is ordered group steps cut ps start fits shown =
+pub order_is : Ordered → (run : RecordedRun) (cut : ℕ → List ℕ) (ps : List ℕ) (start : List Replaying) → ReplaysFit start → AreShown run cut ps start
+    → IsOrder entry_clock (map (entries_of_steps run.steps) ps) (events_of_replays start) × ((es : List (NodeEvent Entry)) → IsOrder entry_clock (map (entries_of_steps run.steps) ps) es → es ≡ events_of_replays start)
+order_is ordered run cut ps start fits shown =
     let known = ordered start fits in
-    let same = aheads group steps cut ps start shown in (
+    let same = aheads run cut ps start shown in (
       subst (λ (lists : List (List Entry)). IsOrder entry_clock lists (events_of_replays start)) same known.0,
       λ es is. known.1 es (subst (λ (lists : List (List Entry)). IsOrder entry_clock lists es) (sym same) is),
     )

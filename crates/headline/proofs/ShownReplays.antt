@@ -22,33 +22,33 @@ use Rattle.group_record.specs.Answer.{end_after}
 use Rattle.group_state.specs.Place.{after_entries}
 use Rattle.group_state.specs.declared.report.ReportLine.{ReportLine}
 use Rattle.group_state.specs.Report.{report_line}
-use Rattle.headline.specs.Shown.{ShowsProcess, recorded_line}
+use Rattle.headline.specs.Shown.{RecordedRun, ShowsProcess, recorded_line}
 use Rattle.headline.proofs.RecordedCourse.{states_count}
 
 -- the replay of a log
-abbrev pub replay_of : (group : GroupStart) (steps : List RunStep) (cut : ℕ → List ℕ) (p : ℕ) → TellsBeforeRest group steps p (cut p) → Replaying
-replay_of group steps cut p t = record { head = head_of_log group p; state = t.first; left = t.left }
+abbrev pub replay_of : (run : RecordedRun) (cut : ℕ → List ℕ) (p : ℕ) → TellsBeforeRest run.group run.steps p (cut p) → Replaying
+replay_of run cut p t = record { head = head_of_log run.group p; state = t.first; left = t.left }
 
 some_state : (xs : List State) (n : ℕ) → n < length xs → (S : State) × (slice_get xs n ≡ Some S)
 some_state [] n below = absurd (omega (arith, below))
 some_state (S ∷ xs) zero below = (S, refl)
 some_state (S ∷ xs) (suc n) below = some_state xs n (omega (arith, below))
 
-pub shows : (group : GroupStart) (steps : List RunStep) (cut : ℕ → List ℕ) (p : ℕ) → RunStandsAs group steps → (t : TellsBeforeRest group steps p (cut p)) → ShowsProcess group steps cut p (replay_of group steps cut p t)
-shows group steps cut p run t = record {
+pub shows : (run : RecordedRun) (cut : ℕ → List ℕ) (p : ℕ) → RunStandsAs run.group run.steps → (t : TellsBeforeRest run.group run.steps p (cut p)) → ShowsProcess run cut p (replay_of run cut p t)
+shows run cut p stands t = record {
   head = refl;
   begun = t.begun;
   told = t.entries;
   rest = t.rest;
-  accepted = ap (λ (es : List Entry). take (accepted t.first es) es) t.entries ∙ ap (λ (n : ℕ). take n (entries_of_steps steps p)) t.accepted ∙ take-length (entries_of_steps steps p);
+  accepted = ap (λ (es : List Entry). take (accepted t.first es) es) t.entries ∙ ap (λ (n : ℕ). take n (entries_of_steps run.steps p)) t.accepted ∙ take-length (entries_of_steps run.steps p);
   moments = λ n within. moment n within;
 } where
-  one_more : length (recorded_states group steps p) ≡ suc (length (process_states steps p))
-  one_more = ap (λ (o : Option State). length (option_to_list o ++ process_states steps p)) t.begun
+  one_more : length (recorded_states run.group run.steps p) ≡ suc (length (process_states run.steps p))
+  one_more = ap (λ (o : Option State). length (option_to_list o ++ process_states run.steps p)) t.begun
 
-  moment : (n : ℕ) → n ≤ length (entries_of_steps steps p) → slice_get (recorded_states group steps p) n ≡ Some (after_entries (replay_of group steps cut p t) n)
+  moment : (n : ℕ) → n ≤ length (entries_of_steps run.steps p) → slice_get (recorded_states run.group run.steps p) n ≡ Some (after_entries (replay_of run cut p t) n)
   moment n within =
-      let some = some_state (recorded_states group steps p) n (omega (arith, within, one_more, states_count group steps p run.steps)) in
+      let some = some_state (recorded_states run.group run.steps p) n (omega (arith, within, one_more, states_count run.group run.steps p stands.steps)) in
       some.1
       ∙ ap (λ (S : State). Some S) (sym (t.states n some.0 some.1) ∙ ap (λ (es : List Entry). replayed t.first (take n es)) (sym t.entries))
 
@@ -84,10 +84,10 @@ ends_at group steps cut p t s = record {
 }
 
 -- so a replay ends as its process did
-pub record ComesTo (group : GroupStart) (steps : List RunStep) (cut : ℕ → List ℕ) (p : ℕ) (r : Replaying) : Type 0 where
-  pub line : report_line r ≡ recorded_line group steps cut p
-  pub memory : memory_of_image r ≡ memory_of_process (process_after group steps p)
-  pub printed : print_of_image r ≡ prints (entries_of_steps steps p)
+pub record ComesTo (run : RecordedRun) (cut : ℕ → List ℕ) (p : ℕ) (r : Replaying) : Type 0 where
+  pub line : report_line r ≡ recorded_line run cut p
+  pub memory : memory_of_image r ≡ memory_of_process (process_after run.group run.steps p)
+  pub printed : print_of_image r ≡ prints (entries_of_steps run.steps p)
 
 abbrev line_of : Replaying → List Entry → List ℕ → ReportLine
 line_of r es rest = record { name = r.head.name; events = accepted r.state es; end = (last_state r.state es).end; verdict = verdict r.state es rest }
@@ -95,12 +95,12 @@ line_of r es rest = record { name = r.head.name; events = accepted r.state es; e
 abbrev ended_line : Replaying → ℕ → State → Verdict → ReportLine
 ended_line r n last v = record { name = r.head.name; events = n; end = last.end; verdict = v }
 
-pub comes_to : (group : GroupStart) (steps : List RunStep) (cut : ℕ → List ℕ) (p : ℕ) → RunStandsAs group steps → p < processes_in_group group → (t : TellsBeforeRest group steps p (cut p)) → ComesTo group steps cut p (replay_of group steps cut p t)
-comes_to group steps cut p run below t =
-    let s = run.processes p below in
-    let es = entries_of_steps steps p in
-    let ends = ends_at group steps cut p t s in
-    let r = replay_of group steps cut p t in
+pub comes_to : (run : RecordedRun) (cut : ℕ → List ℕ) (p : ℕ) → RunStandsAs run.group run.steps → p < processes_in_group run.group → (t : TellsBeforeRest run.group run.steps p (cut p)) → ComesTo run cut p (replay_of run cut p t)
+comes_to run cut p stands below t =
+    let s = stands.processes p below in
+    let es = entries_of_steps run.steps p in
+    let ends = ends_at run.group run.steps cut p t s in
+    let r = replay_of run cut p t in
     let last : last_state t.first (entries_of t.left) ≡ s.last = ap (last_state t.first) t.entries ∙ last_is t.first s.last es ends in
     record {
       line =
@@ -109,7 +109,7 @@ comes_to group steps cut p run below t =
           ∙ ap (λ (S : State). ended_line r (length es) S (verdict t.first es (rest_of_log t.left))) (last_is t.first s.last es ends)
           ∙ ap (λ (v : Verdict). ended_line r (length es) s.last v) (is_left_over t.first es (rest_of_log t.left) t.accepted)
           ∙ ap (λ (rest : List ℕ). ended_line r (length es) s.last (left_over rest)) t.rest
-          ∙ ap (λ (o : Option State). record (recorded_line group steps cut p) { end = end_after o }) (sym s.stands);
+          ∙ ap (λ (o : Option State). record (recorded_line run cut p) { end = end_after o }) (sym s.stands);
       memory = ap (λ (S : State). S.store.memory.bytes) last ∙ ap memory_of_process (sym s.stands);
-      printed = ap prints (shows group steps cut p run t).accepted;
+      printed = ap prints (shows run cut p stands t).accepted;
     }

@@ -1,12 +1,13 @@
 -- Replays are put in order by their processes' numbers as those numbers are.
-use Rattle.std.proofs.Common.{◌≡◌, ◌≢◌, ◌⊎◌, ◌∙◌, ◌≤◌, ◌<◌, ◌+◌, ℕ, zero, suc, Bool, true, false, cond, List, [], ◌∷◌, length, slice_get, Some, inl, inr, ap, arith, refl, sym}
-use Rattle.std.specs.Prelude.{Contains, if◌then◌else◌, nat_lt, slice_index_or}
-use Rattle.std.specs.List.{AllByRecursion}
-use Rattle.std.proofs.lemmas.Bool.{ltb-false, ltb-true}
+use Rattle.std.proofs.Common.{◌≡◌, ◌≢◌, ◌⊎◌, ◌∙◌, ◌≤◌, ◌<◌, ◌+◌, ◌||◌, ℕ, zero, suc, Bool, true, false, cond, List, [], ◌∷◌, length, slice_get, Some, inl, inr, ap, arith, refl, sym}
+use Rattle.std.specs.Prelude.{◌==◌, filter, if◌then◌else◌, nat_lt}
+use Rattle.std.specs.List.{AllByRecursion, range_with_len}
+use Rattle.std.proofs.Math.Bool.{or-false, or_assoc}
+use Rattle.std.proofs.lemmas.Bool.{cases_lt, eq-eqb, le-ltb, lt-ltb, ne_eqb}
+use Rattle.std.proofs.lemmas.List.FromFn.{length-range_with_len}
 use Rattle.proc_replay.specs.Replaying.{Replaying}
-use Rattle.group_record.specs.Run.{GroupStart, RunStep}
 use Rattle.log_pairs.specs.Pairs.{insert_replay, sort_replays}
-use Rattle.headline.specs.Headline.{AreDistinct, AreInOrder, AscendNumbers}
+use Rattle.headline.specs.Headline.{AreDistinct, AreProcesses, is_among, sorted_of}
 
 abbrev pub insert_number : ℕ → List ℕ → List ℕ
 insert_number p [] = p ∷ []
@@ -19,7 +20,7 @@ sort_numbers sorted (p ∷ ps) = sort_numbers (insert_number p sorted) ps
 -- ---- replays go where their numbers go
 
 -- so many replays are each of one of these processes, in some way
-module _ (group : GroupStart) (steps : List RunStep) (P : ℕ → Replaying → Type 0) (numbered : (p : ℕ) (r : Replaying) → P p r → r.head.process ≡ p) where
+module _ (P : ℕ → Replaying → Type 0) (numbered : (p : ℕ) (r : Replaying) → P p r → r.head.process ≡ p) where
   abbrev pub Are : List ℕ → List Replaying → Type 0
   Are [] [] = Unit {0}
   Are (p ∷ ps) (r ∷ rs) = P p r × Are ps rs
@@ -47,45 +48,99 @@ module _ (group : GroupStart) (steps : List RunStep) (P : ℕ → Replaying → 
 
 -- ---- the numbers in order
 
-abbrev all_so : {A : Type 0} (P Q : A → Type 0) (xs : List A) → ((x : A) → P x → Q x) → AllByRecursion P xs → AllByRecursion Q xs
+-- what a test that says the same gives
+same_filter : (f g : ℕ → Bool) (ns : List ℕ) → AllByRecursion (λ n. f n ≡ g n) ns → filter f ns ≡ filter g ns
+same_filter f g [] same = refl
+same_filter f g (n ∷ ns) same =
+    ap (λ (b : Bool). cond b (n ∷ filter f ns) (filter f ns)) same.0 ∙ ap (λ (rest : List ℕ). cond (g n) (n ∷ rest) rest) (same_filter f g ns same.1)
+
+everywhere : (P : ℕ → Type 0) → ((n : ℕ) → P n) → (ns : List ℕ) → AllByRecursion P ns
+everywhere P all [] = tt
+everywhere P all (n ∷ ns) = (all n, everywhere P all ns)
+
+all_so : (P Q : ℕ → Type 0) (ns : List ℕ) → ((n : ℕ) → P n → Q n) → AllByRecursion P ns → AllByRecursion Q ns
 all_so P Q [] so all = tt
-all_so P Q (x ∷ xs) so all = (so x all.0, all_so P Q xs so all.1)
+all_so P Q (n ∷ ns) so all = (so n all.0, all_so P Q ns so all.1)
 
-insert_keeps : (P : ℕ → Type 0) (p : ℕ) (qs : List ℕ) → P p → AllByRecursion P qs → AllByRecursion P (insert_number p qs)
-insert_keeps P p [] one all = (one, tt)
-insert_keeps P p (q ∷ qs) one all = by_test (nat_lt q p) (insert_keeps P p qs one all.1) where
-  by_test : (b : Bool) → AllByRecursion P (insert_number p qs) → AllByRecursion P (cond b (q ∷ insert_number p qs) (p ∷ q ∷ qs))
+filter_keeps : (P : ℕ → Type 0) (f : ℕ → Bool) (ns : List ℕ) → AllByRecursion P ns → AllByRecursion P (filter f ns)
+filter_keeps P f [] all = tt
+filter_keeps P f (n ∷ ns) all = by_test (f n) (filter_keeps P f ns all.1) where
+  by_test : (b : Bool) → AllByRecursion P (filter f ns) → AllByRecursion P (cond b (n ∷ filter f ns) (filter f ns))
   by_test true rest = (all.0, rest)
-  by_test false rest = (one, all)
+  by_test false rest = rest
 
-pub sort_keeps : (P : ℕ → Type 0) (qs ps : List ℕ) → AllByRecursion P qs → AllByRecursion P ps → AllByRecursion P (sort_numbers qs ps)
-sort_keeps P qs [] before all = before
-sort_keeps P qs (p ∷ ps) before all = sort_keeps P (insert_number p qs) ps (insert_keeps P p qs all.0 before) all.1
+range_above : (p a n : ℕ) → p < a → AllByRecursion (λ m. p < m) (range_with_len a n)
+range_above p a zero low = tt
+range_above p a (suc n) low = (low, range_above p (a + 1) n (omega (arith, low)))
 
-insert_ascends : (p : ℕ) (qs : List ℕ) → AscendNumbers qs → AllByRecursion (λ q. p ≢ q) qs → AscendNumbers (insert_number p qs)
-insert_ascends p [] ascend new = (tt, tt)
-insert_ascends p (q ∷ qs) ascend new = by_test (nat_lt q p) refl (insert_ascends p qs ascend.1 new.1) where
-  by_test : (b : Bool) → nat_lt q p ≡ b → AscendNumbers (insert_number p qs) → AscendNumbers (cond b (q ∷ insert_number p qs) (p ∷ q ∷ qs))
-  by_test true is rest = (insert_keeps (λ n. q < n) p qs (ltb-true q p is) ascend.0, rest)
-  by_test false is rest =
-      let below : p < q = omega (arith, ltb-false q p is, new.0) in
-      ((below, all_so (λ n. q < n) (λ n. p < n) qs (λ n h. omega (arith, h, below)) ascend.0), ascend)
+goes_first : (p : ℕ) (ns : List ℕ) → AllByRecursion (λ n. p < n) ns → insert_number p ns ≡ p ∷ ns
+goes_first p [] above = refl
+goes_first p (n ∷ ns) above = ap (λ (b : Bool). cond b (n ∷ insert_number p ns) (p ∷ n ∷ ns)) (le-ltb n p (omega (arith, above.0)))
 
--- each of these differs from all of those
-abbrev AreNew : List ℕ → List ℕ → Type 0
-AreNew qs ps = AllByRecursion (λ p. AllByRecursion (λ q. p ≢ q) qs) ps
+-- a number that is put among those of a range that pass a test
+abbrev or_is : (ℕ → Bool) → ℕ → ℕ → Bool
+or_is f p n = f n || (p == n)
 
-new_behind : (p : ℕ) (qs ps : List ℕ) → AreNew qs ps → AllByRecursion (λ q. p ≢ q) ps → AreNew (insert_number p qs) ps
-new_behind p qs [] new apart = tt
-new_behind p qs (n ∷ ps) new apart = (insert_keeps (λ q. n ≢ q) p qs (λ same. apart.0 (sym same)) new.0, new_behind p qs ps new.1 apart.1)
+other_stays : (f : ℕ → Bool) (p n : ℕ) → p ≢ n → or_is f p n ≡ f n
+other_stays f p n apart = ap (λ (b : Bool). f n || b) (ne_eqb p n apart) ∙ or-false (f n)
 
-sort_ascends : (qs ps : List ℕ) → AscendNumbers qs → AreNew qs ps → AreDistinct ps → AscendNumbers (sort_numbers qs ps)
-sort_ascends qs [] ascend new apart = ascend
-sort_ascends qs (p ∷ ps) ascend new apart = sort_ascends (insert_number p qs) ps (insert_ascends p qs ascend new.0) (new_behind p qs ps new.1 apart.0) apart.1
+put : (f : ℕ → Bool) (p a n : ℕ) → a ≤ p → p < a + n → f p ≡ false → insert_number p (filter f (range_with_len a n)) ≡ filter (or_is f p) (range_with_len a n)
+put f p a zero low high new = absurd (omega (arith, low, high))
+put f p a (suc n) low high new =
+    by_place (λ below. put f p (a + 1) n (omega (arith, below)) (omega (arith, high)) new) (cases_lt a p) where
+      rest : List ℕ
+      rest = range_with_len (a + 1) n
 
-all_new : (ps : List ℕ) → AreNew [] ps
-all_new [] = tt
-all_new (p ∷ ps) = (tt, all_new ps)
+      before : ℕ → List ℕ
+      before a = a ∷ filter (or_is f p) rest
+
+      by_test : a < p → insert_number p (filter f rest) ≡ filter (or_is f p) rest → (b : Bool) → insert_number p (cond b (a ∷ filter f rest) (filter f rest)) ≡ cond b (before a) (filter (or_is f p) rest)
+      by_test below more true = ap (λ (b : Bool). cond b (a ∷ insert_number p (filter f rest)) (p ∷ a ∷ filter f rest)) (lt-ltb a p below) ∙ ap (λ (ns : List ℕ). a ∷ ns) more
+      by_test below more false = more
+
+      by_place : (a < p → insert_number p (filter f rest) ≡ filter (or_is f p) rest) → (a < p) ⊎ (p ≤ a) → insert_number p (filter f (range_with_len a (suc n))) ≡ filter (or_is f p) (range_with_len a (suc n))
+      by_place more (inl below) =
+          by_test below (more below) (f a) ∙ ap (λ (b : Bool). cond b (before a) (filter (or_is f p) rest)) (sym (other_stays f p a (omega (arith, below))))
+      by_place more (inr above) =
+          let here : p ≡ a = omega (arith, low, above) in
+          let later : AllByRecursion (λ m. p < m) rest = range_above p (a + 1) n (omega (arith, above)) in
+          ap (λ (b : Bool). insert_number p (cond b (a ∷ filter f rest) (filter f rest))) (sym (ap f here) ∙ new)
+          ∙ goes_first p (filter f rest) (filter_keeps (λ m. p < m) f rest later)
+          ∙ ap (λ (ns : List ℕ). p ∷ ns) (same_filter f (or_is f p) rest (all_so (λ m. p < m) (λ m. f m ≡ or_is f p m) rest (λ m h. sym (other_stays f p m (omega (arith, h)))) later))
+          ∙ ap before here
+          ∙ ap (λ (b : Bool). cond b (before a) (filter (or_is f p) rest)) (sym (ap (λ (b : Bool). b || (p == a)) (sym (ap f here) ∙ new) ∙ eq-eqb p a here))
+
+-- the numbers are below the limit, and pass the test not
+abbrev AreNew : (ℕ → Bool) → ℕ → List ℕ → Type 0
+AreNew f count ps = AllByRecursion (λ p. (p < count) × (f p ≡ false)) ps
+
+still_new : (f : ℕ → Bool) (count p : ℕ) (ps : List ℕ) → AllByRecursion (λ q. p ≢ q) ps → AreNew f count ps → AreNew (or_is f p) count ps
+still_new f count p [] apart new = tt
+still_new f count p (q ∷ ps) apart new = ((new.0.0, other_stays f p q apart.0 ∙ new.0.1), still_new f count p ps apart.1 new.1)
+
+sorts : (f : ℕ → Bool) (count : ℕ) (ps : List ℕ) → AreNew f count ps → AreDistinct ps
+    → sort_numbers (filter f (range_with_len 0 count)) ps ≡ filter (λ n. f n || is_among ps n) (range_with_len 0 count)
+sorts f count [] new apart = same_filter f (λ n. f n || false) (range_with_len 0 count) (everywhere (λ n. f n ≡ (f n || false)) (λ n. sym (or-false (f n))) (range_with_len 0 count))
+sorts f count (p ∷ ps) new apart =
+    let all = range_with_len 0 count in
+    ap (λ (ns : List ℕ). sort_numbers ns ps) (put f p 0 count (omega arith) (omega (arith, new.0.0)) new.0.1)
+    ∙ sorts (or_is f p) count ps (still_new f count p ps apart.0 new.1) apart.1
+    ∙ same_filter (λ n. or_is f p n || is_among ps n) (λ n. f n || is_among (p ∷ ps) n) all
+    (everywhere (λ n. (or_is f p n || is_among ps n) ≡ (f n || is_among (p ∷ ps) n)) (λ n. or_assoc (f n) (p == n) (is_among ps n)) all)
+
+none_passes : (ns : List ℕ) → filter (λ n. false) ns ≡ []
+none_passes [] = refl
+none_passes (n ∷ ns) = none_passes ns
+
+all_new : (count : ℕ) (ps : List ℕ) → AllByRecursion (λ p. p < count) ps → AreNew (λ n. false) count ps
+all_new count [] below = tt
+all_new count (p ∷ ps) below = ((below.0, refl), all_new count ps below.1)
+
+pub in_order : (count : ℕ) (ps : List ℕ) → AreProcesses count ps → sort_numbers [] ps ≡ sorted_of count ps
+in_order count ps are =
+    ap (λ (ns : List ℕ). sort_numbers ns ps) (sym (none_passes (range_with_len 0 count))) ∙ sorts (λ n. false) count ps (all_new count ps are.within) are.apart
+
+-- ---- all numbers
 
 insert_count : (p : ℕ) (qs : List ℕ) → length (insert_number p qs) ≡ suc (length qs)
 insert_count p [] = refl
@@ -98,109 +153,32 @@ sort_count : (qs ps : List ℕ) → length (sort_numbers qs ps) ≡ length qs + 
 sort_count qs [] = omega arith
 sort_count qs (p ∷ ps) = omega (arith, sort_count (insert_number p qs) ps, insert_count p qs)
 
--- ---- the same numbers
+no_longer : (f : ℕ → Bool) (ns : List ℕ) → length (filter f ns) ≤ length ns
+no_longer f [] = omega arith
+no_longer f (n ∷ ns) = by_test (f n) (no_longer f ns) where
+  by_test : (b : Bool) → length (filter f ns) ≤ length ns → length (cond b (n ∷ filter f ns) (filter f ns)) ≤ suc (length ns)
+  by_test true rest = omega (arith, rest)
+  by_test false rest = omega (arith, rest)
 
-abbrev Among : ℕ → List ℕ → Type 0
-Among n [] = ⊥
-Among n (p ∷ ps) = (p ≡ n) ⊎ Among n ps
+-- where as many pass as there are, all do
+all_pass : (f : ℕ → Bool) (ns : List ℕ) → length (filter f ns) ≡ length ns → filter f ns ≡ ns
+all_pass f [] full = refl
+all_pass f (n ∷ ns) full = by_test (all_pass f ns) (f n) full where
+  by_test : (length (filter f ns) ≡ length ns → filter f ns ≡ ns) → (b : Bool) → length (cond b (n ∷ filter f ns) (filter f ns)) ≡ suc (length ns) → cond b (n ∷ filter f ns) (filter f ns) ≡ n ∷ ns
+  by_test rest true full = ap (λ (ms : List ℕ). n ∷ ms) (rest (omega (arith, full)))
+  by_test rest false full = absurd (omega (arith, full, no_longer f ns))
 
-among_at : (n : ℕ) (ps : List ℕ) (k d : ℕ) → k < length ps → slice_index_or ps k d ≡ n → Among n ps
-among_at n [] k d below is = absurd (omega (arith, below))
-among_at n (p ∷ ps) zero d below is = inl is
-among_at n (p ∷ ps) (suc k) d below is = inr (among_at n ps k d (omega (arith, below)) is)
+range_at : (a n i : ℕ) → i < n → slice_get (range_with_len a n) i ≡ Some (a + i)
+range_at a zero i below = absurd (omega (arith, below))
+range_at a (suc n) zero below = let here : a ≡ a + 0 = omega arith in ap (λ (m : ℕ). Some m) here
+range_at a (suc n) (suc i) below =
+    let here : (a + 1) + i ≡ a + suc i = omega arith in range_at (a + 1) n i (omega (arith, below)) ∙ ap (λ (m : ℕ). Some m) here
 
-among : (n : ℕ) (ps : List ℕ) → Contains ps n → Among n ps
-among n ps (k, below, is) = among_at n ps k n below is
+pub sorted_count : (count : ℕ) (ps : List ℕ) → AreProcesses count ps → length (sorted_of count ps) ≡ length ps
+sorted_count count ps are = omega (arith, ap length (in_order count ps are), sort_count [] ps)
 
-contains : (n : ℕ) (ps : List ℕ) → Among n ps → Contains ps n
-contains n [] some = absurd some
-contains n (p ∷ ps) (inl same) = (0, omega arith, same)
-contains n (p ∷ ps) (inr later) = let rest = contains n ps later in (suc rest.0, omega (arith, rest.1), rest.2)
-
-insert_adds : (n p : ℕ) (qs : List ℕ) → (p ≡ n) ⊎ Among n qs → Among n (insert_number p qs)
-insert_adds n p [] (inl same) = inl same
-insert_adds n p [] (inr none) = absurd none
-insert_adds n p (q ∷ qs) h = by_test (insert_adds n p qs) (nat_lt q p) h where
-  by_test : ((p ≡ n) ⊎ Among n qs → Among n (insert_number p qs)) → (b : Bool) → (p ≡ n) ⊎ Among n (q ∷ qs) → Among n (cond b (q ∷ insert_number p qs) (p ∷ q ∷ qs))
-  by_test rest false h = h
-  by_test rest true (inl same) = inr (rest (inl same))
-  by_test rest true (inr (inl same)) = inl same
-  by_test rest true (inr (inr later)) = inr (rest (inr later))
-
-insert_adds_only : (n p : ℕ) (qs : List ℕ) → Among n (insert_number p qs) → (p ≡ n) ⊎ Among n qs
-insert_adds_only n p [] h = h
-insert_adds_only n p (q ∷ qs) h = by_test (insert_adds_only n p qs) (nat_lt q p) h where
-  from_rest : (p ≡ n) ⊎ Among n qs → (p ≡ n) ⊎ Among n (q ∷ qs)
-  from_rest (inl same) = inl same
-  from_rest (inr later) = inr (inr later)
-
-  by_test : (Among n (insert_number p qs) → (p ≡ n) ⊎ Among n qs) → (b : Bool) → Among n (cond b (q ∷ insert_number p qs) (p ∷ q ∷ qs)) → (p ≡ n) ⊎ Among n (q ∷ qs)
-  by_test rest false h = h
-  by_test rest true (inl same) = inr (inl same)
-  by_test rest true (inr later) = from_rest (rest later)
-
-sort_has : (n : ℕ) (qs ps : List ℕ) → Among n qs ⊎ Among n ps → Among n (sort_numbers qs ps)
-sort_has n qs [] (inl before) = before
-sort_has n qs [] (inr none) = absurd none
-sort_has n qs (p ∷ ps) (inl before) = sort_has n (insert_number p qs) ps (inl (insert_adds n p qs (inr before)))
-sort_has n qs (p ∷ ps) (inr (inl same)) = sort_has n (insert_number p qs) ps (inl (insert_adds n p qs (inl same)))
-sort_has n qs (p ∷ ps) (inr (inr later)) = sort_has n (insert_number p qs) ps (inr later)
-
-sort_has_only : (n : ℕ) (qs ps : List ℕ) → Among n (sort_numbers qs ps) → Among n qs ⊎ Among n ps
-sort_has_only n qs [] h = inl h
-sort_has_only n qs (p ∷ ps) h = by_place (sort_has_only n (insert_number p qs) ps h) where
-  by_insert : (p ≡ n) ⊎ Among n qs → Among n qs ⊎ Among n (p ∷ ps)
-  by_insert (inl same) = inr (inl same)
-  by_insert (inr before) = inl before
-
-  by_place : Among n (insert_number p qs) ⊎ Among n ps → Among n qs ⊎ Among n (p ∷ ps)
-  by_place (inl here) = by_insert (insert_adds_only n p qs here)
-  by_place (inr later) = inr (inr later)
-
-only_these : (n : ℕ) (ps : List ℕ) → Among n [] ⊎ Among n ps → Among n ps
-only_these n ps (inl none) = absurd none
-only_these n ps (inr some) = some
-
-pub in_order : (ps : List ℕ) → AreDistinct ps → AreInOrder ps (sort_numbers [] ps)
-in_order ps apart = record {
-  ascend = sort_ascends [] ps tt (all_new ps) apart;
-  count = omega (arith, sort_count [] ps);
-  same = λ p. (
-    λ h. contains p (sort_numbers [] ps) (sort_has p [] ps (inr (among p ps h))),
-    λ h. contains p ps (only_these p ps (sort_has_only p [] ps (among p (sort_numbers [] ps) h))),
-  );
-}
-
--- ---- all numbers
-
--- numbers that ascend take room
-room : (least limit : ℕ) (ps : List ℕ) → least ≤ limit → AscendNumbers ps → AllByRecursion (λ p. least ≤ p) ps → AllByRecursion (λ p. p < limit) ps → least + length ps ≤ limit
-room least limit [] within ascend above below = omega arith
-room least limit (p ∷ ps) within ascend above below =
-    let rest : suc p + length ps ≤ limit = room (suc p) limit ps (omega (arith, below.0)) ascend.1 (all_so (λ n. p < n) (λ n. suc p ≤ n) ps (λ n h. omega (arith, h)) ascend.0) below.1 in
-    omega (arith, above.0, rest)
-
--- where there is no more room than they take, each is at its place
-each_at : (least limit : ℕ) (ps : List ℕ) → AscendNumbers ps → AllByRecursion (λ p. least ≤ p) ps → AllByRecursion (λ p. p < limit) ps → least + length ps ≡ limit
-    → (i : ℕ) → i < length ps → slice_get ps i ≡ Some (least + i)
-each_at least limit [] ascend above below full i inside = absurd (omega (arith, inside))
-each_at least limit (p ∷ ps) ascend above below full i inside =
-    let later : AllByRecursion (λ n. suc p ≤ n) ps = all_so (λ n. p < n) (λ n. suc p ≤ n) ps (λ n h. omega (arith, h)) ascend.0 in
-    let rest : suc p + length ps ≤ limit = room (suc p) limit ps (omega (arith, below.0)) ascend.1 later below.1 in
-    let is : p ≡ least = omega (arith, rest, full, above.0) in
-    let from_here : suc p + length ps ≡ limit = omega (arith, is, full) in
-    at is (each_at (suc p) limit ps ascend.1 later below.1 from_here) i inside where
-      at : p ≡ least → ((i : ℕ) → i < length ps → slice_get ps i ≡ Some (suc p + i)) → (i : ℕ) → i < length (p ∷ ps) → slice_get (p ∷ ps) i ≡ Some (least + i)
-      at is rest zero inside = let here : p ≡ least + 0 = omega (arith, is) in ap (λ (n : ℕ). Some n) here
-      at is rest (suc i) inside =
-          let here : suc p + i ≡ least + suc i = omega (arith, is) in
-          rest i (omega (arith, inside)) ∙ ap (λ (n : ℕ). Some n) here
-
-none_below : (ps : List ℕ) → AllByRecursion (λ p. 0 ≤ p) ps
-none_below [] = tt
-none_below (p ∷ ps) = (omega arith, none_below ps)
-
-pub all_numbered : (count : ℕ) (ps : List ℕ) → AscendNumbers ps → AllByRecursion (λ p. p < count) ps → length ps ≡ count → (i : ℕ) → i < count → slice_get ps i ≡ Some i
-all_numbered count ps ascend below full i inside =
+pub all_numbered : (count : ℕ) (ps : List ℕ) → AreProcesses count ps → length ps ≡ count → (i : ℕ) → i < count → slice_get (sorted_of count ps) i ≡ Some i
+all_numbered count ps are full i inside =
     let here : 0 + i ≡ i = omega arith in
-    each_at 0 count ps ascend (none_below ps) below (omega (arith, full)) i (omega (arith, inside, full)) ∙ ap (λ (n : ℕ). Some n) here
+    ap (λ (ns : List ℕ). slice_get ns i) (all_pass (is_among ps) (range_with_len 0 count) (omega (arith, sorted_count count ps are, full, length-range_with_len 0 count)))
+    ∙ range_at 0 count i inside ∙ ap (λ (n : ℕ). Some n) here

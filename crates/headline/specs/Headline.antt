@@ -1,11 +1,9 @@
 -- The main theorem: the modules and the logs of a recording, and these alone, make `replay` and `debug` show what was recorded.
-use Rattle.std.specs.Prelude.{◌≡◌, ◌≢◌, ◌⊎◌, ◌<◌, ◌↔◌, ℕ, Bool, List, [], ◌∷◌, ◌++◌, length, map, Option, Some, Ok, Contains}
+use Rattle.std.specs.Prelude.{◌≡◌, ◌≢◌, ◌⊎◌, ◌<◌, ◌==◌, ℕ, Bool, List, [], ◌∷◌, ◌++◌, length, filter, Option, Some, Ok}
 use Rattle.std.specs.FinMap.{get}
-use Rattle.std.specs.List.{AllByRecursion, slice_index_or}
+use Rattle.std.specs.List.{AllByRecursion, list_any, range_with_len}
 use Rattle.fri_outside.specs.Outside.{Folder}
 use Rattle.fri_outside.specs.Several.{with_files}
-use Rattle.schedule_text.specs.Schedule.{Schedule}
-use Rattle.group_record.specs.Answer.{names_of}
 use Rattle.group_record.specs.Images.{images as all_images}
 use Rattle.group_record.specs.Logs.{log_name}
 use Rattle.group_record.specs.Run.{GroupStart, IsMoment, RunStep, log_of, name_of_process, processes_in_group}
@@ -18,9 +16,68 @@ use Rattle.record_command.specs.Agreement.{IsAtMomentOfRun, IsStoppedInHeads, Is
 use Rattle.record_command.specs.Expected.{module_name, record_outcome}
 use Rattle.replay_command.specs.Report.{replay_outcome}
 use Rattle.debug_command.specs.Debug.{debug_outcome, session_outcome}
-use Rattle.headline.specs.Shown.{AreShown, RecordedRun, ShowsGroup, no_cut, recorded_images, recorded_report, recorded_run}
+use Rattle.headline.specs.Shown.{AreShown, RecordedRun, ShowsGroup, no_cut, recorded_images, recorded_report}
 
--- ---- the words that name some of a recording
+-- ---- the files of a recording, in any folder and under any names
+
+-- of process p a folder has the module, as the recording found it, and this log, under the names of the pair. Nothing else of
+-- the folder matters
+pub record HoldsPair {before : Folder} {schedule_name : List ℕ} (r : IsRecordable before schedule_name) (logs : ℕ → Option (List ℕ))
+    (folder : Folder) (p : ℕ) (pair : Pair) : Type 0 where
+  pub «module» : get folder pair.module_name ≡ get before (module_name r.schedule p)
+  pub log : get folder pair.log_name ≡ logs p
+
+-- so it has those of each of these processes, in the same order
+abbrev pub AreHeld : {before : Folder} {schedule_name : List ℕ} → IsRecordable before schedule_name → (ℕ → Option (List ℕ)) → Folder → List ℕ → List Pair → Type 0
+AreHeld r logs folder [] [] = Unit {0}
+AreHeld r logs folder (p ∷ ps) (pair ∷ pairs) = HoldsPair r logs folder p pair × AreHeld r logs folder ps pairs
+AreHeld r logs folder [] (pair ∷ pairs) = ⊥
+AreHeld r logs folder (p ∷ ps) [] = ⊥
+
+-- ---- what is shown of them
+
+-- the number is one of these
+abbrev pub is_among : List ℕ → ℕ → Bool
+is_among ps p = list_any (λ q. q == p) ps
+
+-- those of so many processes that are among these, in the order of their numbers
+abbrev pub sorted_of : ℕ → List ℕ → List ℕ
+sorted_of count ps = filter (is_among ps) (range_with_len 0 count)
+
+-- the pairs of these processes are read to replays, which show what was recorded
+pub record IsShown (run : RecordedRun) (cut : ℕ → List ℕ) (folder : Folder) (ps : List ℕ) (pairs : List Pair) : Type 0 where
+  -- the replays of the processes in the order of their numbers
+  pub start : List Replaying
+  pub opened : replays_of_pairs folder pairs ≡ Ok start
+  pub each : AreShown run cut (sorted_of (processes_in_group run.group) ps) start
+  -- `replay` says what was recorded, and leaves the images of it: with all processes those of the recording
+  pub replay : (images : Bool) → replay_outcome images pairs folder ≡ Ok (recorded_report images run cut (sorted_of (processes_in_group run.group) ps))
+  pub images : length ps ≡ processes_in_group run.group → recorded_images run (sorted_of (processes_in_group run.group) ps) ≡ all_images run.group run.steps
+  -- `debug` answers each line by the group of these replays alone, which shows the recording
+  pub debug : (input : List ℕ) → debug_outcome pairs (Some input) folder ≡ Some (session_outcome start input)
+  pub shows : ShowsGroup run (sorted_of (processes_in_group run.group) ps) start
+
+-- ---- the theorem for whole recordings
+
+-- what was recorded by these steps
+abbrev pub run_to : {before : Folder} {schedule_name : List ℕ} → IsRecordable before schedule_name → List RunStep → RecordedRun
+run_to r steps = record { group = group_in r; steps = steps }
+
+-- the numbers of all its processes
+abbrev pub processes_of : {before : Folder} {schedule_name : List ℕ} → IsRecordable before schedule_name → List ℕ
+processes_of r = range_with_len 0 (processes_in_group (group_in r))
+
+-- the whole log of each
+abbrev pub whole_logs : {before : Folder} {schedule_name : List ℕ} → IsRecordable before schedule_name → ℕ → Option (List ℕ)
+whole_logs r p = Some (log_of (group_in r) (steps_in r) p)
+
+-- Wherever a schedule and its modules can be recorded: in every folder that has the modules and the whole logs of all the
+-- processes, under whatever names, these files make `replay` and `debug` show the whole run
+abbrev pub WholeRecordings : Type 0
+WholeRecordings = (before : Folder) (schedule_name : List ℕ) (r : IsRecordable before schedule_name) (folder : Folder) (pairs : List Pair)
+    → AreHeld r (whole_logs r) folder (processes_of r) pairs → IsShown (run_to r (steps_in r)) no_cut folder (processes_of r) pairs
+
+-- ---- the theorem for some of the processes, at any moment of a recording
 
 -- the numbers differ from each other
 abbrev pub AreDistinct : List ℕ → Type 0
@@ -32,62 +89,15 @@ pub record AreProcesses (count : ℕ) (ps : List ℕ) : Type 0 where
   pub within : AllByRecursion (λ p. p < count) ps
   pub apart : AreDistinct ps
 
--- the files of process p: its module's, and its log's
-abbrev pub files_of_process : Schedule → ℕ → Pair
-files_of_process schedule p = record { module_name = module_name schedule p; log_name = log_name (slice_index_or (names_of schedule) p []) }
+-- the log of each process, by what was recorded, and what stands after it
+abbrev pub logs_of_run : RecordedRun → (ℕ → List ℕ) → ℕ → Option (List ℕ)
+logs_of_run run cut p = Some (log_of run.group run.steps p ++ cut p)
 
-abbrev pub pairs_of_processes : Schedule → List ℕ → List Pair
-pairs_of_processes schedule ps = map (files_of_process schedule) ps
-
--- each number is below those after it
-abbrev pub AscendNumbers : List ℕ → Type 0
-AscendNumbers [] = Unit {0}
-AscendNumbers (p ∷ ps) = AllByRecursion (λ q. p < q) ps × AscendNumbers ps
-
--- the same numbers in order
-pub record AreInOrder (ps sorted : List ℕ) : Type 0 where
-  pub ascend : AscendNumbers sorted
-  pub count : length sorted ≡ length ps
-  pub same : (p : ℕ) → Contains ps p ↔ Contains sorted p
-
--- ---- the folder
-
--- the log of each process, by these steps, and what stands after it
-abbrev pub logs_of_run : GroupStart → List RunStep → (ℕ → List ℕ) → ℕ → Option (List ℕ)
-logs_of_run group steps cut p = Some (log_of group steps p ++ cut p)
-
--- the log of each process that a folder has
-abbrev pub logs_in : GroupStart → Folder → ℕ → Option (List ℕ)
-logs_in group folder p = get folder (log_name (name_of_process group p))
-
--- of process p a folder has the module, as the recording found it, and this log. Nothing else of the folder matters
-pub record HoldsProcess {before : Folder} {schedule_name : List ℕ} (r : IsRecordable before schedule_name) (logs : ℕ → Option (List ℕ))
-    (folder : Folder) (p : ℕ) : Type 0 where
-  pub «module» : get folder (module_name r.schedule p) ≡ get before (module_name r.schedule p)
-  pub log : logs_in (group_in r) folder p ≡ logs p
-
--- ---- the whole
-
--- the pairs of these processes are read to replays, which show what was recorded
-pub record IsShown (run : RecordedRun) (cut : ℕ → List ℕ) (folder : Folder) (ps : List ℕ) (pairs : List Pair) : Type 0 where
-  -- the processes in the order of their numbers, and their replays
-  pub sorted : List ℕ
-  pub in_order : AreInOrder ps sorted
-  pub start : List Replaying
-  pub opened : replays_of_pairs folder pairs ≡ Ok start
-  pub each : AreShown run.group run.steps cut sorted start
-  -- `replay` says what was recorded, and leaves the images of it: with all processes those of the recording
-  pub replay : (images : Bool) → replay_outcome images pairs folder ≡ Ok (recorded_report images run.group run.steps cut sorted)
-  pub images : length ps ≡ processes_in_group run.group → recorded_images run.group run.steps sorted ≡ all_images run.group run.steps
-  -- `debug` answers each line by the group of these replays alone, which shows the recording
-  pub debug : (input : List ℕ) → debug_outcome pairs (Some input) folder ≡ Some (session_outcome start input)
-  pub shows : ShowsGroup run.group run.steps sorted start
-
--- in every folder that has the modules and these logs of these processes, and whatever else, these are shown as they were
--- after these steps
+-- in every folder that has the modules and these logs of these processes, under whatever names, and whatever else, these are
+-- shown as they were after these steps
 abbrev pub ShowsLogs : {before : Folder} {schedule_name : List ℕ} → IsRecordable before schedule_name → List RunStep → (ℕ → List ℕ) → (ℕ → Option (List ℕ)) → List ℕ → Type 0
 ShowsLogs r steps cut logs ps =
-    (folder : Folder) → AllByRecursion (HoldsProcess r logs folder) ps → IsShown (recorded_run (group_in r) steps) cut folder ps (pairs_of_processes r.schedule ps)
+    (folder : Folder) (pairs : List Pair) → AreHeld r logs folder ps pairs → IsShown (run_to r steps) cut folder ps pairs
 
 -- At each moment of the run of a schedule that can be recorded, so also where the recording was stopped or a log was full:
 -- the logs of some processes are shown as they were recorded. After each log there may stand a first part of one more entry,
@@ -95,9 +105,13 @@ ShowsLogs r steps cut logs ps =
 abbrev pub Headline : Type 0
 Headline = (before : Folder) (schedule_name : List ℕ) (r : IsRecordable before schedule_name) (steps : List RunStep) → IsMoment steps (steps_in r)
     → (cut : ℕ → List ℕ) (ps : List ℕ) → AreProcesses (processes_in_group (group_in r)) ps → AllByRecursion (λ p. MayFollowLog (group_in r) (steps_in r) steps p (cut p)) ps
-    → ShowsLogs r steps cut (logs_of_run (group_in r) steps cut) ps
+    → ShowsLogs r steps cut (logs_of_run (run_to r steps) cut) ps
 
 -- ---- what a recording leaves
+
+-- the log of each process that a folder has, under the name that `record` gives it
+abbrev pub logs_in : GroupStart → Folder → ℕ → Option (List ℕ)
+logs_in group folder p = get folder (log_name (name_of_process group p))
 
 -- the logs of some processes, as a folder has them, are shown so
 abbrev pub ShowsSteps : {before : Folder} {schedule_name : List ℕ} → IsRecordable before schedule_name → List RunStep → (ℕ → List ℕ) → Folder → Type 0

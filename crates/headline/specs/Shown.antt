@@ -1,7 +1,8 @@
 -- What `replay` and `debug` show of a recording.
-use Rattle.std.specs.Prelude.{◌≡◌, ◌<◌, ◌≤◌, ℕ, Bool, false, IsTrue, List, [], ◌∷◌, length, map, take, slice_get, Some, Contains, if◌then◌else◌}
+use Rattle.std.specs.Prelude.{◌≡◌, ◌↔◌, ◌<◌, ◌≤◌, ℕ, suc, Bool, true, false, IsTrue, List, [], ◌∷◌, length, map, take, slice_get, Some, Contains, if◌then◌else◌}
 use Rattle.std.specs.List.{flat_map}
 use Rattle.lamport_tag.specs.Tag.{read_datagram}
+use Rattle.lamport_tag.specs.declared.Tag.{Tag}
 use Rattle.lib_calls.specs.Traffic.{is_sent, is_taken, prints}
 use Rattle.lib_calls.specs.declared.entry.Entry.{Entry}
 use Rattle.call_log.specs.Log.{entries_of, rest_of_log}
@@ -17,8 +18,16 @@ use Rattle.group_record.specs.Run.{GroupStart, RunStep, entries_of_steps, head_o
 use Rattle.proc_replay.specs.Course.{entries_ahead}
 use Rattle.proc_replay.specs.Replaying.{Replaying}
 use Rattle.group_state.specs.declared.report.ReportLine.{ReportLine}
+use Rattle.group_state.specs.Nodes.{nodes_at, seen_node}
 use Rattle.group_state.specs.Place.{after_entries, entry_clock, events_of_replays, node_event_count, states_of_nodes}
 use Rattle.group_state.specs.Tally.{AcceptedEvent, of_process, tally_of_events}
+use Rattle.watch_expr.specs.Expression.{Expression}
+use Rattle.watch_expr.specs.Faulty.{names_variable}
+use Rattle.watch_expr.specs.Reads.{no_variables}
+use Rattle.watch_expr.specs.Value.{value}
+use Rattle.embed_cmds.specs.Running.{value_in}
+use Rattle.embed_cmds.specs.Variables.{Variable}
+use Rattle.shell_points.specs.Firing.{place_at, value_at_position, watchpoint_fires}
 use Rattle.command_run.specs.Outcome.{CommandWork}
 use Rattle.lamport_tag.specs.Limits.{most_clock}
 use Rattle.replay_command.specs.Report.{report_text}
@@ -28,9 +37,6 @@ pub record RecordedRun : Type 0 where
   pub group : GroupStart
   pub steps : List RunStep
 
-abbrev pub recorded_run : GroupStart → List RunStep → RecordedRun
-recorded_run group steps = record { group = group; steps = steps }
-
 -- ---- one process
 
 -- after no log anything stands
@@ -39,56 +45,58 @@ no_cut p = []
 
 -- a replay is that of a process of the recording. It has all events of the process and no other, each is accepted, and
 -- after each n of them it is in the recorded state. What comes after their entries is left over
-pub record ShowsProcess (group : GroupStart) (steps : List RunStep) (cut : ℕ → List ℕ) (p : ℕ) (r : Replaying) : Type 0 where
-  pub head : r.head ≡ head_of_log group p
-  pub begun : slice_get group.first p ≡ Some r.state
-  pub told : entries_of r.left ≡ entries_of_steps steps p
+pub record ShowsProcess (run : RecordedRun) (cut : ℕ → List ℕ) (p : ℕ) (r : Replaying) : Type 0 where
+  pub head : r.head ≡ head_of_log run.group p
+  pub begun : slice_get run.group.first p ≡ Some r.state
+  pub told : entries_of r.left ≡ entries_of_steps run.steps p
   pub rest : rest_of_log r.left ≡ cut p
-  pub accepted : entries_ahead r ≡ entries_of_steps steps p
-  pub moments : (n : ℕ) → n ≤ length (entries_of_steps steps p) → slice_get (recorded_states group steps p) n ≡ Some (after_entries r n)
+  pub accepted : entries_ahead r ≡ entries_of_steps run.steps p
+  pub moments : (n : ℕ) → n ≤ length (entries_of_steps run.steps p) → slice_get (recorded_states run.group run.steps p) n ≡ Some (after_entries r n)
 
 -- so are these replays those of these processes
-abbrev pub AreShown : GroupStart → List RunStep → (ℕ → List ℕ) → List ℕ → List Replaying → Type 0
-AreShown group steps cut [] [] = Unit {0}
-AreShown group steps cut (p ∷ ps) (r ∷ rs) = ShowsProcess group steps cut p r × AreShown group steps cut ps rs
-AreShown group steps cut [] (r ∷ rs) = ⊥
-AreShown group steps cut (p ∷ ps) [] = ⊥
+abbrev pub AreShown : RecordedRun → (ℕ → List ℕ) → List ℕ → List Replaying → Type 0
+AreShown run cut [] [] = Unit {0}
+AreShown run cut (p ∷ ps) (r ∷ rs) = ShowsProcess run cut p r × AreShown run cut ps rs
+AreShown run cut [] (r ∷ rs) = ⊥
+AreShown run cut (p ∷ ps) [] = ⊥
 
 -- ---- what `replay` says
 
 -- the line of a process: how many events were recorded, how it stood after them, and that its log is whole, unless bytes stand
 -- after its entries, which are left over
-abbrev pub recorded_line : GroupStart → List RunStep → (ℕ → List ℕ) → ℕ → ReportLine
-recorded_line group steps cut p = record {
-  name = name_of_process group p;
-  events = length (entries_of_steps steps p);
-  end = end_after (process_after group steps p);
+abbrev pub recorded_line : RecordedRun → (ℕ → List ℕ) → ℕ → ReportLine
+recorded_line run cut p = record {
+  name = name_of_process run.group p;
+  events = length (entries_of_steps run.steps p);
+  end = end_after (process_after run.group run.steps p);
   verdict = left_over (cut p);
 }
 
 -- the recorded events of these processes
-abbrev pub recorded_events : List RunStep → List ℕ → List AcceptedEvent
-recorded_events steps ps = flat_map (λ p. of_process p (entries_of_steps steps p)) ps
+abbrev pub recorded_events : RecordedRun → List ℕ → List AcceptedEvent
+recorded_events run ps = flat_map (λ p. of_process p (entries_of_steps run.steps p)) ps
 
 -- the files of what each of these processes left
-abbrev pub recorded_images : GroupStart → List RunStep → List ℕ → List (List ℕ × List ℕ)
-recorded_images group steps ps = flat_map (λ p. image_files (name_of_process group p) (memory_of_process (process_after group steps p)) (prints (entries_of_steps steps p))) ps
+abbrev pub recorded_images : RecordedRun → List ℕ → List (List ℕ × List ℕ)
+recorded_images run ps = flat_map (λ p. image_files (name_of_process run.group p) (memory_of_process (process_after run.group run.steps p)) (prints (entries_of_steps run.steps p))) ps
 
 -- the lines and the counts of these processes, and no divergence; and their images, where they are asked for
-abbrev pub recorded_report : Bool → GroupStart → List RunStep → (ℕ → List ℕ) → List ℕ → CommandWork
-recorded_report images group steps cut ps = record {
-  text = report_text (map (recorded_line group steps cut) ps) (tally_of_events (processes_in_group group) (recorded_events steps ps));
-  writes = if images then recorded_images group steps ps else [];
+abbrev pub recorded_report : Bool → RecordedRun → (ℕ → List ℕ) → List ℕ → CommandWork
+recorded_report images run cut ps = record {
+  text = report_text (map (recorded_line run cut) ps) (tally_of_events (processes_in_group run.group) (recorded_events run ps));
+  writes = if images then recorded_images run ps else [];
   diverged = false;
 }
 
 -- ---- what `debug` shows
 
--- after n events a process stood in the recording as this node does
-pub record IsRecorded (run : RecordedRun) (p n : ℕ) (now : List State) (node : ℕ) : Type 0 where
-  pub state : State
-  pub shown : slice_get now node ≡ Some state
-  pub recorded : slice_get (recorded_states run.group run.steps p) n ≡ Some state
+-- these states, one for each process, are those that the recording had after as many events of each as stand among the first k
+-- of this order
+pub record AreRecordedAt (run : RecordedRun) (ps : List ℕ) (order : List (NodeEvent Entry)) (k : ℕ) (states : List State) : Type 0 where
+  pub count : length states ≡ length ps
+  pub each : (node p : ℕ) → slice_get ps node ≡ Some p
+      → (state : State) × (slice_get states node ≡ Some state)
+      × (slice_get (recorded_states run.group run.steps p) (node_event_count node (take k order)) ≡ Some state)
 
 -- where the process q is one of these, this event of its own comes before place j of the order
 abbrev pub StandsBefore : List ℕ → List (NodeEvent Entry) → ℕ → ℕ → Entry → Type 0
@@ -109,13 +117,25 @@ pub data ReceivedDatagram (run : RecordedRun) (ps : List ℕ) (order : List (Nod
       → ReceivedDatagram run ps order j taken
 
 -- replays of these processes, as one group
-pub record ShowsGroup (group : GroupStart) (steps : List RunStep) (ps : List ℕ) (start : List Replaying) : Type 0 where
+pub record ShowsGroup (run : RecordedRun) (ps : List ℕ) (start : List Replaying) : Type 0 where
   -- the order is the one list of all their recorded events that is sorted by clock and then by process
-  pub order : IsOrder entry_clock (map (entries_of_steps steps) ps) (events_of_replays start)
-  pub only : (es : List (NodeEvent Entry)) → IsOrder entry_clock (map (entries_of_steps steps) ps) es → es ≡ events_of_replays start
+  pub order : IsOrder entry_clock (map (entries_of_steps run.steps) ps) (events_of_replays start)
+  pub only : (es : List (NodeEvent Entry)) → IsOrder entry_clock (map (entries_of_steps run.steps) ps) es → es ≡ events_of_replays start
   -- at position k each process is as it was in the recording after as many of its events as stand among the first k
-  pub moments : (k node p : ℕ) → slice_get ps node ≡ Some p
-      → IsRecorded (recorded_run group steps) p (node_event_count node (take k (events_of_replays start))) (states_of_nodes start k) node
+  pub moments : (k : ℕ) → AreRecordedAt run ps (events_of_replays start) k (states_of_nodes start k)
   -- each taken datagram is one from outside, or its send comes before it
   pub receives : (j node p : ℕ) (e : Entry) → slice_get ps node ≡ Some p → slice_get (events_of_replays start) j ≡ Some (node_event node e)
-      → IsTrue (is_taken e) → ReceivedDatagram (recorded_run group steps) ps (events_of_replays start) j (record { process = p; entry = e })
+      → IsTrue (is_taken e) → ReceivedDatagram run ps (events_of_replays start) j (record { process = p; entry = e })
+  -- every event of the clock that a taken tag names comes before it, whoever made the tag
+  pub sends : (i j : ℕ) (sent taken : NodeEvent Entry) (tag : Tag)
+      → slice_get (events_of_replays start) i ≡ Some sent → slice_get (events_of_replays start) j ≡ Some taken
+      → taken.entry.tag ≡ Some tag → sent.entry.clock ≡ tag.clock → i < j
+  -- a watchpoint fires exactly where its value at two neighbouring positions is not the same
+  pub fires : (x : Expression) (k : ℕ)
+      → (watchpoint_fires start x (suc k) ≡ true) ↔ (value_at_position start x k ≡ value_at_position start x (suc k) → ⊥)
+  -- that value is the one over the recorded states
+  pub values : (x : Expression) (k : ℕ) (states : List State) → AreRecordedAt run ps (events_of_replays start) k states
+      → value_at_position start x k ≡ value (map seen_node states) no_variables x
+  -- and the one that `print` answers, where no variable is named
+  pub prints : (variables : List Variable) (x : Expression) (k : ℕ) → names_variable x ≡ false
+      → value_in (nodes_at (place_at start k)) variables x ≡ value_at_position start x k

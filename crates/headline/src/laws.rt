@@ -1,8 +1,15 @@
 // The main theorem, as calls that do nothing.
-ghost use Rattle.headline.specs.Headline.{Headline, LeftIsShown};
+ghost use Rattle.headline.specs.Headline.{Headline, LeftIsShown, WholeRecordings};
 
-/// The modules and the logs of some processes of a recording, and these alone, are shown as they were recorded, in
-/// whatever order they are named.
+/// The modules and the whole logs of all processes of a recording, and these alone, are shown as they were recorded, in
+/// whatever folder they are and whatever their files are called. Read this one first.
+pub fn whole_recordings_are_shown()
+    ensures { WholeRecordings }
+{
+    recordings_are_shown();
+}
+
+/// The modules and the logs of some processes at any moment of a recording are shown so, in whatever order they are named.
 pub fn recordings_are_shown()
     ensures { Headline }
 {
@@ -12,6 +19,8 @@ pub fn recordings_are_shown()
     group_record::laws::standing();
     record_command::laws::recordings_agree();
     group_state::laws::ordered();
+    watch_expr::laws::variables_unseen();
+    shell_points::laws::exact_firing();
 }
 
 /// What `record` leaves is shown so: the whole run after an answer, and wherever it was stopped after its heads a moment of

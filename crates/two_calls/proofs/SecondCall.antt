@@ -25,8 +25,8 @@ use Rattle.debug_command.specs.Debug.{debug_outcome, session_outcome}
 use Rattle.friday_app.specs.Command.{Command, Debug, Record, Replay}
 use Rattle.friday_app.specs.Expected.{expected}
 use Rattle.friday_app.specs.Run.{CommandRun}
-use Rattle.two_calls.specs.Calls.{CameTo, ShowsRecorded, ShowsThese, printed_by}
-use Rattle.headline.specs.Headline.{AreProcesses, HoldsProcess, ShowsSteps, logs_in, pairs_of_processes}
+use Rattle.two_calls.specs.Calls.{CameTo, ShowsRecorded, ShowsThese, pairs_of_processes, printed_by}
+use Rattle.headline.specs.Headline.{AreHeld, AreProcesses, ShowsSteps, logs_in, run_to, sorted_of}
 use Rattle.headline.specs.Shown.{no_cut, recorded_report}
 use Rattle.two_calls.proofs.LeftByRecording.{IsDone, is_done, module_not_written, schedule_formed}
 
@@ -67,7 +67,7 @@ recorded gives images before name r old middle is run =
 
 -- the folder then has the files of each process
 has_all : (images : Bool) {before : Folder} {name : List ℕ} (r : IsRecordable before name) (old middle : Outside) (rec : Recorded images r old middle) (ps : List ℕ) → AllByRecursion (λ p. p < processes_in_group (group_in r)) ps
-    → AllByRecursion (HoldsProcess r (logs_in (group_in r) rec.folder) rec.folder) ps
+    → AreHeld r (logs_in (group_in r) rec.folder) rec.folder ps (pairs_of_processes r.schedule ps)
 has_all images r old middle rec [] below = tt
 has_all images r old middle rec (p ∷ ps) below = (record { «module» = rec.modules p below.0; log = refl }, has_all images r old middle rec ps below.1)
 
@@ -87,14 +87,14 @@ these : GivesSchedules → (images : Bool) (before : Folder) (name : List ℕ) (
 these gives images before name r second old middle new answer is first run ps are =
     let rec = recorded gives images before name r old middle is first in
     let pairs = pairs_of_processes r.schedule ps in
-    let shown = rec.shows ps are rec.folder (has_all images r old middle rec ps are.within) in
+    let shown = rec.shows ps are rec.folder pairs (has_all images r old middle rec ps are.within) in
     record {
       whole = rec.done.whole;
       folder = rec.folder;
       left = rec.left;
       shown = shown;
       replayed = λ asked names answers.
-          came_to (Some (Replay asked pairs)) (Ok (recorded_report asked (group_in r) (steps_in r) no_cut shown.sorted)) rec.folder (printed_by images r old.taken) middle new answer
+          came_to (Some (Replay asked pairs)) (Ok (recorded_report asked (run_to r (steps_in r)) no_cut (sorted_of (processes_in_group (group_in r)) ps))) rec.folder (printed_by images r old.taken) middle new answer
           (subst (λ (c : Option Command). CommandRun c middle new answer) names run)
           (ap (option_map (replay_outcome asked pairs)) rec.told ∙ ap (λ (o : CommandOutcome). Some o) (shown.replay asked)) rec.told rec.printed answers;
       debugged = λ names answers input typed.

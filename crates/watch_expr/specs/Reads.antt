@@ -7,7 +7,8 @@ use Rattle.expression_text.specs.declared.expr.Binary.TheVariants as binary
 use Rattle.watch_expr.specs.declared.reads.Place.{Place}
 use Rattle.watch_expr.specs.declared.reads.Place.TheVariants as place
 use Rattle.expression_text.specs.Expression.{Expression, Number, Var, One, Two, Over, Load, Global, Clock, Events, Size, LastThread, HasEnded}
-use Rattle.watch_expr.specs.Value.{ExpressionSetting, byte_count, decided_by_left, resolved_node, expression_setting, value, value_at}
+use Rattle.expression_text.specs.Faulty.{names_variable}
+use Rattle.watch_expr.specs.Value.{ExpressionSetting, byte_count, decided_by_left, resolved_node, expression_setting, value, value_at, value_in_event}
 use Rattle.watch_expr.specs.View.{Node, node_clock, events_at, global_at, has_ended_at, last_thread_at, size_at}
 
 -- the operators that may leave their right side out
@@ -105,3 +106,10 @@ abbrev pub ReadsTell : Type 0
 ReadsTell = (old new : List Node) (x : Expression) → length new ≡ length old → AreMemories old → AreMemories new
     → AllByRecursion (SameAtPlace old new) (reads_of_expression old x)
     → (value new no_variables x ≡ value old no_variables x) × (reads_of_expression new x ≡ reads_of_expression old x)
+
+-- ---- where no variable is named
+
+-- an expression that names no variable has one value, whatever the variables are
+abbrev pub VariablesUnseen : Type 0
+VariablesUnseen = (nodes : List Node) (v w : List ℕ → Option ℤ) (event : Option ℕ) (x : Expression) → names_variable x ≡ false
+    → (value nodes v x ≡ value nodes w x) × (value_in_event nodes v event x ≡ value_in_event nodes w event x)

@@ -1,5 +1,5 @@
 // What holds of what an expression reads, whatever it is. These calls do nothing.
-ghost use Rattle.watch_expr.specs.Reads.{ReadsLow, ReadsTell};
+ghost use Rattle.watch_expr.specs.Reads.{ReadsLow, ReadsTell, VariablesUnseen};
 
 pub use expression_text::laws::{exact_cut, exact_reading, none_apart};
 
@@ -11,4 +11,9 @@ pub fn reads_low()
 /// Where all that an expression reads is the same in two states, its value and what it reads are the same in both.
 pub fn reads_tell()
     ensures { ReadsTell }
+{}
+
+/// The value of an expression that names no variable is the same whatever the variables are.
+pub fn variables_unseen()
+    ensures { VariablesUnseen }
 {}

@@ -4,7 +4,8 @@
 //! node of the event that led to the position. The nodes and the variables
 //! are a `View` and a `Scope` of the caller's, which contracts see as a list of nodes and as a function (`specs/View`).
 //! `eval_reads` gives the value with the places that it was read from (`specs/Reads`). The law `reads_low` bounds the globals that
-//! are read, and `reads_tell` says that a value stays where none of its places changed. What a line spells is
+//! are read, `reads_tell` says that a value stays where none of its places changed, and `variables_unseen` that the variables
+//! do not matter to an expression that names none. What a line spells is
 //! `expression_text`, whose calls, laws and definitions are handed on from here. Inside is the tally of an aggregate
 //! (`specs/inside/ValueTally`).
 #![tactic(auto)]

@@ -1,0 +1,46 @@
+-- Whole recordings are shown, since all processes at the last moment are some at some moment.
+use Rattle.std.proofs.Common.{◌≢◌, ◌∙◌, ◌≤◌, ◌<◌, ◌+◌, ℕ, zero, suc, List, [], ◌∷◌, Some, ap, append-nil, arith, refl, sym}
+use Rattle.std.specs.List.{AllByRecursion, range_with_len}
+use Rattle.fri_outside.specs.Outside.{Folder}
+use Rattle.group_record.specs.Run.{log_of, processes_in_group}
+use Rattle.log_pairs.specs.Pairs.{Pair}
+use Rattle.record_command.specs.Agreement.{IsRecordable, MayFollowLog, Nothing, group_in, steps_in}
+use Rattle.headline.specs.Headline.{AreDistinct, AreHeld, AreProcesses, Headline, WholeRecordings, logs_of_run, processes_of, run_to, whole_logs}
+use Rattle.headline.specs.Shown.{no_cut}
+
+-- ---- all numbers
+
+below_end : (a n limit : ℕ) → a + n ≤ limit → AllByRecursion (λ p. p < limit) (range_with_len a n)
+below_end a zero limit within = tt
+below_end a (suc n) limit within = (omega (arith, within), below_end (a + 1) n limit (omega (arith, within)))
+
+new_before : (p a n : ℕ) → p < a → AllByRecursion (λ q. p ≢ q) (range_with_len a n)
+new_before p a zero low = tt
+new_before p a (suc n) low = (omega (arith, low), new_before p (a + 1) n (omega (arith, low)))
+
+are_distinct : (a n : ℕ) → AreDistinct (range_with_len a n)
+are_distinct a zero = tt
+are_distinct a (suc n) = (new_before a (a + 1) n (omega arith), are_distinct (a + 1) n)
+
+all_processes : (count : ℕ) → AreProcesses count (range_with_len 0 count)
+all_processes count = record { within = below_end 0 count count (omega arith); apart = are_distinct 0 count }
+
+-- ---- whole logs
+
+module _ {before : Folder} {name : List ℕ} (r : IsRecordable before name) (folder : Folder) where
+  -- nothing comes after them
+  whole : (ps : List ℕ) (pairs : List Pair) → AreHeld r (whole_logs r) folder ps pairs → AreHeld r (logs_of_run (run_to r (steps_in r)) no_cut) folder ps pairs
+  whole [] [] held = tt
+  whole (p ∷ ps) (pair ∷ pairs) held =
+      (record { «module» = held.0.«module»; log = held.0.log ∙ ap (λ (bytes : List ℕ). Some bytes) (sym (append-nil (log_of (group_in r) (steps_in r) p))) }, whole ps pairs held.1)
+  whole [] (pair ∷ pairs) held = absurd held
+  whole (p ∷ ps) [] held = absurd held
+
+  none_follow : (ps : List ℕ) → AllByRecursion (λ p. MayFollowLog (group_in r) (steps_in r) (steps_in r) p (no_cut p)) ps
+  none_follow [] = tt
+  none_follow (p ∷ ps) = (Nothing refl, none_follow ps)
+
+pub whole_recordings : Headline → WholeRecordings
+whole_recordings law before name r folder pairs held =
+    law before name r (steps_in r) ([], refl) no_cut (processes_of r) (all_processes (processes_in_group (group_in r))) (none_follow r folder (processes_of r))
+    folder pairs (whole r folder (processes_of r) pairs held)
