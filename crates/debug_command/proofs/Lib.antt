@@ -1,2 +1,4 @@
 pub mod OutcomeIsWork
 pub mod ShellAnswers
+pub mod SameTalkers
+pub mod SameSessions

@@ -1,5 +1,5 @@
 -- What the shell answers, as a conversation sees it.
-use Rattle.std.proofs.Common.{◌≡◌, ℕ, List, refl, sym, subst, ◌∙◌}
+use Rattle.std.proofs.Common.{◌≡◌, ℕ, List, subst}
 use Rattle.friday_shell.specs.Answer.{answer}
 use Rattle.friday_shell.specs.Meanings.{IsLineAnswer}
 use Rattle.friday_shell.specs.Points.{SessionState}

@@ -4,3 +4,7 @@ pub mod ListLines
 pub mod ProcessNames
 pub mod LogsStay
 pub mod RefusalStays
+pub mod SameFirings
+pub mod SameWalks
+pub mod SameTexts
+pub mod SameAnswers
