@@ -10,3 +10,4 @@ pub mod ReceivedDatagrams
 pub mod RecordingIsShown
 pub mod WholeRecordings
 pub mod LeftIsShown
+pub mod SameRecording

@@ -30,7 +30,7 @@ use Rattle.embed_cmds.specs.Variables.{variable_value}
 use Rattle.shell_points.specs.Firing.{place_at}
 use Rattle.shell_points.specs.Laws.{ExactFiring}
 use Rattle.command_run.specs.Laws.{ReadsModules}
-use Rattle.command_run.specs.Outcome.{CommandStop, CommandWork, and_then}
+use Rattle.command_run.specs.Outcome.{CommandOutcome, CommandStop, CommandWork, and_then}
 use Rattle.log_pairs.specs.Pairs.{Loaded, Pair, replays_of, replays_of_pairs, sort_replays}
 use Rattle.log_pairs.specs.Valid.{GoTogether}
 use Rattle.record_command.specs.Agreement.{IsRecordable, LogsAgree, MayFollowLog, Front, Nothing, group_in, steps_in}
@@ -38,6 +38,7 @@ use Rattle.record_command.specs.Laws.{RecordingsAgree}
 use Rattle.replay_command.specs.Report.{replay_work}
 use Rattle.conversation.specs.Opening.{opened_outcome}
 use Rattle.debug_command.specs.Debug.{debug_opener}
+use Rattle.debug_command.specs.Laws.{SessionsOfOneGroup}
 use Rattle.headline.specs.Headline.{AreDistinct, AreHeld, AreProcesses, Headline, IsShown, logs_of_run, run_to, sorted_of}
 use Rattle.headline.specs.Shown.{AreShown, RecordedRun, ShowsGroup, ShowsProcess}
 use Rattle.headline.proofs.RecordedGroup.{HasBegun, has_begun, pair_stands, schedule_formed, together}
@@ -45,6 +46,7 @@ use Rattle.headline.proofs.LoadedPairs.{AllStand, AllTogether, opened}
 use Rattle.headline.proofs.RecordedOrder.{are_recorded, one_recorded, order_is}
 use Rattle.headline.proofs.ReceivedDatagrams.{received}
 use Rattle.headline.proofs.ReplayReport.{AllCome, all_of_them, report_is}
+use Rattle.headline.proofs.SameRecording.{one_group}
 use Rattle.headline.proofs.ShownReplays.{ComesTo, comes_to, replay_of, shows}
 use Rattle.headline.proofs.SortedReplays.{Are, all_numbered, all_sorted, in_order, sorted_count}
 
@@ -112,7 +114,7 @@ tells_by group all steps p cut cuts whole (Front later early e n split same shor
 
 -- ---- a folder that holds some processes of a recording
 
-module _ (reads : ReadsModules) (gives : GivesSchedules) (beginning : Beginning) (standing : Standing) (agree : RecordingsAgree) (ordered : Ordered) (sends : SendsFirst) (firing : ExactFiring) (unseen : VariablesUnseen)
+module _ (reads : ReadsModules) (gives : GivesSchedules) (beginning : Beginning) (standing : Standing) (agree : RecordingsAgree) (ordered : Ordered) (sends : SendsFirst) (firing : ExactFiring) (unseen : VariablesUnseen) (sessions : SessionsOfOneGroup)
     (before folder : Folder) (name : List ℕ) (r : IsRecordable before name) (steps : List RunStep) (moment : IsMoment steps (steps_in r)) (cut : ℕ → List ℕ) where
   begun : HasBegun (group_in r) r.schedule.items
   begun = has_begun reads gives beginning r
@@ -213,6 +215,7 @@ module _ (reads : ReadsModules) (gives : GivesSchedules) (beginning : Beginning)
       (all_sorted (Known run cut) (process_is run cut) [] ps [] unsorted tt (all_known ps are.within follow)) in
       let shown = are_shown run cut sorted start all in
       let read = opened folder pairs unsorted (all_stand ps pairs are.within follow held) (all_together ps are.within follow are.apart) in
+      let group = group_is sorted start all in
       let opens : replays_of_pairs folder pairs ≡ Ok start =
       ap (λ (o : Result (List Loaded) CommandStop). and_then o (λ ls. and_then (replays_of ls) (λ rs. Ok (sort_replays [] rs)))) read.loaded
       ∙ ap (λ (o : Result (List Replaying) CommandStop). and_then o (λ rs. Ok (sort_replays [] rs))) read.begun in
@@ -225,9 +228,12 @@ module _ (reads : ReadsModules) (gives : GivesSchedules) (beginning : Beginning)
             ∙ ap (λ (w : CommandWork). Ok w) (report_is images run cut sorted start shown (all_come run cut sorted start all));
         images = λ all_given. all_of_them run sorted (all_numbered count ps are all_given) (sorted_count count ps are ∙ all_given);
         debug = λ input. ap (λ (o : Result (List Replaying) CommandStop). opened_outcome (debug_opener pairs) o (Some input)) opens;
-        shows = group_is sorted start all;
+        session = λ others are input.
+            ap (λ (o : Result (List Replaying) CommandStop). opened_outcome (debug_opener pairs) o (Some input)) opens
+            ∙ sym (ap (λ (o : CommandOutcome). Some o) (sessions others start (one_group run cut sorted start others shown group are) input));
+        shows = group;
       }
 
-pub headline : ReadsModules → GivesSchedules → Beginning → Standing → RecordingsAgree → Ordered → SendsFirst → ExactFiring → VariablesUnseen → Headline
-headline reads gives beginning standing agree ordered sends firing unseen before name r steps moment cut ps are follow folder pairs held =
-    is_shown reads gives beginning standing agree ordered sends firing unseen before folder name r steps moment cut ps pairs are follow held
+pub headline : ReadsModules → GivesSchedules → Beginning → Standing → RecordingsAgree → Ordered → SendsFirst → ExactFiring → VariablesUnseen → SessionsOfOneGroup → Headline
+headline reads gives beginning standing agree ordered sends firing unseen sessions before name r steps moment cut ps are follow folder pairs held =
+    is_shown reads gives beginning standing agree ordered sends firing unseen sessions before folder name r steps moment cut ps pairs are follow held

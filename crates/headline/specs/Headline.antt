@@ -16,7 +16,7 @@ use Rattle.record_command.specs.Agreement.{IsAtMomentOfRun, IsStoppedInHeads, Is
 use Rattle.record_command.specs.Expected.{module_name, record_outcome}
 use Rattle.replay_command.specs.Report.{replay_outcome}
 use Rattle.debug_command.specs.Debug.{debug_outcome, session_outcome}
-use Rattle.headline.specs.Shown.{AreShown, RecordedRun, ShowsGroup, no_cut, recorded_images, recorded_report}
+use Rattle.headline.specs.Shown.{AreOfRecording, AreShown, RecordedRun, ShowsGroup, no_cut, recorded_images, recorded_report}
 
 -- ---- the files of a recording, in any folder and under any names
 
@@ -53,8 +53,11 @@ pub record IsShown (run : RecordedRun) (cut : ℕ → List ℕ) (folder : Folder
   -- `replay` says what was recorded, and leaves the images of it: with all processes those of the recording
   pub replay : (images : Bool) → replay_outcome images pairs folder ≡ Ok (recorded_report images run cut (sorted_of (processes_in_group run.group) ps))
   pub images : length ps ≡ processes_in_group run.group → recorded_images run (sorted_of (processes_in_group run.group) ps) ≡ all_images run.group run.steps
-  -- `debug` answers each line by the group of these replays alone, which shows the recording
+  -- `debug` comes to what a session over these replays does, and to what one does over any others with the recorded names,
+  -- order and states: what it answers to whatever is typed is a function of the recording
   pub debug : (input : List ℕ) → debug_outcome pairs (Some input) folder ≡ Some (session_outcome start input)
+  pub session : (others : List Replaying) → AreOfRecording run (sorted_of (processes_in_group run.group) ps) others
+      → (input : List ℕ) → debug_outcome pairs (Some input) folder ≡ Some (session_outcome others input)
   pub shows : ShowsGroup run (sorted_of (processes_in_group run.group) ps) start
 
 -- ---- the theorem for whole recordings

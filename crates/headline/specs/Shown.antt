@@ -19,7 +19,7 @@ use Rattle.proc_replay.specs.Course.{entries_ahead}
 use Rattle.proc_replay.specs.Replaying.{Replaying}
 use Rattle.group_state.specs.declared.report.ReportLine.{ReportLine}
 use Rattle.group_state.specs.Nodes.{nodes_at, seen_node}
-use Rattle.group_state.specs.Place.{after_entries, entry_clock, events_of_replays, node_event_count, states_of_nodes}
+use Rattle.group_state.specs.Place.{after_entries, entry_clock, events_of_replays, node_event_count, node_names, states_of_nodes}
 use Rattle.group_state.specs.Tally.{AcceptedEvent, of_process, tally_of_events}
 use Rattle.watch_expr.specs.Expression.{Expression}
 use Rattle.watch_expr.specs.Faulty.{names_variable}
@@ -115,6 +115,13 @@ pub data ReceivedDatagram (run : RecordedRun) (ps : List ℕ) (order : List (Nod
       → IsTrue (is_sent (processes_in_group run.group) sent) → sent.call.a0 ≡ taken.process
       → (sent.clock ≤ most_clock → TellsSend taken.entry q sent) → (sent.clock ≤ most_clock → StandsBefore ps order j q sent)
       → ReceivedDatagram run ps order j taken
+
+-- replays whose nodes have the names of these processes, the order of their recorded events and the recorded states. A session
+-- sees nothing else of them
+pub record AreOfRecording (run : RecordedRun) (ps : List ℕ) (rs : List Replaying) : Type 0 where
+  pub names : node_names rs ≡ map (name_of_process run.group) ps
+  pub order : IsOrder entry_clock (map (entries_of_steps run.steps) ps) (events_of_replays rs)
+  pub moments : (k : ℕ) → AreRecordedAt run ps (events_of_replays rs) k (states_of_nodes rs k)
 
 -- replays of these processes, as one group
 pub record ShowsGroup (run : RecordedRun) (ps : List ℕ) (start : List Replaying) : Type 0 where

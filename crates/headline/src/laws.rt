@@ -21,6 +21,7 @@ pub fn recordings_are_shown()
     group_state::laws::ordered();
     watch_expr::laws::variables_unseen();
     shell_points::laws::exact_firing();
+    debug_command::laws::sessions_of_one_group();
 }
 
 /// What `record` leaves is shown so: the whole run after an answer, and wherever it was stopped after its heads a moment of
