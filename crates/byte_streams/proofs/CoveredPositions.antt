@@ -13,7 +13,7 @@ length-below (suc n) = omega (arith, length-append (numbers_below n) (n ∷ []),
 length-map_below : (f : ℕ → Bool) (n : ℕ) → length (map f (numbers_below n)) ≡ n
 length-map_below f n = length-map (numbers_below n) f ∙ length-below n
 
-get_below : (f : ℕ → Bool) (n i : ℕ) (d : Bool) → i < n → get_or (map f (numbers_below n)) i d ≡ f i
+pub get_below : (f : ℕ → Bool) (n i : ℕ) (d : Bool) → i < n → get_or (map f (numbers_below n)) i d ≡ f i
 get_below f zero i d less = absurd (omega arith)
 get_below f (suc n) i d less =
     ap (λ (l : List Bool). get_or l i d) (map-append f (numbers_below n) (n ∷ []))

@@ -9,5 +9,6 @@ pub mod KeptAfterSend
 pub mod CoveredPositions
 pub mod KeptAfterReceive
 pub mod ReadBytes
+pub mod CoveredBytes
 pub mod StreamsSteps
 pub mod CountedFronts

@@ -1,17 +1,19 @@
 -- What is read, and which receives count.
-use Rattle.std.proofs.Common.{◌≡◌, ℕ, ◌+◌, ◌≤◌, Bool, true, false, cond, List, [], ◌∷◌, length, map, take, Some, None, refl, sym, ap, subst, ◌∙◌, arith}
+use Rattle.std.proofs.Common.{◌≡◌, ℕ, ◌+◌, ◌<◌, ◌≤◌, Bool, true, false, cond, List, [], ◌∷◌, length, map, take, get_or, Some, None, refl, sym, ap, subst, ◌∙◌, arith}
 use Rattle.std.specs.Prelude.{if◌then◌else◌, option_map}
 use Rattle.std.specs.FinMap as map
 use Rattle.std.specs.List.{prefix_len, take_while}
 use Rattle.std.proofs.lemmas.List.{length-take}
 use Rattle.std.proofs.lemmas.List.Folds.{length-prefix_len}
+use Rattle.std.proofs.lemmas.List.Sums.{prefix_len_passes}
 use Rattle.std.proofs.lemmas.Option.{same_Some}
+use Rattle.byte_streams.specs.CoveredBytes.{ReadIsCovered}
 use Rattle.byte_streams.specs.Keys.{StreamContents, chunk_of, stream_key_of}
 use Rattle.byte_streams.specs.Laws.{IsReadOf, IsUnsent, ReadIsKept, UnsentIsFree}
 use Rattle.byte_streams.specs.Lines.{covered_front}
 use Rattle.byte_streams.specs.Stands.{KeptTraffic, StandsFor, stream_contents}
 use Rattle.byte_streams.specs.Traffic.{Received, Sent, StreamName, SendOrReceive, numbers_below, counted_send, is_covered_position, is_listed_stream, read_count, written_stream}
-use Rattle.byte_streams.proofs.CoveredPositions.{length-below}
+use Rattle.byte_streams.proofs.CoveredPositions.{get_below, length-below}
 
 -- ---- a send that was not made
 
@@ -59,3 +61,13 @@ read_kept kept traffic name c h has =
       within = read_within name traffic;
       written = refl;
     })
+
+-- what is read is covered
+pub read_covered : ReadIsCovered
+read_covered name i traffic less =
+    let written = length (written_stream name traffic) in
+    let covered = map (is_covered_position name traffic) (numbers_below written) in
+    let within : i < written = omega (arith, read_within name traffic) in
+    let passes : get_or covered i false ≡ true =
+    prefix_len_passes (λ (is : Bool). is) covered i false (omega (arith, front_count name traffic, length-take_while (λ (is : Bool). is) covered)) in
+    sym (get_below (is_covered_position name traffic) written i false within) ∙ passes

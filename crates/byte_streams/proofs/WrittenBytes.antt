@@ -112,7 +112,7 @@ IsKept-new s early w h =
     let kept : IsKept s.from (record { to = s.to; piece = w.piece }) (Sent s ∷ early) = record { stands = stands; listed = listed-counts s early w h } in
     subst (λ (to : ℕ). IsKept s.from (record { to = to; piece = w.piece }) (Sent s ∷ early)) (sym h.to) kept
 
-latest_of : (c before : Option WrittenPiece) (w : WrittenPiece) → latest_written c before ≡ Some w → (c ≡ Some w) ⊎ (before ≡ Some w)
+pub latest_of : (c before : Option WrittenPiece) (w : WrittenPiece) → latest_written c before ≡ Some w → (c ≡ Some w) ⊎ (before ≡ Some w)
 latest_of None before w e = inr e
 latest_of (Some v) before w e = inl e
 

@@ -2,6 +2,7 @@ pub mod Chunk
 pub mod Meanings
 pub mod Traffic
 pub mod Keys
+pub mod CoveredBytes
 pub mod Stands
 pub mod Lines
 pub mod Laws

@@ -1,4 +1,5 @@
 // The laws of streams, as calls that do nothing.
+ghost use Rattle.byte_streams.specs.CoveredBytes.{CoveredWasWritten, ReadIsCovered};
 ghost use Rattle.byte_streams.specs.Laws.{FrontsCount, PlainFronts, ReadIsKept, ShortIsPlain, StrangeBySend, UnsentIsFree};
 
 /// Where no send of a process is at this clock, none is kept there.
@@ -10,6 +11,13 @@ pub fn unsent_is_free()
 /// written.
 pub fn read_is_kept()
     ensures { ReadIsKept }
+{}
+
+/// At each covered position stands a byte that a receive took which counts, and that a send brought before it which counts. Each
+/// position of what is read is covered.
+pub fn covered_was_written()
+    ensures written { CoveredWasWritten }
+    ensures read { ReadIsCovered }
 {}
 
 /// A front of what a send that counts brought to its receiver counts where it is a chunk, and else it is plain. So is one of

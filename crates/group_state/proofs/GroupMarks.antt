@@ -33,7 +33,7 @@ use Rattle.group_state.proofs.NodeMoves.{motions_at, positions_front}
 use Rattle.group_state.proofs.NodeViews.{node_at, node_for_each, states_length}
 use Rattle.group_state.proofs.LastTouches.{mark_told, mark_within, marked_at, no_later, nth_front, set_here, set_there, there, touched_own}
 
-abbrev at_position : List Replaying → ℕ → GroupPlace
+abbrev pub at_position : List Replaying → ℕ → GroupPlace
 at_position start k = record { start = start; at = k }
 
 -- ---- each memory is one
@@ -67,7 +67,7 @@ touched_moves (Some x) now l is =
     by_state None is = absurd (cc)
     by_state (Some S) is = grind (arith, nat_tests)
 
-is_mark : (start : List Replaying) (k : ℕ) (l : Location) → mark_of_place start (suc k) l ≡ suc k → is_touched_at start (suc k) l ≡ true
+pub is_mark : (start : List Replaying) (k : ℕ) (l : Location) → mark_of_place start (suc k) l ≡ suc k → is_touched_at start (suc k) l ≡ true
 is_mark start k l is =
     let test : (mark_of_place start (suc k) l == suc k) ≡ true = grind (arith, nat_tests) in
     sym (mark_told start k l) ∙ test
@@ -150,7 +150,7 @@ module _ (old new : List Node) (T S : State) (fits : StateFits T) (fits_after : 
 
 module _ (steps : (start : List Replaying) → AreGroupReplays start → ReplaysFit start → (k : ℕ) (e : NodeEvent Entry) → slice_get (events_of_replays start) k ≡ Some e → IsStepOfGroup start k e)
     (rising : AreRising) (kept : IsKeptByEvents) (unmarked : UnmarkedStays) (start : List Replaying) (replayers : AreGroupReplays start) (fits : ReplaysFit start) where
-  stays_at : (k : ℕ) (l : Location) → suc k ≤ length (events_of_replays start) → (mark_of_place start (suc k) l ≡ suc k → ⊥) → AreMemories (nodes_at (at_position start k)) → AreMemories (nodes_at (at_position start (suc k)))
+  pub stays_at : (k : ℕ) (l : Location) → suc k ≤ length (events_of_replays start) → (mark_of_place start (suc k) l ≡ suc k → ⊥) → AreMemories (nodes_at (at_position start k)) → AreMemories (nodes_at (at_position start (suc k)))
       → SameAtPlace (nodes_at (at_position start k)) (nodes_at (at_position start (suc k))) l
   stays_at k l within not old_sound new_sound =
       let t = there (events_of_replays start) k (omega (arith, within)) in

@@ -17,3 +17,4 @@ pub mod TallyCounts
 pub mod VerdictsAtEnd
 pub mod ReplayTurns
 pub mod NodeViews
+pub mod UnmetReads

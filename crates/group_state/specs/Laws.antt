@@ -1,5 +1,5 @@
 -- What holds of the order of a group's events, and of what each of them changes, for any logs.
-use Rattle.std.specs.Prelude.{◌≡◌, ℕ, suc, ◌<◌, List, map, slice_get, slice_set, Some, None}
+use Rattle.std.specs.Prelude.{◌≡◌, ℕ, suc, ◌<◌, false, List, map, slice_get, slice_set, Some, None}
 use Rattle.lamport_tag.specs.declared.Tag.{Tag}
 use Rattle.lib_calls.specs.declared.entry.Entry.{Entry}
 use Rattle.lib_calls.specs.Entry.{IsShaped}
@@ -9,7 +9,13 @@ use Rattle.guest_process.specs.State.{State}
 use Rattle.group_order.specs.Order.{IsOrder, NodeEvent}
 use Rattle.proc_replay.specs.Course.{entries_ahead}
 use Rattle.proc_replay.specs.Replaying.{Replaying}
+use Rattle.watch_expr.specs.Expression.{Expression}
+use Rattle.watch_expr.specs.Reads.{AreMemories, no_variables, reads_of_expression}
+use Rattle.watch_expr.specs.Value.{value}
+use Rattle.watch_expr.specs.View.{Node}
+use Rattle.group_state.specs.Nodes.{nodes_at}
 use Rattle.group_state.specs.Place.{AreGroupReplays, ReplaysFit, entry_clock, events_of_replays, states_of_nodes}
+use Rattle.group_state.specs.Touch.{is_met_by_event}
 
 -- it is sorted by clock and then by node, and has of each node its accepted events, each after the other; and
 -- no other list is
@@ -35,3 +41,15 @@ pub record IsStepOfGroup (start : List Replaying) (k : ℕ) (e : NodeEvent Entry
 pub record Stepwise : Type 0 where
   pub begins : (start : List Replaying) → states_of_nodes start 0 ≡ map (λ r. r.state) start
   pub steps : (start : List Replaying) → AreGroupReplays start → ReplaysFit start → (k : ℕ) (e : NodeEvent Entry) → slice_get (events_of_replays start) k ≡ Some e → IsStepOfGroup start k e
+
+-- the expression has the same value in both, and reads the same there
+pub record HasSameReads (old new : List Node) (x : Expression) : Type 0 where
+  pub value : value new no_variables x ≡ value old no_variables x
+  pub reads : reads_of_expression new x ≡ reads_of_expression old x
+
+-- an event that meets nothing of what an expression reads leaves its value, and what it reads, as they were
+abbrev pub UnmetStays : Type 0
+UnmetStays =
+    (start : List Replaying) → AreGroupReplays start → ReplaysFit start → (k : ℕ) (x : Expression)
+    → AreMemories (nodes_at (record { start = start; at = k })) → AreMemories (nodes_at (record { start = start; at = suc k }))
+    → is_met_by_event start (suc k) x ≡ false → HasSameReads (nodes_at (record { start = start; at = k })) (nodes_at (record { start = start; at = suc k })) x

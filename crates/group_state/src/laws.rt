@@ -1,5 +1,5 @@
 // The laws of a group's order and of its states, as calls that do nothing.
-ghost use Rattle.group_state.specs.Laws.{Ordered, SendsFirst, Stepwise};
+ghost use Rattle.group_state.specs.Laws.{Ordered, SendsFirst, Stepwise, UnmetStays};
 
 use lib_calls::Entry;
 
@@ -27,4 +27,16 @@ pub fn stepwise()
     guest_process::laws::states_fit();
     proc_replay::laws::replays();
     call_log::laws::exact_logs();
+}
+
+/// Where the event that comes to a position met nothing of what an expression read just before, the expression has the same value
+/// after it and reads the same. So one that is evaluated at the other positions alone is never behind.
+pub fn unmet_stays()
+    ensures { UnmetStays }
+{
+    stepwise();
+    guest_process::laws::rises();
+    guest_process::laws::states_fit();
+    guest_process::laws::unmarked_stays();
+    watch_expr::laws::reads_tell();
 }

@@ -1,7 +1,7 @@
 -- Tests, options, and the first check that fails.
-use Rattle.std.proofs.Common.{◌≡◌, ℕ, zero, suc, ◌+◌, ◌<◌, Bool, true, false, cond, ◌⊎◌, inl, inr, Option, Some, None, refl, arith}
+use Rattle.std.proofs.Common.{◌≡◌, ℕ, zero, suc, ◌+◌, ◌<◌, ◌≤◌, Bool, true, false, cond, ◌⊎◌, inl, inr, Option, Some, None, refl, sym, ap, ◌∙◌, arith, ⊎_elim}
 use Rattle.std.specs.Prelude.{◌==◌, option_map}
-use Rattle.std.proofs.lemmas.Bool.{eq-eqb}
+use Rattle.std.proofs.lemmas.Bool.{cases_lt, eq-eqb}
 use Rattle.guest_process.specs.declared.divergence.Divergence.{Divergence}
 use Rattle.guest_process.specs.Legal.{EntryChecks, first_failing, unless_checked}
 use Rattle.guest_process.specs.Live.{lowest_signal}
@@ -57,3 +57,14 @@ lowest_holds p (suc n) s =
     lowest_more p n s true e h = inr (e, omega arith)
     lowest_more p n s false e (inl h) = inl h
     lowest_more p n s false e (inr h) = inr (h.0, omega (arith, h.1))
+
+-- it is not above another one at which p holds, and above 0 where there is one
+pub lowest_least : (p : ℕ → Bool) (n s r : ℕ) → 1 ≤ s → s ≤ r → r < s + n → p r ≡ true → (1 ≤ lowest_signal p n s) × (lowest_signal p n s ≤ r)
+unfolding lowest_signal
+lowest_least p zero s r least from below is = absurd (omega arith)
+lowest_least p (suc n) s r least from below is =
+    by_test (p s) refl (λ past. lowest_least p n (s + 1) r (omega arith) past (omega arith) is)
+  where
+    by_test : (b : Bool) → p s ≡ b → (s + 1 ≤ r → (1 ≤ lowest_signal p n (s + 1)) × (lowest_signal p n (s + 1) ≤ r)) → (1 ≤ cond b s (lowest_signal p n (s + 1))) × (cond b s (lowest_signal p n (s + 1)) ≤ r)
+    by_test true e later = (least, from)
+    by_test false e later = later (⊎_elim (λ less. omega arith) (λ over. let at : r ≡ s = omega arith in absurd (let no : true ≡ false = sym is ∙ ap p at ∙ e in cc)) (cases_lt s r))

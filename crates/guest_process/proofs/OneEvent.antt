@@ -1,8 +1,8 @@
 -- A recorded event agrees with its replay.
-use Rattle.std.proofs.Common.{◌≡◌, ℕ, zero, suc, ◌+◌, ◌<◌, ◌≤◌, ◌^◌, Bool, true, false, ◌&&◌, ◌||◌, not, cond, List, [], ◌∷◌, length, Option, Some, None, refl, ap, sym, subst, arith, inl, inr}
+use Rattle.std.proofs.Common.{◌≡◌, ℕ, zero, suc, ◌+◌, ◌<◌, ◌≤◌, ◌^◌, Bool, true, false, ◌&&◌, ◌||◌, not, cond, List, [], ◌∷◌, length, Option, Some, None, refl, ap, sym, subst, arith, inl, inr, ⊎_elim}
 use Rattle.std.specs.Prelude.{◌==◌, nat_le, is_some, slice_get, option_and_then}
 use Rattle.std.specs.Option.{option_map_or}
-use Rattle.std.proofs.lemmas.Bool.{and_parts, and_from, or_right, le-leb as le-leb'}
+use Rattle.std.proofs.lemmas.Bool.{and_parts, and_from, or_right, le-leb as le-leb', eqb-true, leb-true, or_cases}
 use Rattle.std.proofs.lemmas.Option.{same_Some}
 use Rattle.std.proofs.lemmas.Slice.Eq.{bytes_eq-Decides}
 use Rattle.call_table.specs.Numbers.{number_within}
@@ -23,11 +23,11 @@ use Rattle.guest_process.specs.Answers.{Need, Fixed, Blocked, World, need, is_po
 use Rattle.guest_process.specs.Fits.{EnvFits, StateFits, WaitingFits, live_has}
 use Rattle.guest_process.specs.GoesOn.{thread_goes_on, handler}
 use Rattle.guest_process.specs.Kinds.{ends_process}
-use Rattle.guest_process.specs.Legal.{entry_checks, need_gives_answer, is_handled}
-use Rattle.guest_process.specs.Live.{Env, Event, AnsweredCall, answered_now, as_given, chosen_signal, event, from_world, event_of_waiting, lowest_signal, world_answer}
-use Rattle.guest_process.specs.OneEvent.{AgreesWithEvent, OneEvent}
+use Rattle.guest_process.specs.Legal.{entry_checks, need_gives_answer, is_handled, reason_at}
+use Rattle.guest_process.specs.Live.{Env, Event, AnsweredCall, answered_now, as_given, chosen_signal, event, from_world, event_of_waiting, live, lowest_signal, world_answer}
+use Rattle.guest_process.specs.OneEvent.{AgreesWithEvent, BearsLowest, LowestFirst, OneEvent, with_signal}
 use Rattle.guest_process.specs.State.{State, is_running, thread_at}
-use Rattle.guest_process.proofs.FirstFailure.{same, kept, mapped, none_failing, lowest_holds}
+use Rattle.guest_process.proofs.FirstFailure.{same, kept, mapped, none_failing, all_hold, unless_none, lowest_holds, lowest_least}
 use Rattle.guest_process.proofs.Outgoing.{outgoing_fits}
 use Rattle.guest_process.proofs.EachKind.{no_bytes, no_tag, ReplyFits, reply_fits, world_matches}
 use Rattle.guest_process.proofs.AnswerWrites.{given_written}
@@ -125,7 +125,43 @@ event_agrees S t w env s few running stands fits a m =
       same = rw stands (ap (λ S'. thread_goes_on k S' t w.strand a.answer.reply now.entry.signal now.entry.clock) effect);
     }
 
-one_at : StaysUntagged → IsFromGroup → (S : State) (t : ℕ) (env : Env) → StateFits S → S.events < 2 ^ 61 → EnvFits env → is_running S ≡ true → (o : Option Waiting) → thread_at S t ≡ o → (e : Event) → event_of_waiting S t env o ≡ Some e → AgreesWithEvent S e
+-- ---- the lowest signal
+
+chosen_first : (p q : ℕ → Bool) (b : Bool) (s : ℕ) → 1 ≤ s → q s ≡ true → ((s == 0) || (not b && (nat_le s most_signal && p s))) ≡ true
+    → (1 ≤ cond b 0 (lowest_signal (λ r. q r && p r) most_signal 1)) × (cond b 0 (lowest_signal (λ r. q r && p r) most_signal 1) ≤ s)
+chosen_first p q b s least is h = by_ends b (⊎_elim (λ none. absurd (let zero_is = eqb-true s 0 none in omega arith)) (λ e. e) (or_cases (s == 0) (not b && (nat_le s most_signal && p s)) h)) where
+  by_ends : (b : Bool) → (not b && (nat_le s most_signal && p s)) ≡ true
+      → (1 ≤ cond b 0 (lowest_signal (λ r. q r && p r) most_signal 1)) × (cond b 0 (lowest_signal (λ r. q r && p r) most_signal 1) ≤ s)
+  by_ends true e = absurd cc
+  by_ends false e =
+      let parts = and_parts (nat_le s most_signal) (p s) e in
+      lowest_least (λ r. q r && p r) most_signal 1 s (omega arith) least (omega (arith, leb-true s most_signal parts.0)) (and_from (q s) (p s) is parts.1)
+
+chosen_pending : (p q : ℕ → Bool) (b : Bool) → 1 ≤ cond b 0 (lowest_signal (λ r. q r && p r) most_signal 1) → q (cond b 0 (lowest_signal (λ r. q r && p r) most_signal 1)) ≡ true
+chosen_pending p q true some = absurd (omega arith)
+chosen_pending p q false some = elim (lowest_holds (λ r. q r && p r) most_signal 1) [ inl none ↦ absurd (omega arith) | inr h ↦ (and_parts _ _ h.0).0 ]
+
+event_lowest : (S : State) (t : ℕ) (w : Waiting) (env : Env) → is_running S ≡ true → thread_at S t ≡ Some w → (a : AnsweredCall) → effects_of_answer w.kind S t w.call a.answer ≡ a.after
+    → BearsLowest S env (event S t env w a).entry
+event_lowest S t w env running stands a effect =
+    let k = w.kind in
+    let e = (event S t env w a).entry in
+    let handled : ℕ → Bool = λ s. is_some (handler a.after.handlers s) in record {
+      pending = chosen_pending handled env.pending (ends_process k);
+      first = λ signal least pending legal.
+          let at : reason_at S (with_signal e signal) (thread_at S t) ≡ None = (unless_none (is_running S) _ _ legal).1 in
+          let here : reason_at S (with_signal e signal) (Some w) ≡ None = subst (λ (o : Option Waiting). reason_at S (with_signal e signal) o ≡ None) stands at in
+          let is : is_handled k (effects_of_answer k S t w.call a.answer).handlers signal ≡ true = (all_hold (entry_checks S (with_signal e signal) w) here).handler in
+          chosen_first handled env.pending (ends_process k) signal least pending (subst (λ (S' : State). is_handled k S'.handlers signal ≡ true) effect is);
+    }
+
+-- ---- one try
+
+-- what is said of the event of a try
+abbrev IsSaid : State → Env → Event → Type 0
+IsSaid S env e = AgreesWithEvent S e × BearsLowest S env e.entry
+
+one_at : StaysUntagged → IsFromGroup → (S : State) (t : ℕ) (env : Env) → StateFits S → S.events < 2 ^ 61 → EnvFits env → is_running S ≡ true → (o : Option Waiting) → thread_at S t ≡ o → (e : Event) → event_of_waiting S t env o ≡ Some e → IsSaid S env e
 one_at stays sent S t env s few f running None stands e h = cc
 one_at stays sent S t env s few f running (Some w) stands e h =
     let k = w.kind in
@@ -134,9 +170,15 @@ one_at stays sent S t env s few f running (Some w) stands e h =
     let low : t < most_threads = omega (arith, live_low S.crew.threads t w stands, s.room) in
     let n = need k S t w.call in
     let holds = answered_holds stays sent k S t w.call env s.count f fits.kind n refl (reply_fits k S t w.call s low fits.arguments) m.0 m.1 in
-    subst (AgreesWithEvent S) m.2 (event_agrees S t w env s few running stands fits m.0 holds)
+    subst (IsSaid S env) m.2 (event_agrees S t w env s few running stands fits m.0 holds, event_lowest S t w env running stands m.0 holds.same)
 
-pub one_event : StaysUntagged → IsFromGroup → OneEvent
-one_event stays sent S t env s few f e h =
+said : StaysUntagged → IsFromGroup → (S : State) (t : ℕ) (env : Env) → StateFits S → S.events < 2 ^ 61 → EnvFits env → (e : Event) → live S t env ≡ Some e → IsSaid S env e
+said stays sent S t env s few f e h =
     let k = kept _ _ _ h in
     one_at stays sent S t env s few f (and_parts _ _ k.0).1 (thread_at S t) refl e k.1
+
+pub one_event : StaysUntagged → IsFromGroup → OneEvent
+one_event stays sent S t env s few f e h = (said stays sent S t env s few f e h).0
+
+pub lowest_first : StaysUntagged → IsFromGroup → LowestFirst
+lowest_first stays sent S t env s few f e h = (said stays sent S t env s few f e h).1

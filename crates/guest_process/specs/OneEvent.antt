@@ -31,6 +31,17 @@ pub record AgreesWithEvent (S : State) (e : Event) : Type 0 where
 abbrev pub OneEvent : Type 0
 OneEvent = (S : State) (t : ℕ) (env : Env) → StateFits S → S.events < 2 ^ 61 → EnvFits env → (e : Event) → live S t env ≡ Some e → AgreesWithEvent S e
 
+abbrev pub with_signal : Entry → ℕ → Entry
+with_signal e signal = record e { signal = signal }
+
+-- its signal is pending, and the lowest of those that are pending and may be delivered there; it has none only where none may
+pub record BearsLowest (S : State) (env : Env) (e : Entry) : Type 0 where
+  pub pending : 1 ≤ e.signal → env.pending e.signal ≡ true
+  pub first : (signal : ℕ) → 1 ≤ signal → env.pending signal ≡ true → reason S (with_signal e signal) ≡ None → (1 ≤ e.signal) × (e.signal ≤ signal)
+
+abbrev pub LowestFirst : Type 0
+LowestFirst = (S : State) (t : ℕ) (env : Env) → StateFits S → S.events < 2 ^ 61 → EnvFits env → (e : Event) → live S t env ≡ Some e → BearsLowest S env e.entry
+
 -- a datagram with this tag, or without one, and this payload
 abbrev pub datagram_as : Option Tag → List ℕ → List ℕ
 datagram_as None payload = payload

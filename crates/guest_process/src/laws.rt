@@ -3,12 +3,21 @@ ghost use Rattle.guest_process.specs.Crews.{LockKept, OnlySpawnAdds, OtherThread
 ghost use Rattle.guest_process.specs.EventCount.{BeginsFresh, CountsEvents};
 ghost use Rattle.guest_process.specs.Marks.{UnmarkedStays};
 ghost use Rattle.guest_process.specs.Numbers.{LegalNumbers, LegalTraffic};
-ghost use Rattle.guest_process.specs.OneEvent.{IsKeptByEvents, IsKeptSound, IsStarted, OneEvent, Possible, Rises, WorldIsThere};
+ghost use Rattle.guest_process.specs.OneEvent.{IsKeptByEvents, IsKeptSound, IsStarted, LowestFirst, OneEvent, Possible, Rises, WorldIsThere};
 
 /// An event that the world let a process have has the shape of its kind and is legal where it comes,
 /// and the state after it is the one that its entry alone tells.
 pub fn one_event()
     ensures { OneEvent }
+{
+    lamport_tag::laws::cut_short();
+    lamport_tag::laws::tags_read_back();
+}
+
+/// An event that the world let a process have delivers the lowest of the signals that are pending and may be delivered there. It
+/// delivers none only where none may be.
+pub fn lowest_first()
+    ensures { LowestFirst }
 {
     lamport_tag::laws::cut_short();
     lamport_tag::laws::tags_read_back();

@@ -1,5 +1,5 @@
--- The outcome of recording the schedule that was printed is work, whose logs are those of the replays.
-use Rattle.std.proofs.Common.{◌≡◌, ◌∙◌, ◌+◌, ℕ, zero, suc, false, List, [], ◌∷◌, length, map, Option, Some, Result, Ok, append-nil, ap, arith, refl}
+-- The outcome of recording the schedule that was printed is the work of the run that goes back to the replays.
+use Rattle.std.proofs.Common.{◌≡◌, ◌∙◌, ◌+◌, ℕ, zero, suc, Bool, List, [], ◌∷◌, length, map, Option, Some, Result, Ok, ap, arith, refl}
 use Rattle.std.specs.Prelude.{slice_get}
 use Rattle.std.specs.FinMap.{get}
 use Rattle.std.proofs.lemmas.Option.{same_Some}
@@ -9,7 +9,7 @@ use Rattle.wasm_decode.specs.Sections.{module_of_bytes}
 use Rattle.guest_process.specs.Start.{start}
 use Rattle.guest_process.specs.State.{State}
 use Rattle.group_record.specs.Answer.{first_states, first_states_from, with_first_state}
-use Rattle.group_record.specs.Logs.{files_from, log_name, logs_of_steps}
+use Rattle.group_record.specs.Logs.{files_from, log_name}
 use Rattle.proc_replay.specs.Replaying.{Replaying}
 use Rattle.schedule_text.specs.Laws.{TextIsRead}
 use Rattle.schedule_text.specs.Limits.{most_schedule}
@@ -21,7 +21,8 @@ use Rattle.schedule_back.specs.Laws.{RecordsBack, back_group, back_run}
 use Rattle.command_run.specs.Inputs.{module_in, spelled_module, valid_module}
 use Rattle.command_run.specs.Laws.{ReadsModules}
 use Rattle.command_run.specs.Limits.{most_module}
-use Rattle.command_run.specs.Outcome.{CommandStop, CommandWork, and_then, bytes_or_stop}
+use Rattle.command_run.specs.Outcome.{CommandStop, and_then, bytes_or_stop}
+use Rattle.record_command.specs.Agreement.{IsRecordable, group_in, run_in}
 use Rattle.record_command.specs.Expected.{group_outcome, modules_of, record_outcome, schedule_in, schedule_or_refusal}
 use Rattle.record_command.specs.Record.{outcome_by_room, recorded_work}
 
@@ -67,9 +68,10 @@ gathered later count p (line ∷ lines) [] all = absurd all
 -- ---- the outcome
 
 pub record Recorded (lines : List ProcessLine) (start : List Replaying) (later : Folder) (schedule_name : List ℕ) : Type 0 where
-  pub work : CommandWork
-  pub is : record_outcome false schedule_name later ≡ Ok work
-  pub writes : work.writes ≡ logs_of_steps (back_group lines start) (back_run lines start).steps
+  pub recordable : IsRecordable later schedule_name
+  pub group : group_in recordable ≡ back_group lines start
+  pub run : run_in recordable ≡ back_run lines start
+  pub work : (images : Bool) → record_outcome images schedule_name later ≡ Ok (recorded_work images (group_in recordable) (run_in recordable))
 
 pub recorded : ReadsModules → TextIsRead → (lines : List ProcessLine) (start : List Replaying) (text : List ℕ) (later : Folder) (schedule_name : List ℕ)
     → RecordsBack lines start text → get later schedule_name ≡ Some text → AllBeginAs later (length lines) 0 lines start → Recorded lines start later schedule_name
@@ -82,12 +84,14 @@ recorded reads read_back lines start text later name back_is held begin =
     ap (λ (r : Result (List ℕ) CommandStop). and_then r (λ bytes. schedule_or_refusal name (schedule_of bytes))) (reads.files later name most_schedule text (record { held = held; within = back_is.short }))
     ∙ ap (schedule_or_refusal name) spelled in
     record {
-      work = recorded_work false (back_group lines start) (back_run lines start);
-      is = ap (λ (r : Result Schedule CommandStop). and_then r (λ schedule. and_then (modules_of later schedule.processes) (λ modules. group_outcome false name schedule (first_states schedule modules)))) in_file
-          ∙ ap (λ (r : Result (List Module) CommandStop). and_then r (λ modules. group_outcome false name s (first_states s modules))) g.found
-          ∙ ap (group_outcome false name s) g.states
-          ∙ ap (outcome_by_room false name (back_group lines start) (back_run lines start)) back_is.room;
-      writes = append-nil (logs_of_steps (back_group lines start) (back_run lines start).steps);
+      recordable = record { schedule = s; spelled = in_file; modules = g.modules; found = g.found; first = states; begins = g.states };
+      group = refl;
+      run = refl;
+      work = λ images.
+          ap (λ (r : Result Schedule CommandStop). and_then r (λ schedule. and_then (modules_of later schedule.processes) (λ modules. group_outcome images name schedule (first_states schedule modules)))) in_file
+          ∙ ap (λ (r : Result (List Module) CommandStop). and_then r (λ modules. group_outcome images name s (first_states s modules))) g.found
+          ∙ ap (group_outcome images name s) g.states
+          ∙ ap (outcome_by_room images name (back_group lines start) (back_run lines start)) back_is.room;
     }
 
 -- ---- the files

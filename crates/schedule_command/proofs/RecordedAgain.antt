@@ -15,8 +15,8 @@ use Rattle.call_log.specs.Log.{Unread, entries_of, rest_of_log, rewritten_log}
 use Rattle.guest_process.specs.OneEvent.{IsStarted}
 use Rattle.guest_process.specs.Start.{start as start_of}
 use Rattle.guest_process.specs.State.{State}
-use Rattle.group_record.specs.Logs.{log_name}
-use Rattle.group_record.specs.Run.{log_of}
+use Rattle.group_record.specs.Logs.{log_name, logs_of_steps}
+use Rattle.group_record.specs.Run.{RunProgress, log_of}
 use Rattle.proc_replay.specs.AtHead.{IsAtHead}
 use Rattle.proc_replay.specs.Replaying.{Replaying}
 use Rattle.schedule_text.specs.Laws.{TextIsRead}
@@ -27,6 +27,7 @@ use Rattle.schedule_back.specs.Outcome.{text_or_refusal}
 use Rattle.schedule_back.specs.Meanings.{BringBytes}
 use Rattle.command_run.specs.Inputs.{module_in}
 use Rattle.command_run.specs.Laws.{ReadsModules}
+use Rattle.record_command.specs.Agreement.{group_in, steps_in}
 use Rattle.log_files.specs.Logs.{log_in}
 use Rattle.log_pairs.specs.Pairs.{Loaded, Pair, loaded_pairs, replays_of, sort_replays}
 use Rattle.schedule_command.specs.Laws.{IsRecordedAgain, IsRecording, RecordsToLogs}
@@ -159,8 +160,14 @@ module _ (exact : ExactLogs) (rewritten_read : RewrittenIsRead) (reads : ReadsMo
       done : Recorded lines start later schedule_name
       done = recorded reads read_back lines start text later schedule_name back_is held (begin_as later same)
 
+      abbrev files : List (List ℕ × List ℕ)
+      files = logs_of_steps (group_in done.recordable) (steps_in done.recordable)
+
+      writes : files ≡ logs_of_steps (back_group lines start) (back_run lines start).steps
+      writes = λ i. logs_of_steps (done.group i) (done.run i).steps
+
       -- the log of a pair is among the files
-      again : (j : ℕ) (pair : Pair) → slice_get pairs j ≡ Some pair → IsRecordedAgain folder done.work.writes pair
+      again : (j : ℕ) (pair : Pair) → slice_get pairs j ≡ Some pair → IsRecordedAgain folder files pair
       again j pair at =
           let r = replay_of_pair folder pairs ls rs found.read found.begin j pair at in
           let of = pair_of_replay folder pairs ls rs found.read found.begin j r.0 r.1 in
@@ -177,7 +184,7 @@ module _ (exact : ExactLogs) (rewritten_read : RewrittenIsRead) (reads : ReadsMo
           let shaped = ((exact.all l.left (entries_of l.left) (rest_of_log l.left)).1 (refl, refl)).shaped in
           let newer = rewritten_read l.head (entries_of l.left) log_file.in_range shaped in
           let none_left : rest_of_log l.left ≡ [] = ap rest_of_log (sym of.begins.left) ∙ back_is.rest has.place r.0 has.is in
-          let there = ap (λ files. slice_get files has.place) done.writes ∙ file
+          let there = ap (λ files. slice_get files has.place) writes ∙ file
           ∙ ap (λ (h : Head). Some (log_name h.name, log_of (back_group lines start) (back_run lines start).steps (0 + has.place))) of.begins.head
           ∙ ap (λ (b : List ℕ). Some (log_name l.head.name, b)) bytes_are in
           record {
@@ -185,7 +192,7 @@ module _ (exact : ExactLogs) (rewritten_read : RewrittenIsRead) (reads : ReadsMo
             left = l.left;
             was = was;
             bytes = rewritten_log l.head (entries_of l.left);
-            written = contains done.work.writes has.place (log_name l.head.name, rewritten_log l.head (entries_of l.left)) there;
+            written = contains files has.place (log_name l.head.name, rewritten_log l.head (entries_of l.left)) there;
             newer = newer.left;
             found = newer.found;
             entries = newer.entries;
@@ -195,11 +202,13 @@ module _ (exact : ExactLogs) (rewritten_read : RewrittenIsRead) (reads : ReadsMo
 
       recording : IsRecording pairs folder later schedule_name
       recording = record {
+        recordable = done.recordable;
+        idle = ap (λ (p : RunProgress). p.idle) done.run ∙ back_is.idle;
+        room = ap (λ (p : RunProgress). p.full) done.run ∙ back_is.room;
         work = done.work;
-        is = done.is;
-        count = ap length done.writes ∙ file_count 0 (map (λ (line : ProcessLine). line.name) lines) (log_of (back_group lines start) (back_run lines start).steps)
+        count = ap length writes ∙ file_count 0 (map (λ (line : ProcessLine). line.name) lines) (log_of (back_group lines start) (back_run lines start).steps)
             ∙ length_map_names lines ∙ length_lines_of pairs ls start ∙ length_sorted [] rs ∙ from_zero (length rs) ∙ sym (same_lengths folder pairs ls rs found.read found.begin);
-        logs = All-from_recursion (IsRecordedAgain folder done.work.writes) pairs (all_by_place (IsRecordedAgain folder done.work.writes) pairs again);
+        logs = All-from_recursion (IsRecordedAgain folder files) pairs (all_by_place (IsRecordedAgain folder files) pairs again);
       }
 
     pub records_back : RecordsToLogs pairs folder text

@@ -1,15 +1,17 @@
 -- What is so of all schedules that are made of logs.
-use Rattle.std.specs.Prelude.{◌≡◌, ℕ, List, [], length, false, All, Contains, Some, Ok}
+use Rattle.std.specs.Prelude.{◌≡◌, ℕ, Bool, List, [], length, All, Contains, Some, None, Ok}
 use Rattle.std.specs.FinMap.{get}
 use Rattle.fri_outside.specs.Outside.{Folder}
 use Rattle.call_log.specs.declared.version.Version.TheVariants.{Two}
 use Rattle.call_log.specs.Head.{Head}
 use Rattle.call_log.specs.Log.{Unread, entries_of, head_at, rest_of_log}
-use Rattle.group_record.specs.Logs.{log_name}
+use Rattle.group_record.specs.Logs.{log_name, logs_of_steps}
 use Rattle.command_run.specs.Outcome.{CommandWork}
 use Rattle.log_files.specs.Logs.{log_in}
 use Rattle.log_pairs.specs.Pairs.{Pair}
+use Rattle.record_command.specs.Agreement.{IsRecordable, group_in, run_in, steps_in}
 use Rattle.record_command.specs.Expected.{record_outcome}
+use Rattle.record_command.specs.Record.{recorded_work}
 use Rattle.schedule_command.specs.Schedule.{schedule_outcome}
 use Rattle.schedule_command.specs.Valid.{CanBeScheduled}
 
@@ -27,12 +29,15 @@ pub record IsRecordedAgain (folder : Folder) (writes : List (List ℕ × List �
   pub rest : rest_of_log newer ≡ []
   pub same : head.version ≡ Two → get folder pair.log_name ≡ Some bytes
 
--- the outcome of recording is work, which makes a log for each of the pairs and nothing else
+-- The files are a schedule and its modules, and in the run of its items none is idle and no log is full. The outcome of recording
+-- is the work of that run: it makes a log for each of the pairs, and of other files the images of that run where they are asked for.
 pub record IsRecording (pairs : List Pair) (folder later : Folder) (schedule_name : List ℕ) : Type 0 where
-  pub work : CommandWork
-  pub is : record_outcome false schedule_name later ≡ Ok work
-  pub count : length work.writes ≡ length pairs
-  pub logs : All (IsRecordedAgain folder work.writes) pairs
+  pub recordable : IsRecordable later schedule_name
+  pub idle : (run_in recordable).idle ≡ 0
+  pub room : (run_in recordable).full ≡ None
+  pub work : (images : Bool) → record_outcome images schedule_name later ≡ Ok (recorded_work images (group_in recordable) (run_in recordable))
+  pub count : length (logs_of_steps (group_in recordable) (steps_in recordable)) ≡ length pairs
+  pub logs : All (IsRecordedAgain folder (logs_of_steps (group_in recordable) (steps_in recordable))) pairs
 
 -- wherever a file holds this text and the modules stand as they stood, recording it makes the logs again
 abbrev pub RecordsToLogs : List Pair → Folder → List ℕ → Type 0

@@ -14,6 +14,6 @@ PrintsConverse pairs folder before after = (text : List ℕ) × (after ≡ befor
 pub record SchedulePromises (pairs : List Pair) (old new : Outside) (answer : Status) : Type 0 where
   pub input : LeavesInput old new answer
   -- the schedule that is printed of a whole group's logs: wherever a file holds it and the modules stand as they stood,
-  -- recording it comes to work, and leaves logs with the same heads but for the version and the same entries, byte for byte
-  -- where the logs were of the version of recordings
+  -- recording it comes to work in which no item is idle, and leaves logs with the same heads but for the version and the same
+  -- entries, byte for byte where the logs were of the version of recordings; and the images of that run where they are asked for
   pub converse : answer ≡ ends.Done → WhenTold old.told (λ folder. WhenTold old.taken (λ before. WhenTold new.taken (PrintsConverse pairs folder before)))
