@@ -70,20 +70,18 @@ class Breakpoints:
 
     # What a breakpoint has beside its place
 
-    def more(self, breakpoint, node):
-        """Condition, count and message as a point has them; names of variables are those of a process."""
-        condition = self.engine.names.qualified(breakpoint.get("condition") or "", node)
-        message = breakpoint.get("logMessage")
-        return {
-            "condition": condition.strip(),
-            "program": "say %s" % self.items(message, node) if message else "",
-            "hits": hits_test(breakpoint.get("hitCondition")),
-        }
+    def more(self, breakpoint, node=None):
+        """Condition, count and message as a point has them. Names of variables are those of a process, or of the one whose event it is."""
+        condition, message = breakpoint.get("condition") or "", breakpoint.get("logMessage")
+        program = "say %s" % self.items(message) if message else ""
+        if node:
+            condition, program = (self.engine.names.qualified(text, node) for text in (condition, program))
+        return {"condition": condition.strip(), "program": program, "hits": hits_test(breakpoint.get("hitCondition"))}
 
-    def items(self, message, node):
+    def items(self, message):
         """A log message as items of `say`: text, and values in braces."""
         parts = re.split(r"\{([^{}]*)\}", LOG + "%d " % (self.engine.points.last + 1) + message)
-        shown = [self.engine.names.qualified(part, node) if at % 2 else '"%s"' % re.sub(r"[^ !#-~]", "?", part) for at, part in enumerate(parts)]
+        shown = [part if at % 2 else '"%s"' % re.sub(r"[^ !#-~]", "?", part) for at, part in enumerate(parts)]
         return ", ".join(part for part in shown if part != '""')
 
     # Kinds of breakpoints
@@ -97,16 +95,7 @@ class Breakpoints:
     def in_file(self, path, breakpoint):
         """At calls in the line, or in the next one of the function that has some."""
         file, line, nodes = self.place(path, breakpoint["line"])
-        points = []
-        try:
-            for node in nodes:
-                points += self.engine.points.break_in("%s %s:%d" % (node, file, line), **self.more(breakpoint, node))
-        except Refusal:
-            # All of its processes, or none.
-            for point in points:
-                self.delete(point)
-            raise
-        return points, {"line": line}
+        return self.engine.points.break_in("%s %s:%d" % (",".join(nodes), file, line), **self.more(breakpoint)), {"line": line}
 
     def place(self, path, wanted):
         """The file, the line and the processes of the first calls from this line on."""
@@ -136,8 +125,8 @@ class Breakpoints:
             return self.engine.points.watch(self.engine.names.qualified(rest, node), **self.more(breakpoint, node)), {}
         words = name.split()
         if words and words[-1] in CALL_NAMES:
-            return self.engine.points.break_at_call("* " + name if len(words) == 1 else name, **self.more(breakpoint, node)), {}
-        return self.engine.points.break_in(name, **self.more(breakpoint, node)), {}
+            return self.engine.points.break_at_call("* " + name if len(words) == 1 else name, **self.more(breakpoint)), {}
+        return self.engine.points.break_in(name, **self.more(breakpoint)), {}
 
     def on_setDataBreakpoints(self, breakpoints, **_):
         return self.put("data breakpoint", breakpoints, self.at_data)
@@ -155,7 +144,7 @@ class Breakpoints:
         return self.put("exception", wanted, self.at_call)
 
     def at_call(self, breakpoint):
-        return self.engine.points.break_at_call("* " + breakpoint["filterId"], **self.more(breakpoint, self.engine.current)), {}
+        return self.engine.points.break_at_call("* " + breakpoint["filterId"], **self.more(breakpoint)), {}
 
     def on_dataBreakpointInfo(self, name, variablesReference=0, frameId=None, **_):
         text = self.adapter.looks.path_of(variablesReference, name) if variablesReference else self.engine.names.qualified(name, self.adapter.looks.node_of(frameId))

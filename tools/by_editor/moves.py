@@ -106,7 +106,7 @@ class Moves:
         self.adapter.after = [self.walk_back]
 
     def walk_back(self):
-        answer = self.engine.points.back(is_paused=self.adapter.is_paused)
+        answer = self.engine.back(is_paused=self.adapter.is_paused)
         if answer is None:
             self.stopped("pause")
         else:

@@ -164,6 +164,8 @@ def check_points(program, folder):
     same("end", entered(editor), 125)
     condition = {"line": 65, "condition": "balances[0] == 90 && me == 0"}
     editor.ask("setBreakpoints", source=source, breakpoints=[condition])
+    listed = editor.ask("evaluate", expression=":l", context="watch")["result"]
+    assert listed.startswith("1 break * * if (!@!.ended && ") and "\n2 " not in listed, listed
     alone = [editor.move("reverseContinue", threadId=1)[0] for _ in range(2)]
     editor.move("goto", targetId=125, threadId=1)
     editor.ask("setBreakpoints", source=source, breakpoints=[condition, {"line": 127, "logMessage": "me {me} took {taken_count}"}])

@@ -7,7 +7,7 @@ import functools
 import re
 import time
 
-from asking.conversation import Conversation
+from asking.conversation import Conversation, Paused
 from logs.index import Index
 from sessions.names import Names, Refusal
 from sessions.places import Threads
@@ -50,10 +50,10 @@ class Engine(Reading):
         self.on_line(sent)
         if verb in WALKS:
             self.variables = list(self.debugger.ask("vars"))
-        answers = []
-        for answer in self.debugger.ask(sent):
-            answers.append(self.points.told(answer) if verb in WALKS else answer)
-            told(answers[-1])
+        answers, lines = [], self.debugger.ask(sent)
+        for answer in self.points.in_words(lines) if verb in WALKS else lines:
+            answers.append(answer)
+            told(answer)
         if len(answers) == 1 and answers[0].startswith("? "):
             return Answer(sent, answers, True)
         self.sent.append(sent)
@@ -77,6 +77,17 @@ class Engine(Reading):
             for line in lines:
                 self.on_line(line)
         return self.ask_each(lines)
+
+    def back(self, told=ignored, is_paused=None):
+        """Back to where a point fired last that may stop there. If that is paused it is given up, with None as the answer."""
+        self.debugger.is_paused = is_paused
+        try:
+            return self.ask("rcontinue", told)
+        except Paused:
+            self.give_up()
+            return None
+        finally:
+            self.debugger.is_paused = None
 
     def give_up(self):
         """Leaves a walk, by a new program that is brought to where the session was."""

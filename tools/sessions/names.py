@@ -61,17 +61,35 @@ class Names:
 
     def qualified(self, text, node):
         """The text with the process before each variable that has none and that this process has."""
+        return self.completed(text, [node], lambda path: "%s.%s" % (node, path))
+
+    def of_event(self, text, nodes):
+        """The text with the place of each variable that has no process: in the one whose event it is, which is one of these."""
+        script = Script({node: self.tables[node] for node in nodes if node in self.tables})
+        return self.completed(text, nodes, lambda path: script.expanded("@!.{%s}" % self.indexed("!", path)))
+
+    def completed(self, text, nodes, spell):
+        """The text with what `spell` makes of each path that has no process and begins with a variable of one of these."""
 
         def named(at):
             if found := self.reference(text, at):
                 return text[at : found[2]], found[2]
             name = NAME.match(text, at)
-            if name is None or name[0] in KEPT_WORDS or text[name.end() : name.end() + 1] == "(" or not self.is_variable(node, name[0]):
+            if name is None or name[0] in KEPT_WORDS or text[name.end() : name.end() + 1] == "(":
+                return None
+            if not any(self.is_variable(node, name[0]) for node in nodes):
                 return None
             end = end_of_path(text, at)
-            return "%s.%s" % (node, text[at:end]), end
+            return spell(text[at:end]), end
 
         return replaced(text, named)
+
+    def modules_of(self, nodes):
+        """These processes in lists, those of one module in each."""
+        found = {}
+        for node in nodes:
+            found.setdefault(self.tables[node].digest, []).append(node)
+        return list(found.values())
 
     def spelled(self, text):
         """The text as a script spells it: @NODE.{PATH} for NODE.PATH, and @NODE.clock for NODE.clock."""
