@@ -42,6 +42,11 @@ AT_END = {
     "a 3": ("sleep_until", "keep_time", "kit/runtime.c", "liblog_sleep_until("),
     "b 0": ("recv", "_start", "lines.c", "liblog_recv("),
 }
+# Where functions are in the source, by the lines with which they begin.
+FUNCTIONS = {
+    "_start": ("lines.c", "void _start("), "late": ("lines.c", "void late("), "wait_for": ("lines.c", "void wait_for("),
+    "wait_in_header": ("lines.h", "void wait_in_header("), "thread_start": ("kit/threads.c", "thread_start)("),
+}
 # The places of the process a in the order in which its threads come to them.
 COURSE = (
     ("on_signal", "_start", "lines.c", "liblog_on_signal("), ("spawn", "_start", "lines.c", "thread_start(late"),
@@ -74,6 +79,20 @@ def run(words, folder, typed="", wanted=0):
 def session(program, folder, typed, wanted=0):
     words = [sys.executable, os.path.join(TOOLS, "session"), "--program", program, "lines.wasm", "a.log", "lines.wasm", "b.log"]
     return run(words, folder, "".join(line + "\n" for line in typed), wanted)
+
+
+def check_functions(folder):
+    """Each function of the module has the lines at which it begins and ends in its file."""
+    with open(os.path.join(folder, "lines.places")) as file:
+        found = {words[2]: words[3:] for words in map(str.split, file) if words[0] == "function"}
+    assert FUNCTIONS.keys() <= found.keys() and "inlined" not in found, found
+    for name, (file, begin) in FUNCTIONS.items():
+        with open(os.path.join(GUESTS, *(["check", file] if file[:4] != "kit/" else [file[4:]]))) as text:
+            lines = text.read().splitlines()
+        first = next(number for number, line in enumerate(lines, 1) if begin in line and not line.endswith(";"))
+        brace = next(number for number, line in enumerate(lines, 1) if number > first and line == "}")
+        # What returns in the line before may leave none for the brace.
+        assert found[name][:2] == [file, str(first)] and brace - 1 <= int(found[name][2]) <= brace, (name, found[name], first, brace)
 
 
 def check_threads(program, folder):
@@ -150,6 +169,7 @@ def main():
         with open(os.path.join(folder, "schedule"), "w") as file:
             file.write(SCHEDULE)
         run([program, "record", "schedule"], folder)
+        check_functions(folder)
         for check in (check_threads, check_course, check_points, check_kept, check_conditions, check_refused):
             check(program, folder)
     print("lines: as expected")
