@@ -81,6 +81,12 @@ class FunctionPlace:
     first: int = 0
     last: int = 0
 
+    @property
+    def words(self):
+        """Its name, with its file and lines behind it."""
+        lines = "%d-%d" % (self.first, self.last) if self.last > self.first else str(self.first)
+        return self.name + (", %s:%s" % (self.file, lines) if self.file else "")
+
 
 def array_of(type_):
     """The type of an element and the number of elements, or None where the type is no array."""

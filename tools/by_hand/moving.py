@@ -22,8 +22,8 @@ def go_on(session, rest, form):
     if rest and (not rest.isdigit() or not 1 <= int(rest) <= MOST_TIMES):
         raise Refusal("c wants no word, or how many stops are meant")
     for _ in range(int(rest or 1) - 1):
-        answer = session.engine.ask("continue")
-        if answer.lines[:1] == ["end"]:
+        answer = session.walked(session.engine.last)
+        if answer.how:
             for line in answer.lines:
                 session.print_event(line)
             return

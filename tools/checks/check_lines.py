@@ -100,7 +100,8 @@ def check_threads(program, folder):
     assert "\n    a 1 has ended\na running\n" in told and "\n1 ended\n" in told, told
     for thread, place in AT_END.items():
         node, number = thread.split()
-        form = r"\n%s at %s .*%s\n" % (number, *map(re.escape, spelled(place)))
+        outside = " < begin" if number != "0" else ""
+        form = r"\n%s at %s .*%s%s\n" % (number, *map(re.escape, spelled(place)), outside)
         assert re.search(form, told[told.index(node + " running") :]), (thread, told)
 
 

@@ -1,6 +1,6 @@
 #!/usr/bin/env python3
 """Checks tools/session over the logs of examples/lost_update: what lines typed by hand answer, that the saved script is
-answered by the debugger alone with the same values, that points come back from a file, and that Ctrl-C gives up a walk.
+answered by the debugger alone with the same values, that points come back from a file, and that Ctrl-C pauses a walk.
 
 check_session.py [PROGRAM]   (the program that answers ./friday, if none is given)
 """
@@ -46,7 +46,19 @@ TYPED = (
     ("p north.balances[0] + north.events", r"\d+"),
     ("p nobody.x", r"\? 1 syntax at column 7\n    print nobody.x\n          \^"),
     ("p north.nothing", r"\? bank.wasm has no variable nothing"),
-    ("finish", r"\? finish: a replay tells no frames.*\n"),
+    ("finish", r"\? north 1 does not leave take_all up to the end\n"),
+    ("up", r"#1  begin, kit/threads.c:14-22\n +14  static void begin\("),
+    ("up", r"\? the frames of north 1 are #0 to #1\n"),
+    ("list .", r"     9  .*\n(.*\n){4}>   14  static void begin\("),
+    ("down", r"#0  take_all, bank.c:122-134\n   122  static void take_all\("),
+    ("frame 2", r"\? the frames of north 1 are #0 to #1\n"),
+    ("frame x", r"\? frame wants a number"),
+    ("where", r"53: 24 north 1 send .*\n.*\nnorth 1 at recv 2176 16 2172\n#0  take_all, "),
+    ("bt south", r"south 0 at begin\n#0  _start, bank.c:149-165\n|south \d "),
+    ("bt 3", r"north 3 at print 4128 25\n#0  print_two, print_two.h:16-24\n#1  serve, bank.c:81-92\n#2  begin, kit/threads.c:14-22\n$"),
+    ("bt 77", r"\? north has no thread 77\n"),
+    ("bt nobody", r"\? bt wants a process, .* north, south, east\n"),
+    ("t north", r"(?s).*\n1 at recv 2176 16 2172 in take_all, bank.c:122-134 < begin\n"),
     ("hbreak x", r"\? hbreak: `b` makes all points"),
     ("info locals", r"\? info: local variables are not told"),
     ("wibble", r"\? 1 syntax at column 1\n    wibble is no word here"),
@@ -55,7 +67,7 @@ TYPED = (
     ("set $n = 7", ""),
     ("p $n + 1", "8"),
     ("x/16xb north 5328", r"  5328  (..[ ]){16}"),
-    ("bt", "north running\n0 at "),
+    ("bt", r"north 1 at recv 2176 16 2172\n#0  take_all, bank.c:122-134\n#1  begin, kit/threads.c:14-22\n$"),
     ("b north lock if @north.clock > 12", "point 2"),
     ("run", "at 0"),
     ("c", "break 2\nat [0-9]+: [0-9]+ north [0-9] lock"),
@@ -64,7 +76,7 @@ TYPED = (
     ("info threads", "north running\n0 at .*"),
     ("names north balances", r"north.bank::balances  i64\[2\]"),
     ("help", "moving .*"),
-    ("help finish", "a replay tells no frames"),
+    ("help finish", r" +frame N  up  down .*finish goes on"),
     ("help tbreak", "points .*tbreak does so once"),
     ("help nothing", "nothing is no word here"),
 )
@@ -237,40 +249,58 @@ def check_kept(program, folder):
     assert again.startswith("point 1\n1 watch sum(") and "$seen %s\n" % seen in again, again
 
 
-# Answers lines as the debugger would, and stays at its first `continue` for ever.
+# Answers lines as the debugger would, and takes so many seconds for a part of a walk.
 STAND_IN = """#!/usr/bin/env python3
 import sys, time
 print("at 0", flush=True)
+position = 0
 for line in sys.stdin:
     verb, _, rest = line.strip().partition(" ")
-    if verb == "continue":
-        time.sleep(1000)
+    print("[%%s]" %% line.strip(), file=open("asked", "a"))
+    position = int(rest) if verb == "goto" else position
+    if verb in ("continue", "rcontinue"):
+        time.sleep(%g)
+        position += int(rest)
+        print("paused")
     answers = {"print": rest, "watch": "point 1", "vars": "$n 7", "list": "1 watch 1"}
-    answer = "at " + rest if verb == "goto" else answers.get(verb)
-    print("[%s]" % line.strip(), file=open("asked", "a"))
+    answer = "at %%d" %% position if verb in ("goto", "continue") else answers.get(verb)
     if answer:
         print(answer, flush=True)
 """
 
 
-def check_given_up(folder):
-    """Ctrl-C in a walk leaves the session at its old position, with its points, programs and variables."""
+def interrupted(folder, seconds, lines, line, times):
+    """What is said, and what the debugger was asked, where Ctrl-C comes in a line, so many times."""
     stand_in, pairs = os.path.join(folder, "stand_in"), [os.path.join(LOGS, word) for word in PAIRS]
     with open(stand_in, "w") as file:
-        file.write(STAND_IN)
+        file.write(STAND_IN % seconds)
     os.chmod(stand_in, 0o755)
     words = [sys.executable, os.path.join(TOOLS, "session"), "--program", stand_in, *pairs]
     run = subprocess.Popen(words, stdin=subprocess.PIPE, stdout=subprocess.PIPE, text=True, cwd=folder)
-    run.stdin.write("goto 9\nwatch 1\ndo 1 stop\ncontinue\np 3\n")
+    run.stdin.write(lines)
     run.stdin.flush()
-    wait_for(os.path.join(folder, "asked"), "[vars]")
-    time.sleep(0.3)
-    run.send_signal(signal.SIGINT)
+    wait_for(os.path.join(folder, "asked"), line)
+    for _ in range(times):
+        time.sleep(0.3)
+        run.send_signal(signal.SIGINT)
     out, _ = run.communicate("q\n", timeout=60)
     with open(os.path.join(folder, "asked")) as file:
         asked = [line for line in file.read().splitlines() if not re.fullmatch(r"\[print \d{5,}\]", line)]
-    assert "given up; going back to position 9\n3\n" in out and run.returncode == 0, out
-    assert asked[-5:] == ["[set $n 7]", "[watch 1]", "[do 1 stop]", "[goto 9]", "[print 3]"], asked
+    os.remove(os.path.join(folder, "asked"))
+    assert run.returncode == 0, out
+    return out, asked
+
+
+def check_interrupted(folder):
+    """Ctrl-C in a walk leaves the session where the walk is. A second one gives up what does not come to an end, as does the first in a
+    walk back, with the points, programs and variables as they were."""
+    lines, restored = "goto 9\nwatch 1\ndo 1 stop\n%s\np 3\n", ["[set $n 7]", "[watch 1]", "[do 1 stop]", "[goto 9]", "[print 3]"]
+    for walk, asked_for, times in (("continue", "[continue 16]", 2), ("rc", "[rcontinue]", 1)):
+        out, asked = interrupted(folder, 1000, lines % walk, asked_for, times)
+        assert "given up; going back to position 9\n3\n" in out and asked[-5:] == restored, (out, asked)
+    out, asked = interrupted(folder, 0.2, lines % "continue", "[continue 16]", 1)
+    found = re.search(r"\npaused\nat (\d+)\n3\n$", out)
+    assert found and 25 <= int(found[1]) < 125 and asked.count("[goto 9]") == 1 and asked[-1] == "[print 3]", (out, asked)
 
 
 def wait_for(path, text):
@@ -293,7 +323,7 @@ def main():
         with tempfile.TemporaryDirectory() as folder:
             check(program, folder)
     with tempfile.TemporaryDirectory() as folder:
-        check_given_up(folder)
+        check_interrupted(folder)
     print("session: as expected")
 
 

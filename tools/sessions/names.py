@@ -32,12 +32,14 @@ class Names:
 
     def read_tables(self, told):
         """Reads the places beside each module; `told` hears of processes without names."""
-        self.tables = {}
+        self.tables, self.functions = {}, {}
         for node, module in self.modules.items():
             try:
                 self.tables[node] = read_table(os.path.splitext(module)[0] + ".places")
             except Refusal as refusal:
                 told("no names for %s: %s" % (node, printable(str(refusal))))
+                continue
+            self.functions[node] = {function.number: function for function in self.tables[node].functions}
         self.script = Script(self.tables)
 
     def variables(self, node):

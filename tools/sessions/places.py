@@ -107,6 +107,20 @@ class Threads:
             self.standings[node] = first.partition(" ")[2], {int(stands[1]): stands[2] for stands in found if stands}
         return self.standings[node]
 
+    def how(self, node, thread):
+        """At which call a thread waits, or that it has ended; of a process that does not run any more how that ended."""
+        state, threads = self.standing(node)
+        return threads.get(thread, "ended" if state == "running" else state)
+
+    def last_thread(self, node):
+        """The thread that made the last event of a process up to here, or 0."""
+        last = self.engine.at_or_before(self.engine.index.of_process[node])
+        return self.engine.index.thread_at(last)[1] if last else 0
+
+    def trapped(self, node):
+        """The thread in whose run the process trapped, or None."""
+        return self.last_thread(node) if self.standing(node)[0].startswith("trapped ") else None
+
     def keeps_places(self, node):
         return last_call(self.engine.names, node) is not None
 
