@@ -6,6 +6,7 @@ cannot be all of what, where, why and what to do, the case says why.
 
 from __future__ import annotations
 
+import hashlib
 import os
 from dataclasses import dataclass, field, replace
 
@@ -96,6 +97,17 @@ MODULES = (
     refused("too large", module() + section(0, named("padding") + bytes(4_194_304))),
     refused("data past its memory", module(data=b"\xfa\xff\x03\x0b" + vector([bytes([byte]) for byte in range(10)]))),
     refused("an addition without operands", module(body=b"\x6a\x1a")),
+)
+
+
+# ---- traps
+
+# A guest that asks for the time and then comes to an `unreachable`.
+TRAPPING = {"t.wasm": module(body=b"\x10\0\x1a\0"), "s": "friday 1\nprocess t t.wasm\nrun 0 0 3\n"}
+PLACES = "module t.wasm %s\nfunction 1 _start guest.c 3 9\n" % hashlib.sha256(TRAPPING["t.wasm"]).hexdigest()
+TRAPS = (
+    Case("a trap in a function that the module names", "record s", TRAPPING, "> out"),
+    Case("a trap in a function that places tell", "record s", {**TRAPPING, "t.places": PLACES}, "> out"),
 )
 
 
