@@ -102,11 +102,18 @@ class Breakpoints:
         names = self.engine.names
         calls = [(node, call) for node in names.nodes for call in calls_of(names, node) if is_file(call.file, path)]
         line = min((call.line for _, call in calls if call.line >= wanted), default=None)
-        if line is None or ends_between(path, wanted, line):
+        if line is None or self.ends_between(path, wanted, line):
             words = "%s:%d" % (calls[0][1].file if calls else os.path.basename(path), wanted)
             raise Refusal(advice(names, names.nodes, words))
         found = [(node, call) for node, call in calls if call.line == line]
         return found[0][1].file, line, sorted({node for node, _ in found}, key=names.nodes.index)
+
+    def ends_between(self, path, first, last):
+        """Whether the function of one line ends before another one; of a function that was put into others its brace in the source tells."""
+        names = self.engine.names
+        ends = [function.last for node in names.functions for function in names.functions[node].values()
+                if is_file(function.file, path) and function.first <= first <= function.last]
+        return max(ends) < last if ends else has_brace_between(path, first, last)
 
     def in_events(self, breakpoint):
         """At a line of the list of events, which is a position."""
@@ -163,8 +170,8 @@ def is_file(file, path):
     return os.path.basename(file) == os.path.basename(path)
 
 
-def ends_between(path, first, last):
-    """Whether a function ends from one line on and before another: its brace stands at the beginning of a line."""
+def has_brace_between(path, first, last):
+    """Whether a function ends from one line on and before another, by a brace at the beginning of a line."""
     try:
         with open(path, encoding="utf-8", errors="replace") as file:
             return any(line.startswith("}") for number, line in enumerate(file, 1) if first <= number < last)

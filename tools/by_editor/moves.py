@@ -109,7 +109,7 @@ class Moves:
         if answer is None:
             self.stopped("pause")
         else:
-            said = answer.lines[:-1]
+            said = self.engine.points.of_stops(answer.lines[:-1])
             self.stopped("start", [line for line in said if line != "start"], said != ["start"])
 
     def jump(self, position, reason):

@@ -78,9 +78,12 @@ def check_hunt(program, folder):
     """The hunt of the example, with what an editor asks at each stop."""
     editor = launched(program, folder, watches={"money": MONEY})
     source = {"path": os.path.join(folder, "bank.c")}
-    answers = editor.ask("setBreakpoints", source=source, breakpoints=[{"line": 60}, {"line": 65, "condition": "balances[0] < 100"}, {"line": 170}])["breakpoints"]
-    same("breakpoints", [(answer["verified"], answer.get("line")) for answer in answers], [(True, 65), (True, 65), (False, None)])
-    assert "those of the file are in" in answers[2]["message"], answers
+    answers = editor.ask("setBreakpoints", source=source, breakpoints=[{"line": 60}, {"line": 65, "condition": "balances[0] < 100"}, {"line": 66}, {"line": 170}])["breakpoints"]
+    same("breakpoints", [(answer["verified"], answer.get("line")) for answer in answers], [(True, 65), (True, 65), (False, None), (False, None)])
+    assert "those of the file are in" in answers[3]["message"], answers
+    answers = editor.ask("setBreakpoints", source={"path": "/nowhere/bank.c"}, breakpoints=[{"line": 124}, {"line": 134}])["breakpoints"]
+    same("kept to a function", [(answer["verified"], answer.get("line")) for answer in answers], [(True, 127), (False, None)])
+    editor.ask("setBreakpoints", source={"path": "/nowhere/bank.c"}, breakpoints=[])
     same("none", editor.ask("setBreakpoints", source=source, breakpoints=[]), {"breakpoints": []})
     same("entry", entered(editor), 0)
     info = editor.ask("dataBreakpointInfo", name=MONEY)
@@ -90,8 +93,11 @@ def check_hunt(program, folder):
     same("the loss", (place, reason, stop["threadId"], stop["hitBreakpointIds"] != []), (54, "data breakpoint", threads["north 3"], True))
     assert "600 -> 571" in stop["text"] and "account 0 changes by -10" in editor.output()
     north = threads["north 3"]
-    for part, lines in (({"startFrame": 0, "levels": 1}, [65]), ({"startFrame": 1, "levels": 19}, [54]), ({}, [65, 54])):
-        same("frames %s" % part, lines_of(editor, north, **part), (lines, 2))
+    for part, lines in (({"startFrame": 0, "levels": 1}, [65]), ({"startFrame": 1, "levels": 19}, [14, 54]), ({}, [65, 14, 54])):
+        same("frames %s" % part, lines_of(editor, north, **part), (lines, 3))
+    frames = editor.ask("stackTrace", threadId=north)["stackFrames"]
+    same("names", [frame["name"] for frame in frames[:2]], ["change in serve, at unlock 1", "begin"])
+    assert frames[2]["name"].startswith("event 54: 25 north 3 print "), frames
     same("north 0", lines_of(editor, threads["north 0"])[0][0], 160)
     same("north 1", lines_of(editor, threads["north 1"])[0][0], 127)
     same("south 4", lines_of(editor, threads["south 4"])[0][0], 57)
@@ -180,6 +186,10 @@ def check_points(program, folder):
     editor.ask("setExceptionBreakpoints", filters=["lock"])
     editor.move("goto", targetId=1, threadId=1)
     locks = [editor.move("continue", threadId=1)[0] for _ in range(4)]
+    editor.ask("setExceptionBreakpoints", filters=[], filterOptions=[{"filterId": "lock", "condition": "me == 1"}])
+    editor.move("goto", targetId=1, threadId=1)
+    south = [editor.move("continue", threadId=1)[2]["description"].split()[6] for _ in range(3)]
+    same("of the process whose event it is", south, ["south"] * 3)
     editor.ask("setExceptionBreakpoints", filters=[])
     editor.ask("setFunctionBreakpoints", breakpoints=[{"name": "lock", "hitCondition": "%2"}])
     editor.move("goto", targetId=1, threadId=1)

@@ -233,6 +233,11 @@ class Points:
             return "break %d: %s comes to a call in %s" % (point.number, node, point.place.words)
         return "%s %d%s" % (found[1], point.number, line[found.end() :])
 
+    def of_stops(self, lines):
+        """The lines but for what points say that never stop, on the way back."""
+        passed = {point.number for point in self if not point.stops}
+        return [line for line in lines if not (found := SAID.match(line)) or int(found[2]) not in passed]
+
     def stopped_by(self, lines):
         """The points that said so, of those that may stop a walk."""
         numbers = [int(found[2]) for found in map(SAID.match, lines) if found]
