@@ -51,7 +51,7 @@ class Looks:
 
     def begin(self):
         self.session = Session(self.engine, self.lines.append)
-        self.engine.keeps_reads = False
+        self.engine.keeps_reads, self.session.is_paused = False, self.adapter.is_paused
         self.forget()
 
     def forget(self):

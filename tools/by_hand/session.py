@@ -31,6 +31,8 @@ class Session:
         self.chosen, self.displays, self.casts = None, {}, {}
         # The frame that was chosen: the position, the thread, and its number there.
         self.chosen_frame = None
+        # What pauses a walk in place of Ctrl-C.
+        self.is_paused = None
         # Where lines go until `end`, and how many displays were made.
         self.collect, self.made_displays = None, 0
         self.sources = Sources(engine.names.modules.values())
@@ -123,6 +125,8 @@ class Session:
         return answer
 
     def walked(self, target, told=ignored):
+        if self.is_paused:
+            return self.engine.walk(target, self.is_paused, told)
         with Pause() as is_asked:
             return self.engine.walk(target, is_asked, told)
 

@@ -205,6 +205,64 @@ def check_points(program, folder):
     same("no program is left", editor.end()[0], 0)
 
 
+# A guest whose walks take long where many points look at each of its events.
+LONG_GUEST = """#include "liblog.h"
+void _start(void) {
+    for (;;) {
+        liblog_yield();
+    }
+}
+"""
+LONG_EVENTS, WATCHES, SOON = 150_000, 60, 0.2
+
+
+def check_pauses(program, folder):
+    """A pause stops a walk soon, and where it is; one of a walk back leaves it where that began. A long walk tells how far it is."""
+    with open(os.path.join(folder, "long.c"), "w", encoding="ascii") as file:
+        file.write(LONG_GUEST)
+    with open(os.path.join(folder, "long"), "w", encoding="ascii") as file:
+        file.write("friday 1\nprocess long long.wasm\nrun 0 0 %d\n" % LONG_EVENTS)
+    subprocess.run([os.path.join(TOP, "guests", "build"), "long.c"], cwd=folder, check=True, stdout=subprocess.DEVNULL)
+    subprocess.run([program, "record", "long"], cwd=folder, check=True, stdout=subprocess.DEVNULL)
+    editor = Editor(program, folder)
+    editor.ask("initialize", adapterID="friday", supportsProgressReporting=True)
+    editor.ask("launch", pairs=["long.wasm", "long.log"])
+    entered(editor)
+    for number in range(WATCHES):
+        editor.ask("evaluate", expression="watch long.clock == %d" % (LONG_EVENTS + number), context="repl")
+    begun, spent, places = time.monotonic(), [], []
+    for _ in range(3):
+        editor.ask("continue", threadId=1)
+        time.sleep(0.3)
+        asked = time.monotonic()
+        editor.ask("pause", threadId=1)
+        stop = editor.event("stopped")
+        spent.append(time.monotonic() - asked)
+        places.append(position_of(stop))
+        same("reason", stop["reason"], "pause")
+    assert 0 < places[0] < places[1] < places[2] < LONG_EVENTS and min(spent) < SOON, (places, spent)
+    assert {"progressStart", "progressUpdate", "progressEnd"} <= {message["event"] for message in editor.events}
+    editor.ask("goto", targetId=LONG_EVENTS, threadId=1)
+    editor.event("stopped")
+    # A line of the console is paused as a button's walk is.
+    editor.ask("goto", targetId=1, threadId=1)
+    editor.event("stopped")
+    console = editor.send("evaluate", {"expression": "c 2", "context": "repl"})
+    time.sleep(0.3)
+    pause = editor.send("pause", {"threadId": 1})
+    assert "paused\n" in editor.answer(console)["body"]["result"] and editor.answer(pause)["success"]
+    assert 1 <= position_of(editor.event("stopped")) < LONG_EVENTS
+    editor.ask("goto", targetId=LONG_EVENTS, threadId=1)
+    editor.event("stopped")
+    editor.ask("reverseContinue", threadId=1)
+    editor.ask("pause", threadId=1)
+    stop = editor.event("stopped")
+    same("back", (position_of(stop), stop["reason"]), (LONG_EVENTS, "pause"))
+    same("points are kept", editor.ask("evaluate", expression=":l", context="watch")["result"].count("watch "), WATCHES)
+    same("status", editor.end()[0], 0)
+    print("paused after %s ms in %.0f s" % (", ".join("%.0f" % (1000 * each) for each in spent), time.monotonic() - begun))
+
+
 def check_restart(program, folder):
     """A schedule is recorded first, and again at a restart; points come back with other ids, and counts at 0."""
     editor = launched(program, folder, schedule="schedule", stepBack="thread", position=54)
@@ -301,7 +359,7 @@ def main():
         folder = os.path.join(above, "bank")
         os.mkdir(folder)
         prepared(program, folder)
-        for check in (check_hunt, check_points, check_restart, check_refused, check_bad_input, check_kept_ends):
+        for check in (check_hunt, check_points, check_pauses, check_restart, check_refused, check_bad_input, check_kept_ends):
             check(program, folder)
     print("editor: as expected")
 

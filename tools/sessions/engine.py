@@ -89,6 +89,7 @@ class Engine(Reading):
         try:
             return self.ask("rcontinue", told)
         except Paused:
+            self.debugger.is_paused = None
             self.give_up()
             return None
         finally:
