@@ -33,6 +33,8 @@ COMMANDS = {
     "undisplay": looking.undisplay,
     "goto": moving.go_to,
     "continue": moving.go_on,
+    "next": moving.next_of_thread,
+    "reverse-next": moving.next_back,
     "watch": pointing.watch,
     "break": pointing.break_at,
     "tbreak": pointing.break_once,

@@ -50,7 +50,7 @@ def show_stack(session, node, thread):
 
 def show_frame(session, rest, form):
     """Chooses a frame by its number, and shows it with its line; without a number the one that is chosen."""
-    if rest and not rest.isdigit():
+    if rest and not re.fullmatch("[0-9]{1,9}", rest):
         raise Refusal("frame wants a number as `bt` shows them")
     choose(session, int(rest) if rest else chosen(session))
 
@@ -64,7 +64,7 @@ def down(session, rest, form):
 
 
 def count(rest):
-    if rest and (not rest.isdigit() or len(rest) > 9):
+    if rest and not re.fullmatch("[0-9]{1,9}", rest):
         raise Refusal("up and down want how many frames")
     return int(rest or 1)
 

@@ -3,28 +3,30 @@
 import re
 
 SHORT = {
-    "b": "break", "br": "break", "tb": "tbreak", "c": "continue", "cont": "continue", "fg": "continue", "n": "step", "next": "step",
+    "b": "break", "br": "break", "tb": "tbreak", "c": "continue", "cont": "continue", "fg": "continue", "n": "next",
     "s": "step", "si": "step", "stepi": "step", "ni": "step", "nexti": "step", "u": "until", "p": "print", "inspect": "print",
     "d": "delete", "del": "delete", "e": "events", "g": "goto", "h": "help", "?": "help", "l": "list", "q": "quit", "exit": "quit",
-    "t": "threads", "w": "watch", "x": "bytes_at", "rc": "rcontinue", "reverse-continue": "rcontinue", "rs": "back", "rn": "back",
-    "rsi": "back", "rni": "back", "reverse-step": "back", "reverse-next": "back", "reverse-stepi": "back", "reverse-nexti": "back",
+    "t": "threads", "w": "watch", "x": "bytes_at", "rc": "rcontinue", "reverse-continue": "rcontinue", "rs": "back",
+    "rn": "reverse-next", "rsi": "back", "rni": "back", "reverse-step": "back", "reverse-stepi": "back", "reverse-nexti": "back",
     "run": "from_start", "r": "from_start", "start": "from_start", "source": "load", "bt": "backtrace",
     "cond": "condition", "dis": "disable", "en": "enable", "inferior": "process", "f": "frame", "fin": "finish",
 }
 INFO = {"b": "list", "break": "list", "breakpoints": "list", "watchpoints": "list", "threads": "threads", "t": "threads",
         "stack": "backtrace", "s": "backtrace", "frame": "frame", "f": "frame", "inferiors": "process", "variables": "names", "var": "names", "display": "display", "source": "list_here", "line": "list_here"}
 # What an empty line does again: looking, and going on.
-REPEATED = ("up", "down", "finish", "step", "back", "continue", "rcontinue", "events", "list", "list_here", "print", "bytes_at", "threads", "where", "goto", "vars", "mem", "display")
+REPEATED = ("next", "reverse-next", "up", "down", "finish", "step", "back", "continue", "rcontinue", "events", "list", "list_here", "print", "bytes_at", "threads", "where", "goto", "vars", "mem", "display")
 
 HELP = """\
 moving      s [N]  c [N]  g K    step, continue (N times), goto (also +N and -N); back [N] and rcontinue go back; run goes to position 0
+            n [N]  rn [N]        next: on to the next event of this thread, unless a point stops it before; back to the one before it
             an empty line does the last move again; Ctrl-C pauses a walk where it is; one that goes back ends where it began
 looking     p NODE.PATH          a variable by its name, also a whole struct or array: p a.peers[1].seen  p a.head->next
             p EXPR  p/x EXPR     any expression: p sum(@_.{served}) + 1; /x /o /t /c /d say how; & | ^ ~ << >> ?: are taken too
             p *PATH  p PATH@3    what a pointer points to, three in a row; p &PATH, sizeof(PATH), (struct T *)EXPR
             process NODE         names without a process are of this one; without a word that of the last event again
             x NODE.PATH          the bytes of a variable; x NODE ADDRESS LENGTH any bytes; x/4xw ADDRESS numbers
-            e [N]  t [NODE]      the last events; where threads stand, of all processes without a name; where the position and its thread
+            e [N]  t [NODE]      the last events; where threads stand, of all processes without a name
+            where  when          the position with the functions that its thread is in; only the position
             bt [NODE] [THREAD]   the functions that a thread is in, the innermost first; without words that of the last event
             frame N  up  down    choose one of them, whose source `list .` shows; finish goes on to the first event after which the thread
                                  has left it, reverse-finish back to the last one after which it was not in it yet
@@ -39,12 +41,12 @@ points      w EXPR [if EXPR]     stops where the value changes;  b NODE CALL [if
 keeping     save FILE  load FILE points, programs and variables, as they were typed
             script FILE          all lines that were sent, for friday debug;  sent on|off shows them
             cut [FOLDER]         logs with what the event here needs and nothing else; page FILE, picture FILE, schedule FILE of the recording
-            when                 the position;  q ends
+            q                    ends the session
 gdb's words break, next, info break, info threads, reverse-step and so on are understood. help WORD tells of one; docs/gdb.md has a table.
 """
 
 # Words that the page tells in its text.
-IN_TEXT = ("where", "finish", "reverse-finish", "step", "continue", "goto", "back", "rcontinue", "from_start", "run", "ptype", "whatis", "bytes", "undisplay", "cast", "tbreak", "enable",
+IN_TEXT = ("finish", "reverse-finish", "step", "continue", "goto", "back", "rcontinue", "from_start", "run", "ptype", "whatis", "bytes", "undisplay", "cast", "tbreak", "enable",
            "disable", "delete", "ignore", "list", "vars", "sent", "page", "picture", "schedule", "quit")
 
 # What the words of gdb that are not done here are about, and what to type in their place.
