@@ -1,5 +1,5 @@
 #!/usr/bin/env python3
-"""Checks what ./friday says where something is refused, 83 calls and 57 lines of the debugger, and what it says of traps: with what
+"""Checks what ./friday says where something is refused, 83 calls and 63 lines of the debugger, and what it says of traps: with what
 stands on standard output and on standard error, as refusals.txt has it. Then the launcher's own reading of schedules and of lines of
 the debugger is held against the program's, on some that are drawn at random, and a session is typed on a terminal. A program is given,
 so that nothing is built.

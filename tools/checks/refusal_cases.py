@@ -180,9 +180,10 @@ LINES = (
     "threads pong ping", "print", "print +1", "print 1 +", "print 1 2", "print x", "print nosuch.x", "print (1", "print 1 < 2 < 3", "print 1 = 2",
     "print 1 & 2", "print ~1", "print 'a'", "print \"a", "print @ping", "print @ping.x", "print @ping.u64[0]", "print @ping.u8 64", "print @ping.global[-1]",
     "print @pang.clock", "print @_.clock", "print sum(sum(1))", "print sum", "print $", "watch $x", "watch", "break ping", "break ping nosuch",
-    "break pang recv", "delete", "delete 7", "do 1", "do 7 stop", "do 1 say", "set x 3",
+    "break pang recv", "delete", "delete 7", "do 1", "do 7 stop", "do 1 say", "set x 3", "frames ping", "frames ping 64", "frames pang 0", "frames ping 9",
+    "print @!.clock", "break * * if $x",
 )
-assert len(LINES) == 57
+assert len(LINES) == 63
 
 
 
