@@ -31,19 +31,20 @@ def function_places(entries, line_dump, linked, added):
 
 
 class Rows:
-    """The table of lines: each row has an address in the code, and the line and the number of the file there."""
+    """The table of lines: each row has an address in the code, the line there, and the number of its part of the table with that of the
+    file in it."""
 
     def __init__(self, dump):
-        self.rows, part = [], []
+        self.rows, part, parts = [], [], 0
         for line in dump.splitlines():
             found = ROW.match(line)
             if not found:
                 continue
-            part.append((int(found[1], 16), int(found[2]), int(found[3])))
+            part.append((int(found[1], 16), int(found[2]), (parts, int(found[3]))))
             if END in line:
                 # What the linker left out has no place in the code.
                 self.rows += part if part[0][0] not in LEFT_OUT else []
-                part = []
+                part, parts = [], parts + 1
         self.rows.sort(key=lambda row: row[0])
         self.addresses = [row[0] for row in self.rows]
 
