@@ -142,9 +142,10 @@ def check_conditions(program, folder):
     """Names in a condition and a program are of the process whose event it is; conditions hold both ways, beside what only tells."""
     inlined = "b b,a.inlined if liblog_last_call[0] > 7"
     told = session(program, folder, [inlined, "l", "c", "c", "run", "do 1 say liblog_last_call[0]", "c"])
-    assert "\n1 break * * if (!@!.ended && " in told and "point 1 is break b,a.inlined if liblog_last_call[0] > 7\n" in told, told
+    assert "\n1 break * * if (!@!.ended && " in told and "point 1 is break a,b.inlined if liblog_last_call[0] > 7\n" in told, told
     stops = re.findall(r"break 1: (\w) comes to a call in inlined\nat (\d+): ", told)
     assert len(stops) == 2 and len(re.findall(r"^\d+$", told, re.M)) == 4, told
+    assert "1 break a * if " in session(program, folder, ["b a,a.inlined", "l"])
     both = session(program, folder, [inlined, "b lines.c:38", 'do 2 say "passed"', "step 1000", "rc", "rc", "rc", "rc", "rc"])
     backwards = re.findall(r"break 1: (\w) comes to a call in inlined\nat (\d+): ", both)
     assert backwards[-1:] == stops[:1] and len(backwards) == 4 and "passed" not in both and both.endswith("start\nat 0\n"), both

@@ -217,6 +217,8 @@ HOSTILE = (
     b"p ((struct s0 *)0)" + b"->f" * 900, b"p (struct s0 *)", b"p deep@", b"p @", b"x/999999999999xw 0", b"x a 99999999999999999999999", b"cast send struct s0", b"goto -99999999999999999999", b"goto +", b"c 0",
     b"c 99999999999999999999", b"commands", b"ignore 1 99999999999999999999", b"d 1-999999999", b"list " + b"a" * 3000 + b":1", b"list ../../../../etc/passwd:1", b"save /", b"load /", b"load \x00", b"cut /dev/null/x", b"page", b"schedule a.wasm",
     b"set $x", b"set " + b"$" * 4000, b"do . " + b"{" * 3000, b"b a." + b"x" * 3000, b"undisplay 7", b"help " + b"x" * 3000, b"info " + b"\x1b" * 30, b"print/" + b"x" * 3000 + b" 1", b"condition 1 " + b"!" * 3000, b"p 9" * 1300,
+    b"bt", b"t", b"where", b"up", b"down", b"frame 0", b"list .", b"bt 99999999999999999999", b"bt a 64", b"bt a a", b"up 99999999999999999999", b"down \xb2", b"frame -1", b"finish",
+    b"finish 1", b"reverse-finish", b"n 99999999999999999999", b"n", b"rn \xb2", b"b a,a,b.f", b"b a.\x1b[31mred", b"b * *", b"b a * if @!.u32[x]", b"b * recv if @!.{deep.f} && x", b"do . say @!, @!.{own}",
 )
 
 
@@ -225,6 +227,7 @@ def check_hostile(program, folder):
     for name in ("a.wasm", "a.log"):
         shutil.copy(os.path.join(TOP, "examples", "first", name), folder)
     lines = ["module a.wasm %s" % digest_of(os.path.join(folder, "a.wasm")), "variable x::deep s0 1024", "variable x::own own 1024", "variable x::row u8[9][9][9][9][9][9][9] 0"]
+    lines += ["function %d \x1b[31mred%s" % (number, number % 2 * " a\x1b.c 1 99999999999999999999") for number in range(9)]
     lines += ["variable x::\x1b[31mred u32 0", "struct own 4", "field own own 0", "field next own* 0"]
     for depth in range(100_000):
         lines += ["struct s%d 4" % depth, "field f %s 0" % ("s%d" % (depth + 1) if depth < 99_999 else "u32")]

@@ -53,7 +53,7 @@ def meant(names, where):
         return names.nodes, words
     if not all(node in names.nodes for node in nodes.split(",")):
         raise Refusal("the processes are %s" % ", ".join(names.nodes))
-    return nodes.split(","), words
+    return [node for node in names.nodes if node in nodes.split(",")], words
 
 
 def places(names, nodes, words):
