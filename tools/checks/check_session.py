@@ -260,6 +260,17 @@ def check_kept(program, folder):
     assert again.startswith("point 1\n1 watch sum(") and "$seen %s\n" % seen in again, again
 
 
+def check_much_said(program, folder):
+    """A walk pauses once 10,000 lines were said, and its script is answered as it was."""
+    says, script = "; ".join(['say "much"'] * 150), os.path.join(folder, "script")
+    told = session(program, "bytes off\nbreak * *\ndo 1 %s\nc\nc\nscript %s\n" % (says, script))
+    with open(script) as file:
+        alone = subprocess.run([program, "debug", *PAIRS], stdin=file, stdout=subprocess.PIPE, text=True, cwd=LOGS, timeout=300).stdout
+    (paused,), (end,) = (re.findall(r"^%s\nat (\d+)" % word, told, re.M) for word in ("paused", "end"))
+    assert 67 <= int(paused) < int(end) == 125 and told.count("much\n") == alone.count("much\n") == 150 * 125, (paused, end)
+    assert "\nat %s: " % paused in alone and re.findall(r"^at (\d+)", alone, re.M)[-1] == end, alone[-300:]
+
+
 # Answers lines as the debugger would, and takes so many seconds for a part of a walk.
 STAND_IN = """#!/usr/bin/env python3
 import sys, time
@@ -330,7 +341,7 @@ def main():
     program = os.path.abspath(program_of(parser.parse_args().program))
     check_answers(program)
     check_repeat(program)
-    for check in (check_kept, check_habits, check_hostile):
+    for check in (check_kept, check_habits, check_much_said, check_hostile):
         with tempfile.TemporaryDirectory() as folder:
             check(program, folder)
     with tempfile.TemporaryDirectory() as folder:

@@ -162,7 +162,7 @@ class Engine(Reading):
     def walk(self, target, is_paused=lambda: False, told=ignored, on_part=ignored):
         """Goes on to a position at most, in parts, so that it can be paused. The answer is as if one `continue` had gone there, or to
         where it was paused. `told` hears each line of it as it comes, and `on_part` the positions on the way."""
-        start, part, said, how, last = self.position, PART, [], PAUSED, self.here
+        start, part, sent, said, how, last = self.position, PART, [], [], PAUSED, self.here
         line = "continue" if target >= self.last else "continue %d" % (target - start)
 
         def hear(answer):
@@ -171,16 +171,18 @@ class Engine(Reading):
 
         self.on_line(line)
         while not is_paused():
-            begun = time.monotonic()
-            how, last = self.part(max(1, min(part, target - self.position)), hear)
+            begun, count = time.monotonic(), max(1, min(part, target - self.position))
+            sent.append("continue %d" % count)
+            how, last = self.part(count, hear)
             if how != PAUSED or self.position >= target or len(said) >= MOST_SAID:
                 break
             on_part(self.position)
             part = max(1, min(GROWTH * part, int(part * SECONDS / max(time.monotonic() - begun, 0.001))))
-        is_cut = how == PAUSED and self.position < target
-        if self.position > start or not is_cut:
-            self.sent.append("continue %d" % (self.position - start) if is_cut else line)
-        ends = [last] if how == "" or how == PAUSED and not is_cut else [how, last]
+        if is_cut := how == PAUSED and self.position < target:
+            line = "continue %d" % (self.position - start)
+        # Where points said so much, one line would have paused before.
+        self.sent += [line] if sent and len(said) < MOST_SAID else sent
+        ends = [how, last] if how == END or is_cut else [last]
         for answer in ends:
             told(answer)
         return Walked(line, said + ends, False, said, how)
