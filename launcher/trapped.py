@@ -8,11 +8,11 @@ import sys
 from again import Again
 from diverged import HERE
 from heads import head_of
-from looking import MOST_MODULE, bytes_of, is_file, size_of
+from looking import is_file
 from words import process_lines
 
 GUESTS = os.path.join(HERE, "guests")
-THREADS, MOST_PLACES = 64, 16_777_216
+THREADS = 64
 # More steps than there can be events.
 TO_THE_END = "step 9223372036854775807\n"
 FRAMES = re.compile(r"^\d+: (\d+(?: \d+)*)(?: and (\d+) more)?$", re.M)
@@ -30,7 +30,7 @@ def where_trapped(program, words, name, seconds):
     _, text = Again(program, words).ask(words, asked, seconds)
     # Of a process that trapped only the thread that did so has frames.
     found = FRAMES.search(text)
-    return chain(found[1].split(), int(found[2] or 0), names_of_functions(module)) if found else None
+    return chain([int(number) for number in found[1].split()], int(found[2] or 0), module) if found else None
 
 
 def pair_of(words, name):
@@ -40,31 +40,14 @@ def pair_of(words, name):
     return next(((module, log) for module, log in pairs if (head := head_of(log)) and head.name == name), ("", ""))
 
 
-def chain(numbers, more, names):
+def chain(numbers, more, module):
     """The innermost function with its lines, and the names of those around it."""
-    unknown = ["function " + number for number in numbers[:MOST_NAMED]]
-    told = [names.get(int(number), (name, name)) for number, name in zip(numbers, unknown)]
-    more += len(numbers) - len(told)
-    return " < ".join([told[0][1], *(name for name, _ in told[1:])]) + (" and %d more" % more if more else "")
-
-
-def names_of_functions(module):
-    """The name of each function and what is said of it, by its number: as NAME.places tells them, or else the module by its names and
-    its exports."""
     # The kit's readers lie with it, and few calls need them.
     sys.path.append(GUESTS)
-    from place_table import Refusal, read_table
-    from wasm_reader import read_module
+    from function_names import functions_of
+    from place_table import FunctionPlace
 
-    places = os.path.splitext(module)[0] + ".places"
-    if (size_of(places) or MOST_PLACES) < MOST_PLACES:
-        try:
-            return {function.number: (function.name, function.words) for function in read_table(places).functions}
-        except Refusal:
-            pass
-    try:
-        found = read_module(bytes_of(module, MOST_MODULE) or b"")
-    except (IndexError, ValueError, KeyError):
-        return {}
-    names = {**{number: name for name, (kind, number) in found.exports.items() if kind == 0}, **found.names}
-    return {number: (name, name) for number, name in names.items()}
+    functions = functions_of(module)
+    first, *rest = (functions.get(number) or FunctionPlace(number, "function %d" % number) for number in numbers[:MOST_NAMED])
+    more += max(0, len(numbers) - MOST_NAMED)
+    return " < ".join([first.words, *(function.name for function in rest)]) + (" and %d more" % more if more else "")

@@ -111,7 +111,7 @@ class Breakpoints:
     def ends_between(self, path, first, last):
         """Whether the function of one line ends before another one; of a function that was put into others its brace in the source tells."""
         names = self.engine.names
-        ends = [function.last for node in names.functions for function in names.functions[node].values()
+        ends = [function.last for node in names.nodes for function in names.functions(node).values()
                 if is_file(function.file, path) and function.first <= first <= function.last]
         return max(ends) < last if ends else has_brace_between(path, first, last)
 

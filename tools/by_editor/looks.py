@@ -167,7 +167,7 @@ class Looks:
     def on_loadedSources(self, **_):
         names = self.engine.names
         files = {call.file for node in names.nodes for call in calls_of(names, node)}
-        files |= {function.file for known in names.functions.values() for function in known.values() if function.file}
+        files |= {function.file for node in names.nodes for function in names.functions(node).values() if function.file}
         paths = sorted(filter(None, map(self.adapter.launch.sources.path, files)))
         listed = [self.events.source] if self.events.is_there else []
         return {"sources": listed + [{"name": os.path.basename(path), "path": path} for path in paths]}

@@ -135,7 +135,7 @@ def place_behind(session, node, line):
     if first == node:
         thread = session.engine.threads.trapped(node)
         return "" if thread is None else session.trapped_in(node, thread)
-    if how in ("ended", "at begin") or not session.names.functions.get(node):
+    if how in ("ended", "at begin") or not session.names.functions(node):
         call = session.engine.threads.call_of(node, int(first))
         return " " + in_words(call) if call else ""
     stack = session.engine.frames.of(node, int(first))

@@ -79,7 +79,7 @@ def show_source(session, where):
 
 def first_line(names, name):
     """The file and the first known line of a function, or None."""
-    functions = (function for node in names.nodes for function in names.functions.get(node, {}).values())
+    functions = (function for node in names.nodes for function in names.functions(node).values())
     found = next(((function.file, function.first) for function in functions if function.name == name and function.file), None)
     return found or next(((call.file, call.line) for node in names.nodes for call in calls_of(names, node) if call.function == name), None)
 

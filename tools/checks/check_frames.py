@@ -93,9 +93,9 @@ def check_ways_out(program, folder):
 
 
 def check_old_places(program, folder):
-    """Without lines about functions what is told is as it was."""
+    """Without lines about functions their numbers are told, and calls as the file of places has them."""
     told = session(program, folder, ["step", "t a", "bt a"])
-    assert "\n    a 0 stands at note in go_down, frames.c:11\na running\n0 at note 0 in go_down, frames.c:11\n" in told, told
+    assert "\n    a 0 stands at note in go_down, frames.c:11\na running\n0 at note 0 in go_down, frames.c:11 < function 3 (64 times) and 8 more\n" in told, told
     assert "\n#0  function 3, frames.c:11 in go_down\n#1  function 3\n" in told, told
 
 
@@ -144,12 +144,12 @@ def main():
     with tempfile.TemporaryDirectory() as room:
         lines, plain = prepared(program, os.path.join(room, "lines"), "--lines"), prepared(program, os.path.join(room, "plain"))
         bare, old = with_places(plain, ()), with_places(lines, ("module", "variable", "call", "struct", "field"))
-        numbers = ["function %d" % number for number in (6, 5, 4, 2)]
+        numbers = ["function 6", "function 5", "function 4", "_start"]
         for folder in (lines, plain):
             check_trap(program, folder, CHAIN, frames)
             check_launcher(program, folder, CHAIN)
         check_trap(program, bare, " < ".join(numbers), numbers)
-        check_launcher(program, bare, "function 6 < function 5 < function 4 < _start")
+        check_launcher(program, bare, " < ".join(numbers))
         check_deep(program, lines, "go_down, frames.c:11")
         check_deep(program, plain, "go_down, frames.c:6-12")
         check_ways_out(program, lines)

@@ -97,7 +97,7 @@ class Frames:
         found = TOLD.fullmatch(answer)
         if not found:
             return EMPTY
-        functions = self.engine.names.functions.get(node, {})
+        functions = self.engine.names.functions(node)
         frames = [Frame(number, functions.get(number)) for number in map(int, found[1].split())]
         return Stack([Frame(frames[0].number, frames[0].function, call), *frames[1:]], int(found[2] or 0))
 

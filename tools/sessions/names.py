@@ -4,6 +4,7 @@ import os
 import re
 
 from logs.format import BadLog, head_of, printable
+from function_names import functions_of
 from naming import NAME, REFERENCE, STEP, Script, end_of, place_of
 from place_table import Refusal, read_table
 
@@ -32,15 +33,20 @@ class Names:
 
     def read_tables(self, told):
         """Reads the places beside each module; `told` hears of processes without names."""
-        self.tables, self.functions = {}, {}
+        self.tables, self.known = {}, {}
         for node, module in self.modules.items():
             try:
                 self.tables[node] = read_table(os.path.splitext(module)[0] + ".places")
             except Refusal as refusal:
                 told("no names for %s: %s" % (node, printable(str(refusal))))
-                continue
-            self.functions[node] = {function.number: function for function in self.tables[node].functions}
         self.script = Script(self.tables)
+
+    def functions(self, node):
+        """The functions of a process's module that have a name, by their numbers."""
+        module = self.modules[node]
+        if module not in self.known:
+            self.known[module] = functions_of(module)
+        return self.known[module]
 
     def variables(self, node):
         return self.tables[node].variables if node in self.tables else []
