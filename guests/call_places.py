@@ -83,5 +83,14 @@ def data_of(module):
 
 def made(file, line, function, address):
     if function:
-        front = "kit/" if file.startswith(KIT + os.sep) else ""
-        yield CallPlace(front + re.sub("[^!-~]", "_", os.path.basename(file)), line, re.sub("[^!-~]", "_", function), address)
+        yield CallPlace(spelled_file(file), line, spelled_name(function), address)
+
+
+def spelled_file(file):
+    front = "kit/" if file.startswith(KIT + os.sep) else ""
+    return front + spelled_name(os.path.basename(file))
+
+
+def spelled_name(name):
+    """A name as one word."""
+    return re.sub("[^!-~]", "_", name)

@@ -28,6 +28,8 @@ class Entry:
     parent: "Entry"
     attributes: dict = field(default_factory=dict)
     children: list = field(default_factory=list)
+    # The addresses of its code, where they are more than one range.
+    ranges: list = field(default_factory=list)
 
     def number(self, name, otherwise=None):
         text = self.attributes.get(name)
@@ -53,6 +55,8 @@ def read_entries(dump):
                     entry.parent.children.append(entry)
         elif entry and (found := re.match(r" +DW_AT_(\w+)\t\((.*)\)$", line)):
             entry.attributes[found[1]] = found[2]
+        elif entry and (found := re.match(r" +\[0x([0-9a-f]+), 0x([0-9a-f]+)\)(?!:)", line)):
+            entry.ranges.append((int(found[1], 16), int(found[2], 16)))
     return entries
 
 

@@ -11,8 +11,10 @@ MOST_DIGITS = 19
 
 NAME = re.compile(r"\w+(?:::\w+)*", re.ASCII)
 STEP = re.compile(r"\.(\w+)|->(\w+)|\[", re.ASCII)
-REFERENCE = re.compile(r"@(\w+)\.\{", re.ASCII)
+REFERENCE = re.compile(r"@(\w+|!)\.\{", re.ASCII)
 STRING = re.compile(r'"[^"]*"?')
+# Each process in an aggregate, and the one whose event it is.
+SOME = ("_", "!")
 RANGE = re.compile(r"([ \t]*mem[ \t]+(\w+)[ \t]+)\{", re.ASCII)
 
 
@@ -145,7 +147,7 @@ class Script:
         self.tables = tables
 
     def tables_of(self, node):
-        if node == "_":
+        if node in SOME:
             return list(self.tables.values())
         table = self.tables.get(node, self.tables.get(""))
         if table is None:
@@ -153,13 +155,13 @@ class Script:
         return [table]
 
     def resolved(self, node, path, read):
-        """What `read` makes of the place of a path; of `@_` it has to be one for all files."""
+        """What `read` makes of the place of a path; of `@_` and `@!` it has to be one for all files."""
         try:
             results = {read(place_of(node, table, path)) for table in self.tables_of(node)}
         except Refusal as refusal:
             raise Refusal("{%s}: %s" % (path, refusal)) from None
         if len(results) > 1:
-            raise Refusal("{%s}: it lies elsewhere in other modules, so @_ cannot name it" % path)
+            raise Refusal("{%s}: it lies elsewhere in other modules, so @%s cannot name it" % (path, node))
         return results.pop()
 
     def expanded(self, text):

@@ -71,6 +71,23 @@ class CallPlace:
     address: int
 
 
+@dataclass(frozen=True)
+class FunctionPlace:
+    """A function of the module by its number, imports counted first, and where it stands in the source if that is known."""
+
+    number: int
+    name: str
+    file: str = ""
+    first: int = 0
+    last: int = 0
+
+    @property
+    def words(self):
+        """Its name, with its file and lines behind it."""
+        lines = "%d-%d" % (self.first, self.last) if self.last > self.first else str(self.first)
+        return self.name + (", %s:%s" % (self.file, lines) if self.file else "")
+
+
 def array_of(type_):
     """The type of an element and the number of elements, or None where the type is no array."""
     found = re.fullmatch(r"(.*)\[(\d+)\]", type_)
@@ -95,6 +112,7 @@ class PlaceTable:
         self.variables = []
         self.structs = {}
         self.calls = []
+        self.functions = []
 
     @property
     def own(self):
@@ -133,6 +151,7 @@ class PlaceTable:
         lines.append("module %s %s" % (self.module, self.digest))
         lines += ["variable %s %s%s" % (v.name, v.type, _spell_place(v, self)) for v in self.variables]
         lines += ["call %s %d %s %d" % (c.file, c.line, c.function, c.address) for c in self.calls]
+        lines += [_spell_function(f) for f in self.functions]
         for struct in self.structs.values():
             lines.append("struct %s %d" % (struct.name, struct.size))
             lines += [_spell_field(f) for f in struct.fields]
@@ -145,6 +164,11 @@ def _spell_place(variable, table):
     if len(variable.pieces) == 1 and variable.pieces[0].size == table.size_of(variable.type):
         return " %d" % variable.pieces[0].address
     return "".join(" %d+%d@%d" % (p.offset, p.size, p.address) for p in variable.pieces)
+
+
+def _spell_function(function):
+    lines = " %s %d %d" % (function.file, function.first, function.last) if function.file else ""
+    return "function %d %s%s" % (function.number, function.name, lines)
 
 
 def _spell_field(item):
@@ -180,6 +204,9 @@ def _parse_table(lines):
             places.append(words[3:])
         elif words[0] == "call":
             table.calls.append(CallPlace(words[1], int(words[2]), words[3], int(words[4])))
+        elif words[0] == "function":
+            where = (words[3], int(words[4]), int(words[5])) if len(words) > 3 else ()
+            table.functions.append(FunctionPlace(int(words[1]), words[2], *where))
         elif words[0] == "struct":
             struct = table.structs[words[1]] = Struct(words[1], int(words[2]))
         elif words[0] == "field":

@@ -31,9 +31,9 @@ class Again:
     def can_be_asked(self):
         return all(is_file(path) for path in self.files)
 
-    def ask(self, words, lines=""):
+    def ask(self, words, lines="", seconds=MOST_SECONDS):
         """The status and the text of a call, or -1 and no text if it takes too long or cannot begin."""
-        how = {"input": lines.encode(), "stdout": subprocess.PIPE, "stderr": subprocess.DEVNULL, "timeout": MOST_SECONDS}
+        how = {"input": lines.encode(), "stdout": subprocess.PIPE, "stderr": subprocess.DEVNULL, "timeout": seconds}
         with contextlib.suppress(OSError, ValueError, subprocess.SubprocessError):
             done = subprocess.run([self.program, *words], **how)
             return done.returncode, done.stdout.decode("utf-8", "surrogateescape")

@@ -26,7 +26,7 @@ from words import names_of
 PIECE, BEGIN = 65536, b"at 0\n"
 # Of this fcntl Python 3.8 has no name. A pipe of one page can be written once it is empty.
 F_SETPIPE_SZ, PAGE = 1031, 4096
-REFUSAL = re.compile(rb"\? (\d) [a-z ]+(?: at column (\d+))?\n")
+REFUSAL = re.compile(rb"\? (\d+) [a-z ]+(?: at column (\d+))?\n")
 # So many refused lines are explained.
 MOST_EXPLAINED = 100
 # The lines of a longer file go to the program as they are: with an empty one after each they might be more than it takes.
@@ -161,6 +161,7 @@ class Conversation:
             return why_syntax(line, column)
         texts = {
             2: self.no_node, 3: too_deep, 4: nested, 5: variable, 6: self.no_point, 7: self.no_position, 8: too_long, 9: too_many,
+            13: no_thread,
         }
         return texts[reason](line) if reason in texts else None
 
@@ -169,6 +170,8 @@ class Conversation:
         unknown = [word for word in nodes_in(line) if word not in names]
         if unknown and unknown[0] == "_":
             return "@_ stands within sum(..), min(..), max(..) or count(..), which go over all processes: %s" % ", ".join(names)
+        if not unknown and re.search(r"@[ \t]*!", line):
+            return "@! is the process whose event it is, and stands in the condition of a point and in a program of `do`"
         return "there is no process %s: those whose logs are given are %s" % (unknown[0] if unknown else "of that name", ", ".join(names))
 
     def no_point(self, line):
@@ -201,7 +204,12 @@ def nested(line):
 
 
 def variable(line):
-    return "the expression of a watchpoint has no variables, since they change at any time: watch without, and compare in `do W if .. { stop }`"
+    return "an expression that is watched and a condition have no variables, since they change at any time: compare in `do W if .. { stop }`"
+
+
+def no_thread(line):
+    node, thread = line.split()[1:3]
+    return "%s has not made a thread %s by this position: `threads %s` shows those that it has made" % (node, thread, node)
 
 
 def too_long(line):

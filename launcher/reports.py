@@ -1,8 +1,8 @@
-"""Says what a trap means, and that logs of several recordings were mixed, where the text of `record` or `replay` tells of it: on a
-terminal by passing the text on, and of a file that has it by looking there.
+"""Says what a trap means and in which functions it was, and that logs of several recordings were mixed, where the text of `record` or
+`replay` tells of it: on a terminal by passing the text on, and of a file that has it by looking there.
 
-reports.py PROGRAM WORD ..        (the words of the call, whose text is passed on as it is)
-reports.py --told FILE WORD ..    (a file that the text was written to)
+reports.py PROGRAM WORD ..               (the words of the call, whose text is passed on as it is)
+reports.py --told FILE PROGRAM WORD ..   (a file that the text was written to)
 """
 from __future__ import annotations
 
@@ -11,15 +11,19 @@ import re
 import signal
 import subprocess
 import sys
+import time
 
 from commands import COMMANDS, files_of
 from heads import head_of
 from looking import is_file
 from parents import end_by_signals, end_with_parent
 from saying import say
+from trapped import where_trapped
 
 # So much of the text is kept: 16 lines of processes are less.
 MOST_KEPT = 65536
+# So many seconds it takes at most to find the functions in which processes trapped.
+LONGEST = 10
 MEANING = {
     "unreachable": "it came to an instruction `unreachable`: in C __builtin_trap or code that cannot be reached, in Rust a panic",
     "zero divisor": "it divided by 0, or took the rest of that",
@@ -37,9 +41,14 @@ ENDED = re.compile(r"^([a-z0-9_]{1,32}): (\d+) events, trapped (%s)(?:,|$)" % "|
 UNMATCHED = re.compile(r"^group: .*, ([1-9]\d*) unmatched,", re.M)
 
 
-def tell(text, words):
+def tell(text, program, words):
+    end = time.monotonic() + LONGEST
     for name, events, kind in ENDED.findall(text):
         say("%s trapped after its event %s, %s: %s" % (name, events, kind, MEANING[kind]))
+        left = end - time.monotonic()
+        where = where_trapped(program, words, name, left) if left > 0 else None
+        if where:
+            say("%s was in %s" % (name, where))
     if ENDED.search(text):
         say("`tools/events.py traps MODULE LOG ..` prints the lines of the debugger that go to the position before it")
     found = UNMATCHED.search(text)
@@ -74,24 +83,24 @@ def passed_on(words):
             return 6, b""
 
 
-def tell_of_file(path, words):
+def tell_of_file(path, program, words):
     """Of the end of a file, which has the text of this call last."""
     data = b""
     if is_file(path):
         with open(path, "rb") as file:
             file.seek(max(0, os.fstat(file.fileno()).st_size - MOST_KEPT))
             data = file.read(MOST_KEPT)
-    tell(data.decode("utf-8", "replace"), words)
+    tell(data.decode("utf-8", "replace"), program, words)
 
 
 def main():
     if sys.argv[1] == "--told":
-        tell_of_file(sys.argv[2], sys.argv[3:])
+        tell_of_file(sys.argv[2], sys.argv[3], sys.argv[4:])
         return 0
     end_with_parent(signal.SIGTERM)
     status, text = passed_on(sys.argv[1:])
     if status in (0, 1):
-        tell(text.decode("utf-8", "replace"), sys.argv[2:])
+        tell(text.decode("utf-8", "replace"), sys.argv[1], sys.argv[2:])
     return status
 
 

@@ -25,6 +25,7 @@ FORMS = {
     "print": ("print EXPR", [(EXPR,)], 1),
     "mem": ("mem NODE ADDR LEN", [(NODE,), (NUMBER, "ADDR", 0, MOST_NUMBER), (NUMBER, "LEN", 1, 256)], 3),
     "threads": ("threads NODE", [(NODE,)], 1),
+    "frames": ("frames NODE T", [(NODE,), (NUMBER, "T", 0, 63)], 2),
     "events": ("events or events N", [(NUMBER, "N", 1, 1000)], 0),
     "watch": ("watch EXPR or watch EXPR if EXPR", [(EXPR,), (CONDITION,)], 1),
     "break": ("break NODE CALL or break NODE CALL if EXPR", [(NODE_OR_ALL,), (CALL_OR_ALL,), (CONDITION,)], 2),
@@ -266,4 +267,4 @@ def nodes_in(line):
     """The words of a line that stand where the name of a process does."""
     words = re.findall(r"@[ \t]*([A-Za-z0-9_]+)", line)
     first = line.split()
-    return words + (first[1:2] if first[:1] in (["mem"], ["threads"], ["break"]) else [])
+    return words + (first[1:2] if first[:1] in (["mem"], ["threads"], ["frames"], ["break"]) else [])

@@ -7,7 +7,7 @@ events.py list [--json|--brief] [--call CALL,..].. [--process NAME,..].. LOG..
                                              --json is a record for each event, in a line of its own
 events.py chrome [--from K] [--to K] LOG..   the events as a trace for Perfetto and for Chrome's trace viewer
 events.py traps MODULE LOG [MODULE LOG]..    for each process that trapped, the debugger's lines that go to the
-                                             position before the event in which it did
+                                             position before the event in which it did, and to its frames
 
 The debugger counts the events that replay accepts: give it the same logs, and whole ones.
 """
@@ -84,7 +84,7 @@ def print_traps(program, pairs):
             continue
         position = max(place for place, (_, other) in enumerate(order, 1) if other is log)
         print("# %s %s in what follows event %d: %s" % (log.name, end, position, log.entries[-1].text(log.name)))
-        print("goto %d\nevents 3\nthreads %s\nstep" % (position - 1, log.name))
+        print("goto %d\nevents 3\nthreads %s\nstep\nframes %s %d" % (position - 1, log.name, log.name, log.entries[-1].thread))
 
 
 def arguments():

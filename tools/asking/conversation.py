@@ -1,19 +1,28 @@
 """A command of the program that answers lines, behind pipes: a line goes to it, and the lines of its answer come back."""
 
 import random
+import select
 import subprocess
 
 # So many bytes are written before their answers are read: more might fill both pipes.
 MOST_AT_ONCE = 32768
+# So often, in seconds, it is looked at whether an answer is still waited for.
+PAUSE = 0.05
 
 
 class Ended(Exception):
     """The program has ended; its status is told."""
 
 
+class Paused(Exception):
+    """An answer is no longer waited for."""
+
+
 class Conversation:
     def __init__(self, words):
         self.words = words
+        # Asked while an answer has not begun: whether it is no longer waited for.
+        self.is_paused = None
         self.first = self.begin()
 
     def begin(self):
@@ -41,6 +50,9 @@ class Conversation:
         """The lines of the answer, as they come. The answer of a last line, a number drawn for it, tells where they end."""
         mark = str(random.getrandbits(62))
         self.write([line, "print " + mark])
+        while self.is_paused and not select.select([self.program.stdout], [], [], PAUSE)[0]:
+            if self.is_paused():
+                raise Paused
         while True:
             answer = self.line()
             if answer == mark:

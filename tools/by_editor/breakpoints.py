@@ -70,20 +70,18 @@ class Breakpoints:
 
     # What a breakpoint has beside its place
 
-    def more(self, breakpoint, node):
-        """Condition, count and message as a point has them; names of variables are those of a process."""
-        condition = self.engine.names.qualified(breakpoint.get("condition") or "", node)
-        message = breakpoint.get("logMessage")
-        return {
-            "condition": condition.strip(),
-            "program": "say %s" % self.items(message, node) if message else "",
-            "hits": hits_test(breakpoint.get("hitCondition")),
-        }
+    def more(self, breakpoint, node=None):
+        """Condition, count and message as a point has them. Names of variables are those of a process, or of the one whose event it is."""
+        condition, message = breakpoint.get("condition") or "", breakpoint.get("logMessage")
+        program = "say %s" % self.items(message) if message else ""
+        if node:
+            condition, program = (self.engine.names.qualified(text, node) for text in (condition, program))
+        return {"condition": condition.strip(), "program": program, "hits": hits_test(breakpoint.get("hitCondition"))}
 
-    def items(self, message, node):
+    def items(self, message):
         """A log message as items of `say`: text, and values in braces."""
         parts = re.split(r"\{([^{}]*)\}", LOG + "%d " % (self.engine.points.last + 1) + message)
-        shown = [self.engine.names.qualified(part, node) if at % 2 else '"%s"' % re.sub(r"[^ !#-~]", "?", part) for at, part in enumerate(parts)]
+        shown = [part if at % 2 else '"%s"' % re.sub(r"[^ !#-~]", "?", part) for at, part in enumerate(parts)]
         return ", ".join(part for part in shown if part != '""')
 
     # Kinds of breakpoints
@@ -97,27 +95,25 @@ class Breakpoints:
     def in_file(self, path, breakpoint):
         """At calls in the line, or in the next one of the function that has some."""
         file, line, nodes = self.place(path, breakpoint["line"])
-        points = []
-        try:
-            for node in nodes:
-                points += self.engine.points.break_in("%s %s:%d" % (node, file, line), **self.more(breakpoint, node))
-        except Refusal:
-            # All of its processes, or none.
-            for point in points:
-                self.delete(point)
-            raise
-        return points, {"line": line}
+        return self.engine.points.break_in("%s %s:%d" % (",".join(nodes), file, line), **self.more(breakpoint)), {"line": line}
 
     def place(self, path, wanted):
         """The file, the line and the processes of the first calls from this line on."""
         names = self.engine.names
         calls = [(node, call) for node in names.nodes for call in calls_of(names, node) if is_file(call.file, path)]
         line = min((call.line for _, call in calls if call.line >= wanted), default=None)
-        if line is None or ends_between(path, wanted, line):
+        if line is None or self.ends_between(path, wanted, line):
             words = "%s:%d" % (calls[0][1].file if calls else os.path.basename(path), wanted)
             raise Refusal(advice(names, names.nodes, words))
         found = [(node, call) for node, call in calls if call.line == line]
         return found[0][1].file, line, sorted({node for node, _ in found}, key=names.nodes.index)
+
+    def ends_between(self, path, first, last):
+        """Whether the function of one line ends before another one; of a function that was put into others its brace in the source tells."""
+        names = self.engine.names
+        ends = [function.last for node in names.nodes for function in names.functions(node).values()
+                if is_file(function.file, path) and function.first <= first <= function.last]
+        return max(ends) < last if ends else has_brace_between(path, first, last)
 
     def in_events(self, breakpoint):
         """At a line of the list of events, which is a position."""
@@ -136,8 +132,8 @@ class Breakpoints:
             return self.engine.points.watch(self.engine.names.qualified(rest, node), **self.more(breakpoint, node)), {}
         words = name.split()
         if words and words[-1] in CALL_NAMES:
-            return self.engine.points.break_at_call("* " + name if len(words) == 1 else name, **self.more(breakpoint, node)), {}
-        return self.engine.points.break_in(name, **self.more(breakpoint, node)), {}
+            return self.engine.points.break_at_call("* " + name if len(words) == 1 else name, **self.more(breakpoint)), {}
+        return self.engine.points.break_in(name, **self.more(breakpoint)), {}
 
     def on_setDataBreakpoints(self, breakpoints, **_):
         return self.put("data breakpoint", breakpoints, self.at_data)
@@ -155,7 +151,7 @@ class Breakpoints:
         return self.put("exception", wanted, self.at_call)
 
     def at_call(self, breakpoint):
-        return self.engine.points.break_at_call("* " + breakpoint["filterId"], **self.more(breakpoint, self.engine.current)), {}
+        return self.engine.points.break_at_call("* " + breakpoint["filterId"], **self.more(breakpoint)), {}
 
     def on_dataBreakpointInfo(self, name, variablesReference=0, frameId=None, **_):
         text = self.adapter.looks.path_of(variablesReference, name) if variablesReference else self.engine.names.qualified(name, self.adapter.looks.node_of(frameId))
@@ -174,8 +170,8 @@ def is_file(file, path):
     return os.path.basename(file) == os.path.basename(path)
 
 
-def ends_between(path, first, last):
-    """Whether a function ends from one line on and before another: its brace stands at the beginning of a line."""
+def has_brace_between(path, first, last):
+    """Whether a function ends from one line on and before another, by a brace at the beginning of a line."""
     try:
         with open(path, encoding="utf-8", errors="replace") as file:
             return any(line.startswith("}") for number, line in enumerate(file, 1) if first <= number < last)

@@ -51,7 +51,7 @@ class Looks:
 
     def begin(self):
         self.session = Session(self.engine, self.lines.append)
-        self.engine.keeps_reads = False
+        self.engine.keeps_reads, self.session.is_paused = False, self.adapter.is_paused
         self.forget()
 
     def forget(self):
@@ -69,13 +69,14 @@ class Looks:
         for node in self.engine.names.nodes:
             state, threads = self.engine.threads.standing(node)
             here = event.entry.thread if event and event.log.name == node else None
-            shown = {thread: how for thread, how in threads.items() if how != "ended" or thread == here} or {here or 0: state}
+            shown = {thread: how for thread, how in threads.items() if how != "ended" or thread == here}
+            shown = shown or {here or self.engine.threads.trapped(node) or 0: state}
             for thread, how in shown.items():
                 made.append({"id": self.adapter.moves.thread_id(node, thread), "name": "%s %d %s" % (node, thread, how)})
         return {"threads": made}
 
     def on_stackTrace(self, threadId, startFrame=0, levels=0, **_):
-        """Where the thread stands in its source, and its last event in the list of all."""
+        """The functions in which the thread is, with where they stand in the source, and its last event in the list of all."""
         node, thread = self.adapter.moves.thread(threadId)
         found = self.frames_of(node, thread)
         first = len(self.frames) + 1
@@ -84,17 +85,24 @@ class Looks:
         return {"stackFrames": made[startFrame : startFrame + levels if levels else None], "totalFrames": len(made)}
 
     def frames_of(self, node, thread):
-        state, threads = self.engine.threads.standing(node)
-        how, last, found = threads.get(thread, state), self.engine.threads.last_event(node, thread), []
-        call = self.engine.threads.call_of(node, thread)
-        if call:
-            path = self.adapter.launch.sources.path(call.file)
-            shown = {"source": {"name": os.path.basename(path), "path": path}} if path else {}
-            found.append({"name": "%s, %s" % (call.function, how), "line": call.line if path else 0, **shown})
+        how, last = self.engine.threads.how(node, thread), self.engine.threads.last_event(node, thread)
+        stack = self.engine.frames.of(node, thread)
+        found = [self.frame(frame, how if at == 0 else "") for at, frame in enumerate(stack.frames)]
+        if stack.more:
+            found.append({"name": "and %d more" % stack.more, "line": 0, "presentationHint": "label"})
         if last:
             listed = {"line": last, "source": self.events.source} if self.events.is_there else {"line": 0}
-            found.append({"name": "event " + self.engine.line_at(last), **listed})
+            event = {"name": "event " + self.engine.line_at(last), **listed}
+            # A client shows the first frame.
+            found = [*found, event] if any("source" in frame for frame in found) else [event, *found]
         return found or [{"name": "%s %d: %s" % (node, thread, how), "line": 0}]
+
+    def frame(self, frame, how):
+        """A function at the line of its call or its first one, and of the innermost how the thread stands."""
+        name = "%s in %s" % (frame.call.function, frame.name) if frame.call and frame.call.function != frame.name else frame.name
+        path = self.adapter.launch.sources.path(frame.place[0]) if frame.place else None
+        shown = {"source": {"name": os.path.basename(path), "path": path}} if path else {}
+        return {"name": ", ".join(filter(None, (name, how))), "line": frame.place[1] if path else 0, **shown}
 
     def node_of(self, frame):
         """The process of a frame; without one that of the last event."""
@@ -159,6 +167,7 @@ class Looks:
     def on_loadedSources(self, **_):
         names = self.engine.names
         files = {call.file for node in names.nodes for call in calls_of(names, node)}
+        files |= {function.file for node in names.nodes for function in names.functions(node).values() if function.file}
         paths = sorted(filter(None, map(self.adapter.launch.sources.path, files)))
         listed = [self.events.source] if self.events.is_there else []
         return {"sources": listed + [{"name": os.path.basename(path), "path": path} for path in paths]}

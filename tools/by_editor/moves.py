@@ -33,12 +33,11 @@ class Moves:
     def walk(self, target, reason):
         """Goes on to a position, unless a point or a pause stops it before."""
         start, progress = self.engine.position, Progress(self.adapter, self.engine.position, target)
-        said, is_stopped = self.engine.forward(target, self.adapter.is_paused, progress.tell)
+        answer = self.engine.walk(target, self.adapter.is_paused, on_part=progress.tell)
         progress.end()
         self.print_between(start, self.engine.position)
-        if not is_stopped:
-            reason = "pause" if self.engine.position < target else reason
-        self.stopped(reason, self.adapter.breakpoints.logged(said), is_stopped)
+        reason = "pause" if self.engine.position < target else reason
+        self.stopped(reason, self.adapter.breakpoints.logged(answer.said), not answer.how)
 
     def print_between(self, start, end):
         """What guests printed on the way, each line with its place in the list of events."""
@@ -106,11 +105,11 @@ class Moves:
         self.adapter.after = [self.walk_back]
 
     def walk_back(self):
-        answer = self.engine.points.back(is_paused=self.adapter.is_paused)
+        answer = self.engine.back(is_paused=self.adapter.is_paused)
         if answer is None:
             self.stopped("pause")
         else:
-            said = answer.lines[:-1]
+            said = self.engine.points.of_stops(answer.lines[:-1])
             self.stopped("start", [line for line in said if line != "start"], said != ["start"])
 
     def jump(self, position, reason):

@@ -1,6 +1,6 @@
 """The words that the session answers itself, or by several lines of the debugger; all others are the debugger's."""
 
-from by_hand import keeping, looking, making, moving, pointing, reading, switches
+from by_hand import framing, keeping, looking, making, moving, pointing, reading, switches
 from by_hand.words import HELP, help_for
 
 
@@ -15,17 +15,26 @@ COMMANDS = {
     "print": looking.show_value,
     "bytes_at": looking.show_bytes,
     "threads": looking.show_threads,
+    "backtrace": framing.show_frames,
+    "frame": framing.show_frame,
+    "up": framing.up,
+    "down": framing.down,
+    "finish": framing.finish,
+    "reverse-finish": framing.reverse_finish,
     "names": looking.show_names,
     "ptype": reading.show_type,
     "whatis": reading.show_type_in_short,
     "list_here": reading.show_source_here,
     "cast": reading.cast,
-    "where": looking.show_position,
+    "where": looking.show_where,
+    "when": looking.show_position,
     "process": looking.choose_process,
     "display": looking.display,
     "undisplay": looking.undisplay,
     "goto": moving.go_to,
     "continue": moving.go_on,
+    "next": moving.next_of_thread,
+    "reverse-next": moving.next_back,
     "watch": pointing.watch,
     "break": pointing.break_at,
     "tbreak": pointing.break_once,

@@ -2,6 +2,7 @@
 
 import re
 
+from by_hand.framing import show_stack
 from sessions.arithmetic import evaluate, has_own
 from sessions.casts import address, value_of
 from sessions.names import Refusal
@@ -129,10 +130,16 @@ def show_threads(session, rest, form):
 
 
 def place_behind(session, node, line):
-    """The place in the source of the thread that a line of an answer tells of, after a blank."""
-    thread = line.split(" ", 1)[0]
-    call = session.engine.threads.call_of(node, int(thread)) if thread.isdigit() else None
-    return " " + in_words(call) if call else ""
+    """The functions in which the thread is that a line of an answer tells of, after a blank. One that trapped is told with its process."""
+    first, _, how = line.partition(" ")
+    if first == node:
+        thread = session.engine.threads.trapped(node)
+        return "" if thread is None else session.trapped_in(node, thread)
+    if how in ("ended", "at begin") or not session.names.functions(node):
+        call = session.engine.threads.call_of(node, int(first))
+        return " " + in_words(call) if call else ""
+    stack = session.engine.frames.of(node, int(first))
+    return " in " + stack.chain() if len(stack) else ""
 
 
 def show_names(session, rest, form):
@@ -143,6 +150,13 @@ def show_names(session, rest, form):
         for variable in session.names.variables(node):
             if all(word in variable.name for word in words):
                 session.print("%s.%s  %s" % (node, variable.name, variable.type))
+
+
+def show_where(session, rest, form):
+    """The position, and the frames of the thread that made its event."""
+    show_position(session, rest, form)
+    if session.engine.position:
+        show_stack(session, *session.engine.index.thread_at(session.engine.position))
 
 
 def show_position(session, rest, form):

@@ -30,9 +30,8 @@ def watch(session, rest, form):
 
 def break_at(session, rest, form, **more):
     where, condition = condition_of(rest)
-    condition = session.names.qualified(condition, session.current)
     words, points = where.split(), session.engine.points
-    if words[-1:] and words[-1] not in CALL_NAMES:
+    if words[-1:] and words[-1] not in (*CALL_NAMES, "*"):
         tell(session, points.break_in(" ".join(words), condition, **more))
     else:
         tell(session, points.break_at_call("* " + where if len(words) == 1 else where, condition, **more))
@@ -47,7 +46,12 @@ def put_condition(session, rest, form):
     number, _, condition = rest.partition(" ")
     if not number.isdigit() or int(number) not in session.engine.points.held:
         raise Refusal("condition wants the number of a point and an expression")
-    session.engine.points.change(int(number), condition=session.names.qualified(condition.strip(), session.current))
+    session.engine.points.change(int(number), condition=own_names(session, int(number), condition.strip()))
+
+
+def own_names(session, number, text):
+    """What is put at a point: at a watchpoint names without a process are of the current one."""
+    return text if session.engine.points.point(number).nodes else session.names.qualified(text, session.current)
 
 
 def ignore(session, rest, form):
@@ -88,7 +92,7 @@ def attach(session, rest, form):
     if not number.isdigit() or not program.strip():
         session.send("do " + rest)
         return
-    session.engine.points.change(int(number), program=session.names.qualified(program.strip(), session.current))
+    session.engine.points.change(int(number), program=own_names(session, int(number), program.strip()))
 
 
 def begin_commands(session, rest, form):
@@ -108,7 +112,7 @@ def show_points(session, rest, form):
         return
     points = list(session.engine.points)
     for point in points:
-        session.print("%d %s" % (point.number, session.names.line(point.line)))
+        session.print("%d %s" % (point.number, session.names.line(session.engine.points.line(point))))
     for point in points:
         if point.place or point.condition:
             session.print("    point %d is %s" % (point.number, point.told))
@@ -148,10 +152,7 @@ def set_variable(session, rest, form):
 
 def go_back_to_point(session, rest, form):
     """Back to where a point fires that may stop there."""
-    if rest:
-        session.send("rcontinue " + rest)
-    else:
-        session.print_place(session.engine.points.back(session.print_event))
+    session.send(("rcontinue " + rest).strip())
 
 
 def go_to_start(session, rest, form):

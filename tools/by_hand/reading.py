@@ -3,6 +3,7 @@
 import re
 
 from logs.format import CALLS
+from by_hand.framing import chosen, stack_here
 from sessions.casts import type_of, value_of
 from sessions.names import Refusal
 from sessions.places import calls_of
@@ -65,25 +66,31 @@ def show_source(session, where):
     if where == ".":
         show_source_here(session, "", "")
         return
-    names = session.names
-    calls = [call for node in names.nodes for call in calls_of(names, node)]
     file, _, line = where.rpartition(":")
     front, _, function = where.rpartition(".")
-    found = next((call for call in calls if call.function == (function if front in names.nodes else where)), None)
+    found = first_line(session.names, function if front in session.names.nodes else where)
     if file and line.isdigit():
         show_lines(session, file, int(line))
     elif found:
-        show_lines(session, found.file, found.line)
+        show_lines(session, *found)
     else:
-        raise Refusal("list wants FILE:LINE, a function in which calls are, or `.`; `l` alone lists the points")
+        raise Refusal("list wants FILE:LINE, a function, or `.`; `l` alone lists the points")
+
+
+def first_line(names, name):
+    """The file and the first known line of a function, or None."""
+    functions = (function for node in names.nodes for function in names.functions(node).values())
+    found = next(((function.file, function.first) for function in functions if function.name == name and function.file), None)
+    return found or next(((call.file, call.line) for node in names.nodes for call in calls_of(names, node) if call.function == name), None)
 
 
 def show_source_here(session, rest, form):
-    engine, event = session.engine, session.engine.event
-    call = engine.threads.call_of(event.log.name, event.entry.thread) if event else None
-    if call is None:
-        raise Refusal("where this thread stands is not told: guests that `guests/build --lines` made tell it")
-    show_lines(session, call.file, call.line)
+    """Around the line at which the chosen frame stands."""
+    _, _, stack = stack_here(session)
+    place = stack.frames[chosen(session)].place
+    if place is None:
+        raise Refusal("where this thread stands is not told: NAME.places of its guest has no lines of that function")
+    show_lines(session, *place)
 
 
 def show_lines(session, file, line):

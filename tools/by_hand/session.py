@@ -5,6 +5,7 @@ import re
 from asking.conversation import Ended
 from by_hand.commands import COMMANDS
 from by_hand.completion import LINES
+from by_hand.pausing import Pause
 from by_hand.words import REPEATED, expanded, instead_of
 from logs.wording import bytes_lines, shown
 from naming import LONGEST_LINE
@@ -13,6 +14,7 @@ from sessions.casts import datagram, type_of
 from sessions.engine import MOVES
 from sessions.names import Refusal
 from sessions.places import in_words
+from sessions.points import ignored
 from sessions.reading import LineRefused
 from sessions.sources import Sources
 
@@ -27,6 +29,10 @@ class Session:
         self.shows_sent, self.shows_bytes = False, True
         # The process that was chosen, expressions that are shown at each stop, and structs of datagrams by their calls.
         self.chosen, self.displays, self.casts = None, {}, {}
+        # The frame that was chosen: the position, the thread, and its number there.
+        self.chosen_frame = None
+        # What pauses a walk in place of Ctrl-C.
+        self.is_paused = None
         # Where lines go until `end`, and how many displays were made.
         self.collect, self.made_displays = None, 0
         self.sources = Sources(engine.names.modules.values())
@@ -112,11 +118,17 @@ class Session:
             self.refuse("? 1 syntax at column 1")
             self.print("    %s is no word here: help lists them, docs/gdb.md has gdb's" % typed.split()[0])
 
-    def walk(self):
-        """Goes on to where a point stops it, and tells where that is."""
-        answer = self.engine.ask("continue", self.print_event)
+    def walk(self, target=None):
+        """Goes on to a position, or to the end, unless a point or Ctrl-C stops it before, and tells where that is."""
+        answer = self.walked(self.engine.last if target is None else target, self.print_event)
         self.print_place(answer)
         return answer
+
+    def walked(self, target, told=ignored):
+        if self.is_paused:
+            return self.engine.walk(target, self.is_paused, told)
+        with Pause() as is_asked:
+            return self.engine.walk(target, is_asked, told)
 
     def add_display(self, text, form):
         self.made_displays += 1
@@ -180,14 +192,21 @@ class Session:
             self.print("    " + told)
 
     def standing(self, node, thread):
-        threads = self.engine.threads
+        threads, thread = self.engine.threads, int(thread)
+        if threads.trapped(node) == thread:
+            return "%s %d %s%s" % (node, thread, threads.how(node, thread), self.trapped_in(node, thread))
         if not threads.keeps_places(node):
             return None
-        how = threads.standing(node)[1].get(int(thread), "ended")
-        if how in ("ended", "at begin"):
-            return "%s %s has ended" % (node, thread)
-        call = threads.call_of(node, int(thread))
-        return "%s %s stands %s %s" % (node, thread, " ".join(how.split()[:2]), in_words(call)) if call else None
+        how = threads.how(node, thread)
+        if how == "at begin" or not how.startswith("at "):
+            return "%s %d has ended" % (node, thread)
+        call = threads.call_of(node, thread)
+        return "%s %d stands %s %s" % (node, thread, " ".join(how.split()[:2]), in_words(call)) if call else None
+
+    def trapped_in(self, node, thread):
+        """The functions that a thread was in where it trapped."""
+        stack = self.engine.frames.of(node, thread)
+        return " in " + stack.chain() if len(stack) else ""
 
     def explain(self, answer, typed):
         """What helps beside the debugger's answer to a line that it refuses."""

@@ -3,28 +3,33 @@
 import re
 
 SHORT = {
-    "b": "break", "br": "break", "tb": "tbreak", "c": "continue", "cont": "continue", "fg": "continue", "n": "step", "next": "step",
+    "b": "break", "br": "break", "tb": "tbreak", "c": "continue", "cont": "continue", "fg": "continue", "n": "next",
     "s": "step", "si": "step", "stepi": "step", "ni": "step", "nexti": "step", "u": "until", "p": "print", "inspect": "print",
     "d": "delete", "del": "delete", "e": "events", "g": "goto", "h": "help", "?": "help", "l": "list", "q": "quit", "exit": "quit",
-    "t": "threads", "w": "watch", "x": "bytes_at", "rc": "rcontinue", "reverse-continue": "rcontinue", "rs": "back", "rn": "back",
-    "rsi": "back", "rni": "back", "reverse-step": "back", "reverse-next": "back", "reverse-stepi": "back", "reverse-nexti": "back",
-    "run": "from_start", "r": "from_start", "start": "from_start", "source": "load", "bt": "threads", "backtrace": "threads",
-    "cond": "condition", "when": "where", "dis": "disable", "en": "enable", "inferior": "process", "f": "frame", "fin": "finish",
+    "t": "threads", "w": "watch", "x": "bytes_at", "rc": "rcontinue", "reverse-continue": "rcontinue", "rs": "back",
+    "rn": "reverse-next", "rsi": "back", "rni": "back", "reverse-step": "back", "reverse-stepi": "back", "reverse-nexti": "back",
+    "run": "from_start", "r": "from_start", "start": "from_start", "source": "load", "bt": "backtrace",
+    "cond": "condition", "dis": "disable", "en": "enable", "inferior": "process", "f": "frame", "fin": "finish",
 }
 INFO = {"b": "list", "break": "list", "breakpoints": "list", "watchpoints": "list", "threads": "threads", "t": "threads",
-        "inferiors": "process", "variables": "names", "var": "names", "display": "display", "source": "list_here", "line": "list_here"}
+        "stack": "backtrace", "s": "backtrace", "frame": "frame", "f": "frame", "inferiors": "process", "variables": "names", "var": "names", "display": "display", "source": "list_here", "line": "list_here"}
 # What an empty line does again: looking, and going on.
-REPEATED = ("step", "back", "continue", "rcontinue", "events", "list", "list_here", "print", "bytes_at", "threads", "where", "goto", "vars", "mem", "display")
+REPEATED = ("next", "reverse-next", "up", "down", "finish", "step", "back", "continue", "rcontinue", "events", "list", "list_here", "print", "bytes_at", "threads", "where", "goto", "vars", "mem", "display")
 
 HELP = """\
 moving      s [N]  c [N]  g K    step, continue (N times), goto (also +N and -N); back [N] and rcontinue go back; run goes to position 0
-            an empty line does the last move again; Ctrl-C gives a walk up, and the session goes on where it was
+            n [N]  rn [N]        next: on to the next event of this thread, unless a point stops it before; back to the one before it
+            an empty line does the last move again; Ctrl-C pauses a walk where it is; one that goes back ends where it began
 looking     p NODE.PATH          a variable by its name, also a whole struct or array: p a.peers[1].seen  p a.head->next
             p EXPR  p/x EXPR     any expression: p sum(@_.{served}) + 1; /x /o /t /c /d say how; & | ^ ~ << >> ?: are taken too
             p *PATH  p PATH@3    what a pointer points to, three in a row; p &PATH, sizeof(PATH), (struct T *)EXPR
             process NODE         names without a process are of this one; without a word that of the last event again
             x NODE.PATH          the bytes of a variable; x NODE ADDRESS LENGTH any bytes; x/4xw ADDRESS numbers
             e [N]  t [NODE]      the last events; where threads stand, of all processes without a name
+            where  when          the position with the functions that its thread is in; only the position
+            bt [NODE] [THREAD]   the functions that a thread is in, the innermost first; without words that of the last event
+            frame N  up  down    choose one of them, whose source `list .` shows; finish goes on to the first event after which the thread
+                                 has left it, reverse-finish back to the last one after which it was not in it yet
             names [NODE] [PART]  the variables of a process; ptype and whatis their types; bytes on|off shows what events sent and took
             display EXPR         shows it at each stop; undisplay N;  cast CALL struct T shows datagrams as a struct
             list FILE:LINE       the source, also list FUNCTION and list . for where the last event's thread stands
@@ -36,19 +41,16 @@ points      w EXPR [if EXPR]     stops where the value changes;  b NODE CALL [if
 keeping     save FILE  load FILE points, programs and variables, as they were typed
             script FILE          all lines that were sent, for friday debug;  sent on|off shows them
             cut [FOLDER]         logs with what the event here needs and nothing else; page FILE, picture FILE, schedule FILE of the recording
-            where                the position;  q ends
+            q                    ends the session
 gdb's words break, next, info break, info threads, reverse-step and so on are understood. help WORD tells of one; docs/gdb.md has a table.
 """
 
 # Words that the page tells in its text.
-IN_TEXT = ("step", "continue", "goto", "back", "rcontinue", "from_start", "run", "ptype", "whatis", "bytes", "undisplay", "cast", "tbreak", "enable",
+IN_TEXT = ("finish", "reverse-finish", "step", "continue", "goto", "back", "rcontinue", "from_start", "run", "ptype", "whatis", "bytes", "undisplay", "cast", "tbreak", "enable",
            "disable", "delete", "ignore", "list", "vars", "sent", "page", "picture", "schedule", "quit")
 
 # What the words of gdb that are not done here are about, and what to type in their place.
 INSTEAD = {
-    "finish": "a replay tells no frames, so no function is finished: `b NODE.FUNCTION` stops at calls in one, and `c` goes on",
-    "up": "no frames are told above the call at which a thread waits: `t` has that call, and `list .` its source",
-    "frame": "no frames are told above the call at which a thread waits: `t` has that call, and `list .` its source",
     "until": "there are no lines to go to: `tbreak FILE:LINE` and `c` go to a call in a line, `goto K` to a position",
     "jump": "a replay makes what was recorded: `goto K` goes to a position",
     "call": "a replay makes what was recorded, so no function is called: `p` reads what is in memory",
@@ -67,17 +69,16 @@ INSTEAD = {
     "output": "`p EXPR` prints a value",
     "attach": "a session is of the logs that it was given",
     "kill": "`q` ends the session",
-    "reverse-finish": "no frames are told: `b NODE.FUNCTION` and `rc` go back to a call in a function",
     "clear": "`l` lists the points, and `d W` deletes one",
 }
 ALIKE = {
-    "down": "up", "stepi": "step", "advance": "until", "return": "finish", "handle": "signal", "awatch": "rwatch", "thbreak": "hbreak",
+    "stepi": "step", "advance": "until", "return": "call", "handle": "signal", "awatch": "rwatch", "thbreak": "hbreak",
     "target": "attach", "file": "attach", "core": "attach", "detach": "kill", "echo": "printf", "dprintf": "printf", "python-interactive": "python",
-    "make": "shell", "!": "shell", "edit": "shell", "trace": "rwatch", "catch": "hbreak", "symbol-file": "attach", "select-frame": "frame",
-    "info locals": "locals", "info args": "locals", "info frame": "frame", "info registers": "disassemble", "info signals": "signal",
+    "make": "shell", "!": "shell", "edit": "shell", "trace": "rwatch", "catch": "hbreak", "symbol-file": "attach", 
+    "info locals": "locals", "info args": "locals", "info registers": "disassemble", "info signals": "signal",
 }
 INSTEAD["locals"] = "local variables are not told: `names NODE` has the variables in memory; keep what you want to see in a static one, LIBLOG_WATCHED"
-INSTEAD["info"] = "info has break, threads, variables, display, inferiors and source; `names NODE` lists variables, and `t` says which calls threads wait at"
+INSTEAD["info"] = "info has break, threads, frame, stack, variables, display, inferiors and source; `names NODE` lists variables, and `t` says which calls threads wait at"
 
 
 def expanded(line):

@@ -78,9 +78,12 @@ def check_hunt(program, folder):
     """The hunt of the example, with what an editor asks at each stop."""
     editor = launched(program, folder, watches={"money": MONEY})
     source = {"path": os.path.join(folder, "bank.c")}
-    answers = editor.ask("setBreakpoints", source=source, breakpoints=[{"line": 60}, {"line": 65, "condition": "balances[0] < 100"}, {"line": 170}])["breakpoints"]
-    same("breakpoints", [(answer["verified"], answer.get("line")) for answer in answers], [(True, 65), (True, 65), (False, None)])
-    assert "those of the file are in" in answers[2]["message"], answers
+    answers = editor.ask("setBreakpoints", source=source, breakpoints=[{"line": 60}, {"line": 65, "condition": "balances[0] < 100"}, {"line": 66}, {"line": 170}])["breakpoints"]
+    same("breakpoints", [(answer["verified"], answer.get("line")) for answer in answers], [(True, 65), (True, 65), (False, None), (False, None)])
+    assert "those of the file are in" in answers[3]["message"], answers
+    answers = editor.ask("setBreakpoints", source={"path": "/nowhere/bank.c"}, breakpoints=[{"line": 124}, {"line": 134}])["breakpoints"]
+    same("kept to a function", [(answer["verified"], answer.get("line")) for answer in answers], [(True, 127), (False, None)])
+    editor.ask("setBreakpoints", source={"path": "/nowhere/bank.c"}, breakpoints=[])
     same("none", editor.ask("setBreakpoints", source=source, breakpoints=[]), {"breakpoints": []})
     same("entry", entered(editor), 0)
     info = editor.ask("dataBreakpointInfo", name=MONEY)
@@ -90,8 +93,11 @@ def check_hunt(program, folder):
     same("the loss", (place, reason, stop["threadId"], stop["hitBreakpointIds"] != []), (54, "data breakpoint", threads["north 3"], True))
     assert "600 -> 571" in stop["text"] and "account 0 changes by -10" in editor.output()
     north = threads["north 3"]
-    for part, lines in (({"startFrame": 0, "levels": 1}, [65]), ({"startFrame": 1, "levels": 19}, [54]), ({}, [65, 54])):
-        same("frames %s" % part, lines_of(editor, north, **part), (lines, 2))
+    for part, lines in (({"startFrame": 0, "levels": 1}, [65]), ({"startFrame": 1, "levels": 19}, [14, 54]), ({}, [65, 14, 54])):
+        same("frames %s" % part, lines_of(editor, north, **part), (lines, 3))
+    frames = editor.ask("stackTrace", threadId=north)["stackFrames"]
+    same("names", [frame["name"] for frame in frames[:2]], ["change in serve, at unlock 1", "begin"])
+    assert frames[2]["name"].startswith("event 54: 25 north 3 print "), frames
     same("north 0", lines_of(editor, threads["north 0"])[0][0], 160)
     same("north 1", lines_of(editor, threads["north 1"])[0][0], 127)
     same("south 4", lines_of(editor, threads["south 4"])[0][0], 57)
@@ -164,6 +170,8 @@ def check_points(program, folder):
     same("end", entered(editor), 125)
     condition = {"line": 65, "condition": "balances[0] == 90 && me == 0"}
     editor.ask("setBreakpoints", source=source, breakpoints=[condition])
+    listed = editor.ask("evaluate", expression=":l", context="watch")["result"]
+    assert listed.startswith("1 break * * if (!@!.ended && ") and "\n2 " not in listed, listed
     alone = [editor.move("reverseContinue", threadId=1)[0] for _ in range(2)]
     editor.move("goto", targetId=125, threadId=1)
     editor.ask("setBreakpoints", source=source, breakpoints=[condition, {"line": 127, "logMessage": "me {me} took {taken_count}"}])
@@ -178,6 +186,10 @@ def check_points(program, folder):
     editor.ask("setExceptionBreakpoints", filters=["lock"])
     editor.move("goto", targetId=1, threadId=1)
     locks = [editor.move("continue", threadId=1)[0] for _ in range(4)]
+    editor.ask("setExceptionBreakpoints", filters=[], filterOptions=[{"filterId": "lock", "condition": "me == 1"}])
+    editor.move("goto", targetId=1, threadId=1)
+    south = [editor.move("continue", threadId=1)[2]["description"].split()[6] for _ in range(3)]
+    same("of the process whose event it is", south, ["south"] * 3)
     editor.ask("setExceptionBreakpoints", filters=[])
     editor.ask("setFunctionBreakpoints", breakpoints=[{"name": "lock", "hitCondition": "%2"}])
     editor.move("goto", targetId=1, threadId=1)
@@ -191,6 +203,64 @@ def check_points(program, folder):
     assert editor.ask("setDataBreakpoints", breakpoints=[info])["breakpoints"][0]["verified"]
     assert editor.move("reverseContinue", threadId=1)[1] == "data breakpoint"
     same("no program is left", editor.end()[0], 0)
+
+
+# A guest whose walks take long where many points look at each of its events.
+LONG_GUEST = """#include "liblog.h"
+void _start(void) {
+    for (;;) {
+        liblog_yield();
+    }
+}
+"""
+LONG_EVENTS, WATCHES, SOON = 150_000, 60, 0.2
+
+
+def check_pauses(program, folder):
+    """A pause stops a walk soon, and where it is; one of a walk back leaves it where that began. A long walk tells how far it is."""
+    with open(os.path.join(folder, "long.c"), "w", encoding="ascii") as file:
+        file.write(LONG_GUEST)
+    with open(os.path.join(folder, "long"), "w", encoding="ascii") as file:
+        file.write("friday 1\nprocess long long.wasm\nrun 0 0 %d\n" % LONG_EVENTS)
+    subprocess.run([os.path.join(TOP, "guests", "build"), "long.c"], cwd=folder, check=True, stdout=subprocess.DEVNULL)
+    subprocess.run([program, "record", "long"], cwd=folder, check=True, stdout=subprocess.DEVNULL)
+    editor = Editor(program, folder)
+    editor.ask("initialize", adapterID="friday", supportsProgressReporting=True)
+    editor.ask("launch", pairs=["long.wasm", "long.log"])
+    entered(editor)
+    for number in range(WATCHES):
+        editor.ask("evaluate", expression="watch long.clock == %d" % (LONG_EVENTS + number), context="repl")
+    begun, spent, places = time.monotonic(), [], []
+    for _ in range(3):
+        editor.ask("continue", threadId=1)
+        time.sleep(0.3)
+        asked = time.monotonic()
+        editor.ask("pause", threadId=1)
+        stop = editor.event("stopped")
+        spent.append(time.monotonic() - asked)
+        places.append(position_of(stop))
+        same("reason", stop["reason"], "pause")
+    assert 0 < places[0] < places[1] < places[2] < LONG_EVENTS and min(spent) < SOON, (places, spent)
+    assert {"progressStart", "progressUpdate", "progressEnd"} <= {message["event"] for message in editor.events}
+    editor.ask("goto", targetId=LONG_EVENTS, threadId=1)
+    editor.event("stopped")
+    # A line of the console is paused as a button's walk is.
+    editor.ask("goto", targetId=1, threadId=1)
+    editor.event("stopped")
+    console = editor.send("evaluate", {"expression": "c 2", "context": "repl"})
+    time.sleep(0.3)
+    pause = editor.send("pause", {"threadId": 1})
+    assert "paused\n" in editor.answer(console)["body"]["result"] and editor.answer(pause)["success"]
+    assert 1 <= position_of(editor.event("stopped")) < LONG_EVENTS
+    editor.ask("goto", targetId=LONG_EVENTS, threadId=1)
+    editor.event("stopped")
+    editor.ask("reverseContinue", threadId=1)
+    editor.ask("pause", threadId=1)
+    stop = editor.event("stopped")
+    same("back", (position_of(stop), stop["reason"]), (LONG_EVENTS, "pause"))
+    same("points are kept", editor.ask("evaluate", expression=":l", context="watch")["result"].count("watch "), WATCHES)
+    same("status", editor.end()[0], 0)
+    print("paused after %s ms in %.0f s" % (", ".join("%.0f" % (1000 * each) for each in spent), time.monotonic() - begun))
 
 
 def check_restart(program, folder):
@@ -289,7 +359,7 @@ def main():
         folder = os.path.join(above, "bank")
         os.mkdir(folder)
         prepared(program, folder)
-        for check in (check_hunt, check_points, check_restart, check_refused, check_bad_input, check_kept_ends):
+        for check in (check_hunt, check_points, check_pauses, check_restart, check_refused, check_bad_input, check_kept_ends):
             check(program, folder)
     print("editor: as expected")
 

@@ -42,6 +42,11 @@ AT_END = {
     "a 3": ("sleep_until", "keep_time", "kit/runtime.c", "liblog_sleep_until("),
     "b 0": ("recv", "_start", "lines.c", "liblog_recv("),
 }
+# Where functions are in the source, by the lines with which they begin.
+FUNCTIONS = {
+    "_start": ("lines.c", "void _start("), "late": ("lines.c", "void late("), "wait_for": ("lines.c", "void wait_for("),
+    "wait_in_header": ("lines.h", "void wait_in_header("), "thread_start": ("kit/threads.c", "thread_start)("),
+}
 # The places of the process a in the order in which its threads come to them.
 COURSE = (
     ("on_signal", "_start", "lines.c", "liblog_on_signal("), ("spawn", "_start", "lines.c", "thread_start(late"),
@@ -76,12 +81,27 @@ def session(program, folder, typed, wanted=0):
     return run(words, folder, "".join(line + "\n" for line in typed), wanted)
 
 
+def check_functions(folder):
+    """Each function of the module has the lines at which it begins and ends in its file."""
+    with open(os.path.join(folder, "lines.places")) as file:
+        found = {words[2]: words[3:] for words in map(str.split, file) if words[0] == "function"}
+    assert FUNCTIONS.keys() <= found.keys() and "inlined" not in found, found
+    for name, (file, begin) in FUNCTIONS.items():
+        with open(os.path.join(GUESTS, *(["check", file] if file[:4] != "kit/" else [file[4:]]))) as text:
+            lines = text.read().splitlines()
+        first = next(number for number, line in enumerate(lines, 1) if begin in line and not line.endswith(";"))
+        brace = next(number for number, line in enumerate(lines, 1) if number > first and line == "}")
+        # What returns in the line before may leave none for the brace.
+        assert found[name][:2] == [file, str(first)] and brace - 1 <= int(found[name][2]) <= brace, (name, found[name], first, brace)
+
+
 def check_threads(program, folder):
     told = session(program, folder, ["step 1000", "t"])
     assert "\n    a 1 has ended\na running\n" in told and "\n1 ended\n" in told, told
     for thread, place in AT_END.items():
         node, number = thread.split()
-        form = r"\n%s at %s .*%s\n" % (number, *map(re.escape, spelled(place)))
+        outside = " < begin" if number != "0" else ""
+        form = r"\n%s at %s .*%s%s\n" % (number, *map(re.escape, spelled(place)), outside)
         assert re.search(form, told[told.index(node + " running") :]), (thread, told)
 
 
@@ -105,16 +125,32 @@ def check_points(program, folder):
 
 
 def check_kept(program, folder):
-    """A point at a line in each process, and a program in place of a condition, come back from a file."""
+    """A point at a line of both processes is one, and comes back from a file with its condition and its program."""
     line = spelled(COURSE[3])[1].split(", ")[1]
-    typed = ["b %s if a.clock > 0 || b.clock > 0" % line, "l", "c", 'do 1 say "here"', "d 2", "run", "c", "save points"]
+    typed = ["b %s if a.clock > 0 || b.clock > 0" % line, "l", "c", 'do 1 say "here ", @!', "run", "c", "save points"]
     told = session(program, folder, typed)
-    assert told.count("comes to a call in " + line) == 1 and "\nhere\nhere\nend\n" in told, told
-    assert "point 2 is break b.%s if " % line in told, told
+    assert told.count("point 1\n") == 1 and told.count("comes to a call in " + line) == 1, told
+    assert re.findall(r"here (\w)", told) == ["a", "b"] * 2 and "\nhere b\nend\n" in told, told
+    assert "\n1 break * * if (" in told and "point 1 is break %s if a.clock > 0 || b.clock > 0\n" % line in told, told
     with open(os.path.join(folder, "points")) as file:
-        assert "break a.%s if a.clock > 0 || b.clock > 0\ndo . say" % line in file.read()
+        assert 'break %s if a.clock > 0 || b.clock > 0\ndo . say "here ", @!\n' % line in file.read()
     again = session(program, folder, ["load points", "l", "c"])
-    assert again.startswith("point 1\n1 watch ") and '    do 1 say "here"\nhere\nhere\nend\n' in again, again
+    assert again.startswith("point 1\n1 break * * if ") and again.count("\nhere ") == 4, again
+
+
+def check_conditions(program, folder):
+    """Names in a condition and a program are of the process whose event it is; conditions hold both ways, beside what only tells."""
+    inlined = "b b,a.inlined if liblog_last_call[0] > 7"
+    told = session(program, folder, [inlined, "l", "c", "c", "run", "do 1 say liblog_last_call[0]", "c"])
+    assert "\n1 break * * if (!@!.ended && " in told and "point 1 is break a,b.inlined if liblog_last_call[0] > 7\n" in told, told
+    stops = re.findall(r"break 1: (\w) comes to a call in inlined\nat (\d+): ", told)
+    assert len(stops) == 2 and len(re.findall(r"^\d+$", told, re.M)) == 4, told
+    assert "1 break a * if " in session(program, folder, ["b a,a.inlined", "l"])
+    both = session(program, folder, [inlined, "b lines.c:38", 'do 2 say "passed"', "step 1000", "rc", "rc", "rc", "rc", "rc"])
+    backwards = re.findall(r"break 1: (\w) comes to a call in inlined\nat (\d+): ", both)
+    assert backwards[-1:] == stops[:1] and len(backwards) == 4 and "passed" not in both and both.endswith("start\nat 0\n"), both
+    told = session(program, folder, ["w a.events if b.nothing", "condition 1 1", "w a.events", "condition 1 a.events > 3 &", "condition 1 a.events > 3", "c", "condition 1", "l"], 1)
+    assert "\nat 7: " in told and told.endswith("1 watch @a.events\n") and told.count("? 1 syntax") == 1, told
 
 
 def check_refused(program, folder):
@@ -135,7 +171,8 @@ def main():
         with open(os.path.join(folder, "schedule"), "w") as file:
             file.write(SCHEDULE)
         run([program, "record", "schedule"], folder)
-        for check in (check_threads, check_course, check_points, check_kept, check_refused):
+        check_functions(folder)
+        for check in (check_threads, check_course, check_points, check_kept, check_conditions, check_refused):
             check(program, folder)
     print("lines: as expected")
 

@@ -1,8 +1,8 @@
 #!/usr/bin/env python3
-"""Checks what ./friday says where something is refused: 83 calls, and 57 lines of the debugger, with what stands on standard
-output and on standard error, as refusals.txt has it. Then the launcher's own reading of schedules and of lines of the debugger
-is held against the program's, on some that are drawn at random, and a session is typed on a terminal. A program is given, so
-that nothing is built.
+"""Checks what ./friday says where something is refused, 83 calls and 63 lines of the debugger, and what it says of traps: with what
+stands on standard output and on standard error, as refusals.txt has it. Then the launcher's own reading of schedules and of lines of
+the debugger is held against the program's, on some that are drawn at random, and a session is typed on a terminal. A program is given,
+so that nothing is built.
 
 check_refusals.py [PROGRAM]     (the program that answers ./friday, if none is given)
 check_refusals.py --write       (writes refusals.txt anew, to be read line by line)
@@ -23,7 +23,7 @@ import termios
 
 from tools_path import TOP  # before the modules of the tools, which it lets be found
 from asking.program import program_of
-from refusal_cases import BAD_LINES, FILES, LINES, MANY, MODULES, PAIRS, WORDS, Case, cases_of_logs, contents_of, module
+from refusal_cases import BAD_LINES, FILES, LINES, MANY, MODULES, PAIRS, TRAPPING, TRAPS, WORDS, Case, cases_of_logs, contents_of
 
 sys.path.append(os.path.join(TOP, "launcher"))
 
@@ -90,7 +90,7 @@ def all_told(program, room):
     lines = Case("lines of the debugger", "debug " + PAIRS, {"lines": "\n".join(LINES) + "\n"}, "< lines")
     cases = (*BAD_LINES, *MANY, *MODULES, *cases_of_logs(given["ping.log"], given["pong.log"]), *FILES, *WORDS)
     assert len(cases) == 83
-    for number, case in enumerate((*cases, lines)):
+    for number, case in enumerate((*cases, *TRAPS, lines)):
         folder = os.path.join(room, "%d" % number)
         # Logs in the folder of a recording would be told of as well.
         put(folder, {name: given[name] for name in given if ".log" in case.words or not name.endswith(".log")})
@@ -216,15 +216,11 @@ def check_terminal(program, room):
         terminal.type(last)
         assert terminal.run.wait(120) == status, (last, terminal.run.returncode)
         os.close(terminal.at)
-    write_trap(folder)
+    put(folder, TRAPPING)
     terminal = Terminal(clone, folder, ["record", "s"])
     terminal.until("t trapped after its event 2, unreachable: ")
+    terminal.until("t was in _start\n")
     assert terminal.run.wait(120) == 0
-
-
-def write_trap(folder):
-    """A guest that asks for the time and then comes to an `unreachable`."""
-    put(folder, {"t.wasm": module(body=b"\x10\0\x1a\0"), "s": "friday 1\nprocess t t.wasm\nrun 0 0 3\n"})
 
 
 def main():

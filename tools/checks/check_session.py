@@ -1,6 +1,6 @@
 #!/usr/bin/env python3
 """Checks tools/session over the logs of examples/lost_update: what lines typed by hand answer, that the saved script is
-answered by the debugger alone with the same values, that points come back from a file, and that Ctrl-C gives up a walk.
+answered by the debugger alone with the same values, that points come back from a file, and that Ctrl-C pauses a walk.
 
 check_session.py [PROGRAM]   (the program that answers ./friday, if none is given)
 """
@@ -46,7 +46,19 @@ TYPED = (
     ("p north.balances[0] + north.events", r"\d+"),
     ("p nobody.x", r"\? 1 syntax at column 7\n    print nobody.x\n          \^"),
     ("p north.nothing", r"\? bank.wasm has no variable nothing"),
-    ("finish", r"\? finish: a replay tells no frames.*\n"),
+    ("finish", r"\? north 1 does not leave take_all up to the end\n"),
+    ("up", r"#1  begin, kit/threads.c:14-22\n +14  static void begin\("),
+    ("up", r"\? the frames of north 1 are #0 to #1\n"),
+    ("list .", r"     9  .*\n(.*\n){4}>   14  static void begin\("),
+    ("down", r"#0  take_all, bank.c:122-134\n   122  static void take_all\("),
+    ("frame 2", r"\? the frames of north 1 are #0 to #1\n"),
+    ("frame x", r"\? frame wants a number"),
+    ("where", r"53: 24 north 1 send .*\n.*\nnorth 1 at recv 2176 16 2172\n#0  take_all, "),
+    ("bt south", r"south 0 at begin\n#0  _start, bank.c:149-165\n|south \d "),
+    ("bt 3", r"north 3 at print 4128 25\n#0  print_two, print_two.h:16-24\n#1  serve, bank.c:81-92\n#2  begin, kit/threads.c:14-22\n$"),
+    ("bt 77", r"\? north has no thread 77\n"),
+    ("bt nobody", r"\? bt wants a process, .* north, south, east\n"),
+    ("t north", r"(?s).*\n1 at recv 2176 16 2172 in take_all, bank.c:122-134 < begin\n"),
     ("hbreak x", r"\? hbreak: `b` makes all points"),
     ("info locals", r"\? info: local variables are not told"),
     ("wibble", r"\? 1 syntax at column 1\n    wibble is no word here"),
@@ -55,7 +67,7 @@ TYPED = (
     ("set $n = 7", ""),
     ("p $n + 1", "8"),
     ("x/16xb north 5328", r"  5328  (..[ ]){16}"),
-    ("bt", "north running\n0 at "),
+    ("bt", r"north 1 at recv 2176 16 2172\n#0  take_all, bank.c:122-134\n#1  begin, kit/threads.c:14-22\n$"),
     ("b north lock if @north.clock > 12", "point 2"),
     ("run", "at 0"),
     ("c", "break 2\nat [0-9]+: [0-9]+ north [0-9] lock"),
@@ -64,7 +76,7 @@ TYPED = (
     ("info threads", "north running\n0 at .*"),
     ("names north balances", r"north.bank::balances  i64\[2\]"),
     ("help", "moving .*"),
-    ("help finish", "a replay tells no frames"),
+    ("help finish", r" +frame N  up  down .*finish goes on"),
     ("help tbreak", "points .*tbreak does so once"),
     ("help nothing", "nothing is no word here"),
 )
@@ -147,6 +159,14 @@ HABITS = (
     ("set var x = 3", r"\? no memory is ever written"),
     ("delete", "deleted 4"),
     ("delete 9", r"\? 6 no such point"),
+    ("run", "at 0"),
+    ("n 2", r"at \d+: \d+ north 0 "),
+    ("reverse-next", r"at 1: 1 north 0 begin"),
+    ("rn", r"at 0\n"),
+    ("n 0", r"\? how many times"),
+    ("g 51", "at 51: 25 north 3 print"),
+    ("n", r"\? north 3 makes no event after this one"),
+    ("frame x", r"\? frame wants a number"),
     ("b east recv\n", "point 5\n$"),
     ("l", "5 break east recv\n$"),
 )
@@ -197,6 +217,8 @@ HOSTILE = (
     b"p ((struct s0 *)0)" + b"->f" * 900, b"p (struct s0 *)", b"p deep@", b"p @", b"x/999999999999xw 0", b"x a 99999999999999999999999", b"cast send struct s0", b"goto -99999999999999999999", b"goto +", b"c 0",
     b"c 99999999999999999999", b"commands", b"ignore 1 99999999999999999999", b"d 1-999999999", b"list " + b"a" * 3000 + b":1", b"list ../../../../etc/passwd:1", b"save /", b"load /", b"load \x00", b"cut /dev/null/x", b"page", b"schedule a.wasm",
     b"set $x", b"set " + b"$" * 4000, b"do . " + b"{" * 3000, b"b a." + b"x" * 3000, b"undisplay 7", b"help " + b"x" * 3000, b"info " + b"\x1b" * 30, b"print/" + b"x" * 3000 + b" 1", b"condition 1 " + b"!" * 3000, b"p 9" * 1300,
+    b"bt", b"t", b"where", b"up", b"down", b"frame 0", b"list .", b"bt 99999999999999999999", b"bt a 64", b"bt a a", b"up 99999999999999999999", b"down \xb2", b"frame -1", b"finish",
+    b"finish 1", b"reverse-finish", b"n 99999999999999999999", b"n", b"rn \xb2", b"b a,a,b.f", b"b a.\x1b[31mred", b"b * *", b"b a * if @!.u32[x]", b"b * recv if @!.{deep.f} && x", b"do . say @!, @!.{own}",
 )
 
 
@@ -205,6 +227,7 @@ def check_hostile(program, folder):
     for name in ("a.wasm", "a.log"):
         shutil.copy(os.path.join(TOP, "examples", "first", name), folder)
     lines = ["module a.wasm %s" % digest_of(os.path.join(folder, "a.wasm")), "variable x::deep s0 1024", "variable x::own own 1024", "variable x::row u8[9][9][9][9][9][9][9] 0"]
+    lines += ["function %d \x1b[31mred%s" % (number, number % 2 * " a\x1b.c 1 99999999999999999999") for number in range(9)]
     lines += ["variable x::\x1b[31mred u32 0", "struct own 4", "field own own 0", "field next own* 0"]
     for depth in range(100_000):
         lines += ["struct s%d 4" % depth, "field f %s 0" % ("s%d" % (depth + 1) if depth < 99_999 else "u32")]
@@ -237,40 +260,69 @@ def check_kept(program, folder):
     assert again.startswith("point 1\n1 watch sum(") and "$seen %s\n" % seen in again, again
 
 
-# Answers lines as the debugger would, and stays at its first `continue` for ever.
+def check_much_said(program, folder):
+    """A walk pauses once 10,000 lines were said, and its script is answered as it was."""
+    says, script = "; ".join(['say "much"'] * 150), os.path.join(folder, "script")
+    told = session(program, "bytes off\nbreak * *\ndo 1 %s\nc\nc\nscript %s\n" % (says, script))
+    with open(script) as file:
+        alone = subprocess.run([program, "debug", *PAIRS], stdin=file, stdout=subprocess.PIPE, text=True, cwd=LOGS, timeout=300).stdout
+    (paused,), (end,) = (re.findall(r"^%s\nat (\d+)" % word, told, re.M) for word in ("paused", "end"))
+    assert 67 <= int(paused) < int(end) == 125 and told.count("much\n") == alone.count("much\n") == 150 * 125, (paused, end)
+    assert "\nat %s: " % paused in alone and re.findall(r"^at (\d+)", alone, re.M)[-1] == end, alone[-300:]
+
+
+# Answers lines as the debugger would, and takes so many seconds for a part of a walk.
 STAND_IN = """#!/usr/bin/env python3
 import sys, time
 print("at 0", flush=True)
+position = 0
 for line in sys.stdin:
     verb, _, rest = line.strip().partition(" ")
-    if verb == "continue":
-        time.sleep(1000)
+    print("[%%s]" %% line.strip(), file=open("asked", "a"))
+    position = int(rest) if verb == "goto" else position
+    if verb in ("continue", "rcontinue"):
+        time.sleep(%g)
+        position += int(rest)
+        print("paused")
     answers = {"print": rest, "watch": "point 1", "vars": "$n 7", "list": "1 watch 1"}
-    answer = "at " + rest if verb == "goto" else answers.get(verb)
-    print("[%s]" % line.strip(), file=open("asked", "a"))
+    answer = "at %%d" %% position if verb in ("goto", "continue") else answers.get(verb)
     if answer:
         print(answer, flush=True)
 """
 
 
-def check_given_up(folder):
-    """Ctrl-C in a walk leaves the session at its old position, with its points, programs and variables."""
+def interrupted(folder, seconds, lines, line, times):
+    """What is said, and what the debugger was asked, where Ctrl-C comes in a line, so many times."""
     stand_in, pairs = os.path.join(folder, "stand_in"), [os.path.join(LOGS, word) for word in PAIRS]
     with open(stand_in, "w") as file:
-        file.write(STAND_IN)
+        file.write(STAND_IN % seconds)
     os.chmod(stand_in, 0o755)
     words = [sys.executable, os.path.join(TOOLS, "session"), "--program", stand_in, *pairs]
     run = subprocess.Popen(words, stdin=subprocess.PIPE, stdout=subprocess.PIPE, text=True, cwd=folder)
-    run.stdin.write("goto 9\nwatch 1\ndo 1 stop\ncontinue\np 3\n")
+    run.stdin.write(lines)
     run.stdin.flush()
-    wait_for(os.path.join(folder, "asked"), "[vars]")
-    time.sleep(0.3)
-    run.send_signal(signal.SIGINT)
+    wait_for(os.path.join(folder, "asked"), line)
+    for _ in range(times):
+        time.sleep(0.3)
+        run.send_signal(signal.SIGINT)
     out, _ = run.communicate("q\n", timeout=60)
     with open(os.path.join(folder, "asked")) as file:
         asked = [line for line in file.read().splitlines() if not re.fullmatch(r"\[print \d{5,}\]", line)]
-    assert "given up; going back to position 9\n3\n" in out and run.returncode == 0, out
-    assert asked[-5:] == ["[set $n 7]", "[watch 1]", "[do 1 stop]", "[goto 9]", "[print 3]"], asked
+    os.remove(os.path.join(folder, "asked"))
+    assert run.returncode == 0, out
+    return out, asked
+
+
+def check_interrupted(folder):
+    """Ctrl-C in a walk leaves the session where the walk is. A second one gives up what does not come to an end, as does the first in a
+    walk back, with the points, programs and variables as they were."""
+    lines, restored = "goto 9\nwatch 1\ndo 1 stop\n%s\np 3\n", ["[set $n 7]", "[watch 1]", "[do 1 stop]", "[goto 9]", "[print 3]"]
+    for walk, asked_for, times in (("continue", "[continue 16]", 2), ("rc", "[rcontinue]", 1)):
+        out, asked = interrupted(folder, 1000, lines % walk, asked_for, times)
+        assert "given up; going back to position 9\n3\n" in out and asked[-5:] == restored, (out, asked)
+    out, asked = interrupted(folder, 0.2, lines % "continue", "[continue 16]", 1)
+    found = re.search(r"\npaused\nat (\d+)\n3\n$", out)
+    assert found and 25 <= int(found[1]) < 125 and asked.count("[goto 9]") == 1 and asked[-1] == "[print 3]", (out, asked)
 
 
 def wait_for(path, text):
@@ -289,11 +341,11 @@ def main():
     program = os.path.abspath(program_of(parser.parse_args().program))
     check_answers(program)
     check_repeat(program)
-    for check in (check_kept, check_habits, check_hostile):
+    for check in (check_kept, check_habits, check_much_said, check_hostile):
         with tempfile.TemporaryDirectory() as folder:
             check(program, folder)
     with tempfile.TemporaryDirectory() as folder:
-        check_given_up(folder)
+        check_interrupted(folder)
     print("session: as expected")
 
 

@@ -6,6 +6,7 @@ cannot be all of what, where, why and what to do, the case says why.
 
 from __future__ import annotations
 
+import hashlib
 import os
 from dataclasses import dataclass, field, replace
 
@@ -99,6 +100,17 @@ MODULES = (
 )
 
 
+# ---- traps
+
+# A guest that asks for the time and then comes to an `unreachable`.
+TRAPPING = {"t.wasm": module(body=b"\x10\0\x1a\0"), "s": "friday 1\nprocess t t.wasm\nrun 0 0 3\n"}
+PLACES = "module t.wasm %s\nfunction 1 _start guest.c 3 9\n" % hashlib.sha256(TRAPPING["t.wasm"]).hexdigest()
+TRAPS = (
+    Case("a trap in a function that the module names", "record s", TRAPPING, "> out"),
+    Case("a trap in a function that places tell", "record s", {**TRAPPING, "t.places": PLACES}, "> out"),
+)
+
+
 # ---- logs
 
 
@@ -168,9 +180,10 @@ LINES = (
     "threads pong ping", "print", "print +1", "print 1 +", "print 1 2", "print x", "print nosuch.x", "print (1", "print 1 < 2 < 3", "print 1 = 2",
     "print 1 & 2", "print ~1", "print 'a'", "print \"a", "print @ping", "print @ping.x", "print @ping.u64[0]", "print @ping.u8 64", "print @ping.global[-1]",
     "print @pang.clock", "print @_.clock", "print sum(sum(1))", "print sum", "print $", "watch $x", "watch", "break ping", "break ping nosuch",
-    "break pang recv", "delete", "delete 7", "do 1", "do 7 stop", "do 1 say", "set x 3",
+    "break pang recv", "delete", "delete 7", "do 1", "do 7 stop", "do 1 say", "set x 3", "frames ping", "frames ping 64", "frames pang 0", "frames ping 9",
+    "print @!.clock", "break * * if $x",
 )
-assert len(LINES) == 57
+assert len(LINES) == 63
 
 
 

@@ -7,21 +7,26 @@ import functools
 import re
 import time
 
-from asking.conversation import Conversation
+from asking.conversation import Conversation, Paused
 from logs.index import Index
-from sessions.names import Names, Refusal
+from sessions.frames import Frames
+from sessions.names import Names
 from sessions.places import Threads
 from sessions.points import Points, ignored
-from sessions.reading import Answer, Reading
+from sessions.reading import Answer, Reading, Walked
 from sessions.verdict import Verdict
 
 # Lines that can go on for long, and whose programs may change variables.
 WALKS = ("continue", "rcontinue")
 MOVES = ("goto", "step", "back", *WALKS)
 AT = re.compile(r"at (\d+)(?:: |$)")
+# Why a walk ended that no point stopped.
+END, PAUSED = "end", "paused"
 LEAST = -(2**63)
-# A walk that may be paused looks for that after so many events at first, and then about so many times a second.
-SLICE, LOOKS = 500, 6
+# A walk goes in parts, so that it can be paused: of so many events at first, and then of about so many seconds.
+PART, GROWTH, SECONDS = 16, 4, 0.05
+# A walk pauses once so many lines were said, as the debugger's own does.
+MOST_SAID = 10_000
 
 
 class Engine(Reading):
@@ -33,7 +38,7 @@ class Engine(Reading):
         self.position, self.variables = 0, []
         # The lines that a script needs to be answered as the session was; whether those are among them that read memory.
         self.sent, self.keeps_reads = [], False
-        self.points, self.threads = Points(self), Threads(self)
+        self.points, self.threads, self.frames = Points(self), Threads(self), Frames(self)
         self.verdict = Verdict(program, pairs)
 
     @property
@@ -50,10 +55,10 @@ class Engine(Reading):
         self.on_line(sent)
         if verb in WALKS:
             self.variables = list(self.debugger.ask("vars"))
-        answers = []
-        for answer in self.debugger.ask(sent):
-            answers.append(self.points.told(answer) if verb in WALKS else answer)
-            told(answers[-1])
+        answers, lines = [], self.debugger.ask(sent)
+        for answer in self.points.in_words(lines) if verb in WALKS else lines:
+            answers.append(answer)
+            told(answer)
         if len(answers) == 1 and answers[0].startswith("? "):
             return Answer(sent, answers, True)
         self.sent.append(sent)
@@ -77,6 +82,18 @@ class Engine(Reading):
             for line in lines:
                 self.on_line(line)
         return self.ask_each(lines)
+
+    def back(self, told=ignored, is_paused=None):
+        """Back to where a point fired last that may stop there. If that is paused it is given up, with None as the answer."""
+        self.debugger.is_paused = is_paused
+        try:
+            return self.ask("rcontinue", told)
+        except Paused:
+            self.debugger.is_paused = None
+            self.give_up()
+            return None
+        finally:
+            self.debugger.is_paused = None
 
     def give_up(self):
         """Leaves a walk, by a new program that is brought to where the session was."""
@@ -140,39 +157,60 @@ class Engine(Reading):
         at = bisect.bisect_right(positions, self.position)
         return positions[at] if at < len(positions) else self.last
 
-    # Walks that end at a position
+    # Walks
 
-    def forward(self, target, is_paused=lambda: False, told=ignored):
-        """Goes on to a position at most, in parts, so that it can be paused: what points said, and whether one stopped it."""
-        said, part, begun = [], SLICE, time.monotonic()
-        while self.position < target and not is_paused():
-            stop = min(target, self.position + part)
-            lines, is_stopped = self.walk_to(stop)
-            said += lines
-            if is_stopped:
-                return said, True
-            told(self.position)
-            spent, begun = time.monotonic() - begun, time.monotonic()
-            part = max(SLICE, min(4 * part, int(part / LOOKS / max(spent, 0.001))))
-        return said, False
+    def walk(self, target, is_paused=lambda: False, told=ignored, on_part=ignored):
+        """Goes on to a position at most, in parts, so that it can be paused. The answer is as if one `continue` had gone there, or to
+        where it was paused. `told` hears each line of it as it comes, and `on_part` the positions on the way."""
+        start, part, sent, said, how, last = self.position, PART, [], [], PAUSED, self.here
+        line = "continue" if target >= self.last else "continue %d" % (target - start)
 
-    def fence(self, position):
-        """The number of a new point that fires at one position: there its process makes its event of this number."""
-        event = self.index.event(position)
-        answer = self.ask_each(["watch @%s.events >= %d" % (event.log.name, event.number)])[0]
-        if answer.startswith("?"):
-            raise Refusal("9 too many: a walk that ends at a position needs one of the 64 points; delete one")
-        return answer.split()[1]
+        def hear(answer):
+            said.append(answer)
+            told(answer)
 
-    def walk_to(self, stop):
-        """Goes on to a position at most: what points said, and whether one stopped it. A point that fires there ends it."""
-        fence = self.fence(stop)
-        try:
-            lines = self.accepted("continue").lines[:-1]
-        finally:
-            self.ask_each(["delete " + fence])
-        own = [line for line in lines if not line.startswith("watch %s: " % fence) and line not in ("paused", "end")]
-        return own, self.position < stop and "paused" not in lines or bool(self.points.stopped_by(own))
+        self.on_line(line)
+        while not is_paused():
+            begun, count = time.monotonic(), max(1, min(part, target - self.position))
+            sent.append("continue %d" % count)
+            how, last = self.part(count, hear)
+            if how != PAUSED or self.position >= target or len(said) >= MOST_SAID:
+                break
+            on_part(self.position)
+            part = max(1, min(GROWTH * part, int(part * SECONDS / max(time.monotonic() - begun, 0.001))))
+        if is_cut := how == PAUSED and self.position < target:
+            line = "continue %d" % (self.position - start)
+        # Where points said so much, one line would have paused before.
+        self.sent += [line] if sent and len(said) < MOST_SAID else sent
+        ends = [how, last] if how == END or is_cut else [last]
+        for answer in ends:
+            told(answer)
+        return Walked(line, said + ends, False, said, how)
+
+    def part(self, count, hear):
+        """Goes on so many positions at most: why it ended, and the line that tells where."""
+        start, waiting, heard = self.position, [], 0
+        self.variables = list(self.debugger.ask("vars"))
+        for answer in self.points.in_words(self.debugger.ask("continue %d" % count)):
+            waiting.append(answer)
+            if len(waiting) > 2:
+                hear(waiting.pop(0))
+                heard += 1
+        last = waiting.pop()
+        self.move(int(AT.match(last)[1]))
+        # A program may say these words as well.
+        is_end = waiting == [END] and self.position == self.last
+        is_pause = waiting == [PAUSED] and (self.position == start + count or heard >= MOST_SAID)
+        if is_end or is_pause:
+            return waiting[0], last
+        for answer in waiting:
+            hear(answer)
+        return "", last
+
+    @property
+    def here(self):
+        """The line of the position."""
+        return "at " + self.line_at(self.position) if self.position else "at 0"
 
 
 def setting(line):

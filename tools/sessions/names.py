@@ -4,6 +4,7 @@ import os
 import re
 
 from logs.format import BadLog, head_of, printable
+from function_names import functions_of
 from naming import NAME, REFERENCE, STEP, Script, end_of, place_of
 from place_table import Refusal, read_table
 
@@ -32,13 +33,20 @@ class Names:
 
     def read_tables(self, told):
         """Reads the places beside each module; `told` hears of processes without names."""
-        self.tables = {}
+        self.tables, self.known = {}, {}
         for node, module in self.modules.items():
             try:
                 self.tables[node] = read_table(os.path.splitext(module)[0] + ".places")
             except Refusal as refusal:
                 told("no names for %s: %s" % (node, printable(str(refusal))))
         self.script = Script(self.tables)
+
+    def functions(self, node):
+        """The functions of a process's module that have a name, by their numbers."""
+        module = self.modules[node]
+        if module not in self.known:
+            self.known[module] = functions_of(module)
+        return self.known[module]
 
     def variables(self, node):
         return self.tables[node].variables if node in self.tables else []
@@ -61,17 +69,35 @@ class Names:
 
     def qualified(self, text, node):
         """The text with the process before each variable that has none and that this process has."""
+        return self.completed(text, [node], lambda path: "%s.%s" % (node, path))
+
+    def of_event(self, text, nodes):
+        """The text with the place of each variable that has no process: in the one whose event it is, which is one of these."""
+        script = Script({node: self.tables[node] for node in nodes if node in self.tables})
+        return self.completed(text, nodes, lambda path: script.expanded("@!.{%s}" % self.indexed("!", path)))
+
+    def completed(self, text, nodes, spell):
+        """The text with what `spell` makes of each path that has no process and begins with a variable of one of these."""
 
         def named(at):
             if found := self.reference(text, at):
                 return text[at : found[2]], found[2]
             name = NAME.match(text, at)
-            if name is None or name[0] in KEPT_WORDS or text[name.end() : name.end() + 1] == "(" or not self.is_variable(node, name[0]):
+            if name is None or name[0] in KEPT_WORDS or text[name.end() : name.end() + 1] == "(":
+                return None
+            if not any(self.is_variable(node, name[0]) for node in nodes):
                 return None
             end = end_of_path(text, at)
-            return "%s.%s" % (node, text[at:end]), end
+            return spell(text[at:end]), end
 
         return replaced(text, named)
+
+    def modules_of(self, nodes):
+        """These processes in lists, those of one module in each."""
+        found = {}
+        for node in nodes:
+            found.setdefault(self.tables[node].digest, []).append(node)
+        return list(found.values())
 
     def spelled(self, text):
         """The text as a script spells it: @NODE.{PATH} for NODE.PATH, and @NODE.clock for NODE.clock."""

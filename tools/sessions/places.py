@@ -4,6 +4,7 @@ import itertools
 import re
 from dataclasses import dataclass
 
+from naming import place_of
 from sessions.names import Refusal
 
 LAST_CALL = "liblog_last_call"
@@ -11,19 +12,19 @@ LAST_CALL = "liblog_last_call"
 
 @dataclass(frozen=True)
 class Place:
-    """A function or a line of a process, and the test whether the process stands at one of its calls."""
+    """A function or a line of processes that have one module, and the test whether the one whose event it is came to one of its calls."""
 
-    node: str
+    nodes: list
     words: str
     test: str
 
 
-def last_call(names, node):
+def last_call(names, node, spelled=""):
     """The expression for the address of the place that a process keeps, or None where it keeps none."""
     if node not in names.tables or not names.tables[node].calls:
         return None
     try:
-        return names.script.expanded("@%s.{%s}" % (node, LAST_CALL))
+        return place_of(spelled or node, names.tables[node], LAST_CALL).load()
     except Refusal:
         # The guest makes no call, so the linker left the variable out.
         return None
@@ -43,25 +44,27 @@ def line_of(call):
 
 
 def meant(names, where):
-    """The processes that `NODE PLACE`, `NODE.PLACE`, `* PLACE` or `PLACE` is about, and the place."""
-    node, _, words = where.rpartition(" ")
+    """The processes that `NODE PLACE`, `NODE.PLACE`, `NODE,NODE.PLACE`, `* PLACE` or `PLACE` is about, and the place."""
+    nodes, _, words = where.rpartition(" ")
     front, _, behind = where.partition(".")
-    if not node and front in names.nodes:
-        node, words = front, behind
-    if node not in ("", "*", *names.nodes):
+    if not nodes and all(node in names.nodes for node in front.split(",")):
+        nodes, words = front, behind
+    if nodes in ("", "*"):
+        return names.nodes, words
+    if not all(node in names.nodes for node in nodes.split(",")):
         raise Refusal("the processes are %s" % ", ".join(names.nodes))
-    return [node] if node in names.nodes else names.nodes, words
+    return [node for node in names.nodes if node in nodes.split(",")], words
 
 
 def places(names, nodes, words):
-    """The place in each process that has calls in this function or line."""
+    """The place in each module that has calls in this function or line, for its processes among these."""
     found = []
-    for node in nodes:
-        calls = calls_of(names, node)
+    for alike in names.modules_of(node for node in nodes if calls_of(names, node)):
+        calls, kept = calls_of(names, alike[0]), last_call(names, alike[0], "!")
         are_there = [words in (call.function, line_of(call)) for call in calls]
         runs = [[call.address for _, call in run] for there, run in itertools.groupby(zip(are_there, calls), lambda pair: pair[0]) if there]
         if runs:
-            found.append(Place(node, words, " || ".join(test_of(last_call(names, node), run[0], run[-1]) for run in runs)))
+            found.append(Place(alike, words, "!@!.ended && (%s)" % " || ".join(test_of(kept, run[0], run[-1]) for run in runs)))
     if not found:
         raise Refusal(advice(names, nodes, words))
     return found
@@ -103,6 +106,20 @@ class Threads:
             found = map(STANDS.fullmatch, lines)
             self.standings[node] = first.partition(" ")[2], {int(stands[1]): stands[2] for stands in found if stands}
         return self.standings[node]
+
+    def how(self, node, thread):
+        """At which call a thread waits, or that it has ended; of a process that does not run any more how that ended."""
+        state, threads = self.standing(node)
+        return threads.get(thread, "ended" if state == "running" else state)
+
+    def last_thread(self, node):
+        """The thread that made the last event of a process up to here, or 0."""
+        last = self.engine.at_or_before(self.engine.index.of_process[node])
+        return self.engine.index.thread_at(last)[1] if last else 0
+
+    def trapped(self, node):
+        """The thread in whose run the process trapped, or None."""
+        return self.last_thread(node) if self.standing(node)[0].startswith("trapped ") else None
 
     def keeps_places(self, node):
         return last_call(self.engine.names, node) is not None

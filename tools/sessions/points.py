@@ -1,7 +1,7 @@
 """The points of a session. A point keeps its number whatever becomes of it in the debugger, where it may be made anew.
 
-What a condition, a count or a place needs is put into the debugger's own line and program by `Points.line` and `Points.program`,
-and nowhere else.
+Its condition and its place in the source are a condition of the debugger's line, and a count of firings is in its program: `Points.line`
+and `Points.program` put them there, and nothing else does.
 """
 
 from __future__ import annotations
@@ -13,23 +13,24 @@ from sessions.names import STRING, Refusal
 from sessions.places import Place, meant, places
 
 SAID = re.compile(r"(watch|break) (\d+)(?=$|:)")
-# The way back is looked through in parts, of which the first has so many events, and each further one so many times as many.
-PART, GROWTH = 500, 4
-# A program that does nothing, for a point that is passed on the way back.
-NOTHING = "if 0 { stop }"
+# What leads to a position, with the name of its process.
+LED_BY = re.compile(r"at \d+: \d+ (\w+) ")
 
 
-def ignored(line):
+def ignored(*_):
     pass
 
 
 @dataclass
 class Point:
-    """A point: the line that was typed, the debugger's line that makes it, and what holds of it beside that."""
+    """A point: the line that was typed, the debugger's line that makes it, and what holds of it beside that.
+
+    At a break names without a process, in its condition and its program, are of the process whose event it is: one of `nodes`."""
 
     number: int
     typed: str
     line: str
+    nodes: list = ()
     place: Place = None
     condition: str = ""
     program: str = ""
@@ -48,7 +49,7 @@ class Point:
 
     @property
     def has_program(self):
-        return bool(self.program or self.condition or self.hits or self.place)
+        return bool(self.program or self.hits)
 
     @property
     def told(self):
@@ -74,19 +75,34 @@ class Points:
         return self.make(Point(self.last + 1, "watch " + expression, "watch " + expression, condition=condition, **more))
 
     def break_at_call(self, where, condition="", **more):
-        return self.make(Point(self.last + 1, "break " + where, "break " + where, condition=condition, **more))
+        node, names = where.partition(" ")[0], self.engine.names
+        nodes = [node] if node in names.nodes else names.nodes
+        return self.make(Point(self.last + 1, "break " + where, "break " + where, nodes, condition=condition, **more))
 
     def break_in(self, where, condition="", **more):
-        """Points at a function or line, one for each process that has calls there: each stops where a thread comes to one.
-
-        The value is another at each event after which the process stands there, and at the one that leads away; the program
-        passes over that."""
-        names, made = self.engine.names, []
-        for place in places(names, *meant(names, where)):
-            line = "watch (%s) * @%s.events" % (place.test, place.node)
-            typed = "break %s.%s" % (place.node, place.words)
-            made += self.make(Point(self.last + 1, typed, line, place=place, condition=condition, **more))
+        """Points at a function or line, one for all processes of a module: each stops where a thread of one comes to a call there."""
+        nodes, words = meant(self.engine.names, where)
+        found, made = places(self.engine.names, nodes, words), []
+        try:
+            for place in found:
+                is_every = len(found) == 1 and nodes is self.engine.names.nodes
+                typed = "break " + words if is_every else "break %s.%s" % (",".join(place.nodes), words)
+                made += self.make(Point(self.last + 1, typed, self.line_at(place), place.nodes, place, condition, **more))
+        except Exception:
+            # One for each module, or none.
+            for point in made:
+                self.delete(point.number)
+            raise
         return made
+
+    def line_at(self, place):
+        """The debugger's line for a point at each event of some processes."""
+        if len(place.nodes) == len(self.engine.names.nodes):
+            return "break * *"
+        if len(place.nodes) == 1:
+            return "break %s *" % place.nodes[0]
+        # No other event changes this sum.
+        return "watch " + " + ".join("@%s.events" % node for node in place.nodes)
 
     def make(self, point):
         """The point, in a list, once the debugger has it."""
@@ -97,13 +113,13 @@ class Points:
 
     def put(self, point):
         """Has the debugger hold a point."""
-        made = self.engine.accepted(point.line)
+        made = self.engine.accepted(self.line(point))
         point.own = int(made.lines[0].split()[1])
         if point.has_program:
             try:
                 self.attach(point)
             except Exception:
-                self.engine.accepted("delete %d" % point.own)
+                self.drop(point)
                 raise
 
     def attach(self, point):
@@ -111,27 +127,29 @@ class Points:
             self.engine.accepted("set $hits_%d 0" % point.number)
         self.engine.accepted("do %d %s" % (point.own, self.program(point)))
 
+    def line(self, point):
+        """The debugger's line that makes a point, with its place and its condition."""
+        tests = [test for test in (point.place and point.place.test, self.own_names(point, point.condition)) if test]
+        if len(tests) > 1:
+            tests = ["(%s)" % test for test in tests]
+        return point.line + (" if " + " && ".join(tests) if tests else "")
+
     def program(self, point):
-        """The program of a point: what it does where it fires, under its count and its condition."""
-        text = point.program or "%s; stop" % self.say(point)
-        if point.program and point.is_temporary:
-            text = "%s; %s; stop" % (self.say(point), point.program)
+        """The program of a point: what it does where it fires, under its count."""
+        own = self.own_names(point, point.program)
+        text = own or "%s; stop" % self.say(point)
+        if own and point.is_temporary:
+            text = "%s; %s; stop" % (self.say(point), own)
         if point.hits:
             count = "$hits_%d" % point.number
             text = "set %s %s + 1; if %s %s { %s }" % (count, count, count, point.hits, text)
-        return under(self.test(point), text)
+        return text
 
-    def program_back(self, point):
-        """Its program on the way back: a condition, for what it would do otherwise is of the way forward."""
-        return under(self.test(point), "%s; stop" % self.say(point)) if point.stops else NOTHING
-
-    def test(self, point):
-        return " && ".join("(%s)" % part for part in (point.place and point.place.test, point.condition) if part)
+    def own_names(self, point, text):
+        return self.engine.names.of_event(text, point.nodes) if point.nodes else text
 
     def say(self, point):
         """The statement that tells where a point stops."""
-        if point.place:
-            return 'say "break %d: %s comes to a call in %s"' % (point.own, point.place.node, point.place.words)
         kind, rest = point.line.split(" ", 1)
         return 'say "watch %d: ", %s' % (point.own, rest) if kind == "watch" else 'say "break %d"' % point.own
 
@@ -144,9 +162,11 @@ class Points:
         self.set(point, changes)
         try:
             if point.is_enabled:
-                self.renew(point, before)
+                self.renew(point, "condition" in changes)
         except Exception:
             self.set(point, before)
+            if point.is_enabled and not point.own:
+                self.put(point)
             raise
         return point
 
@@ -154,13 +174,17 @@ class Points:
         for name, value in values.items():
             setattr(point, name, value)
 
-    def renew(self, point, before):
-        if point.has_program:
+    def renew(self, point, is_another_line):
+        """A program is given to a point; another line, and no program, to a new one only."""
+        if point.has_program and not is_another_line:
             self.attach(point)
-        elif any(before.values()):
-            # A program is taken away with its point only.
-            self.engine.accepted("delete %d" % point.own)
+        else:
+            self.drop(point)
             self.put(point)
+
+    def drop(self, point):
+        self.engine.accepted("delete %d" % point.own)
+        point.own = 0
 
     def enable(self, number, is_enabled):
         point = self.point(number)
@@ -169,14 +193,13 @@ class Points:
         if is_enabled:
             self.put(point)
         else:
-            self.engine.accepted("delete %d" % point.own)
-            point.own = 0
+            self.drop(point)
         point.is_enabled = is_enabled
 
     def delete(self, number):
         point = self.point(number)
         if point.is_enabled:
-            self.engine.accepted("delete %d" % point.own)
+            self.drop(point)
         del self.held[number]
 
     def restore(self):
@@ -187,66 +210,35 @@ class Points:
 
     # Walks
 
-    def told(self, line):
-        """A line that a walk said, with the number that the session gives the point."""
+    def in_words(self, lines):
+        """The lines of a walk's answer, with the numbers that the session gives points. The last line tells whose event it is, so what
+        points say where the walk ends waits for it."""
+        held = []
+        for line in lines:
+            if held or SAID.match(line):
+                held.append(line)
+            else:
+                yield line
+        event = LED_BY.match(held[-1]) if held else None
+        for line in held:
+            yield self.told(line, event[1] if event else "")
+
+    def told(self, line, node):
+        """A line that a walk said, with the number that the session gives the point, and at a place in the source with that."""
         found = SAID.match(line)
         point = found and next((point for point in self if point.own == int(found[2])), None)
-        return "%s %d%s" % (found[1], point.number, line[found.end() :]) if point else line
+        if not point:
+            return line
+        if point.place:
+            return "break %d: %s comes to a call in %s" % (point.number, node, point.place.words)
+        return "%s %d%s" % (found[1], point.number, line[found.end() :])
+
+    def of_stops(self, lines):
+        """The lines but for what points say that never stop, on the way back."""
+        passed = {point.number for point in self if not point.stops}
+        return [line for line in lines if not (found := SAID.match(line)) or int(found[2]) not in passed]
 
     def stopped_by(self, lines):
-        """The points that said so."""
+        """The points that said so, of those that may stop a walk."""
         numbers = [int(found[2]) for found in map(SAID.match, lines) if found]
-        return [self.held[number] for number in numbers if number in self.held]
-
-    def back(self, told=ignored, is_paused=None):
-        """Back to where a point fired last that may stop there; None where that is paused, and the position stays.
-
-        The debugger's own line looks at no program and cannot be paused. In place of it parts are walked forward, from the back,
-        in which programs are conditions; what they say is told, and not done."""
-        with_program = [point for point in self if point.is_enabled and point.has_program]
-        if not with_program and is_paused is None:
-            return self.engine.ask("rcontinue", told)
-        try:
-            self.exchange(with_program, self.program_back)
-            found = self.last_stop_before(self.engine.position, is_paused or bool)
-        finally:
-            self.exchange(with_program, self.program)
-        if found is None:
-            self.engine.ask_each(["goto %d" % self.engine.position])
-            return None
-        fired, place = found
-        for line in fired:
-            told(line)
-        return self.engine.ask("goto %d" % place, told).after(fired)
-
-    def exchange(self, points, program):
-        for point in points:
-            list(self.engine.debugger.ask(self.engine.names.line("do %d %s" % (point.own, program(point)))))
-
-    def last_stop_before(self, end, is_paused):
-        """What points say at the last position before `end` at which one stops, and that position, or `start` and 0."""
-        stop, part = end - 1, PART
-        while stop > 0 and not is_paused():
-            start = max(0, stop - part)
-            found = self.last_stop_in(start, stop, is_paused)
-            if found:
-                return [self.told(line) for line in found[0]], found[1]
-            stop, part = start, part * GROWTH
-        return None if is_paused() else (["start"], 0)
-
-    def last_stop_in(self, start, stop, is_paused):
-        """The same of the positions after one and up to another."""
-        self.engine.ask_each(["goto %d" % start])
-        fence, found, place = self.engine.fence(stop), None, start
-        while place < stop and not is_paused():
-            *said, answer = self.engine.debugger.ask("continue")
-            place = int(re.match(r"at (\d+)", answer)[1])
-            fired = [line for line in said if SAID.match(line) and not line.startswith("watch %s: " % fence)]
-            if fired:
-                found = fired, place
-        self.engine.ask_each(["delete " + fence])
-        return found
-
-
-def under(test, program):
-    return "if %s { %s }" % (test, program) if test else program
+        return [self.held[number] for number in numbers if number in self.held and self.held[number].stops]

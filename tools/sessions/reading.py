@@ -17,8 +17,13 @@ class Answer:
     lines: list
     is_refused: bool = False
 
-    def after(self, lines):
-        return Answer(self.sent, [*lines, *self.lines], self.is_refused)
+
+@dataclass(frozen=True)
+class Walked(Answer):
+    """The answer of a walk: what points said on the way, and why it ended, which is nothing where a point stopped it."""
+
+    said: list = ()
+    how: str = ""
 
 
 class LineRefused(Refusal):

@@ -5,6 +5,7 @@ import os
 from asking.program import TOP
 
 KIT = "kit/"
+KIT_FOLDERS = [os.path.join(TOP, "guests", part) for part in ("", "liblog/src", "liblog", "libc", "net")]
 MOST_LINES = 200_000
 
 
@@ -14,7 +15,7 @@ class Sources:
 
     def path(self, file):
         """The path of a file that a place names, or None."""
-        folders = [os.path.join(TOP, "guests")] if file.startswith(KIT) else self.folders
+        folders = KIT_FOLDERS if file.startswith(KIT) else self.folders
         name = file[len(KIT) :] if file.startswith(KIT) else file
         return next((path for path in (os.path.join(folder, name) for folder in folders) if os.path.isfile(path)), None)
 
