@@ -12,6 +12,8 @@ from asking.debugger import courses, threads_at
 from asking.report import replayed
 from logs.group import NotOneGroup, read_group
 from logs.traffic import Fate, cut_processes, traffic_of
+from sessions.places import in_words
+from sessions.sites import sites_of
 
 FATES = {Fate.NOT_TAKEN: 0, Fate.NO_LOG: 1, Fate.LEFT_GROUP: 2, Fate.CUT: 3}
 
@@ -26,8 +28,8 @@ class Table:
         return self.numbers.setdefault(thing, len(self.numbers))
 
 
-def read_recording(program, pairs, watches):
-    """The columns of a recording and its distinct byte strings, of the words MODULE LOG .. and of pairs NAME, EXPR."""
+def read_recording(program, pairs, names, watches):
+    """The columns of a recording and its distinct byte strings, of the words MODULE LOG .., its names and of pairs NAME, EXPR."""
     logs = read_group(pairs)
     results = replayed(program, pairs)
     if set(results) != {log.name for log in logs}:
@@ -35,8 +37,12 @@ def read_recording(program, pairs, watches):
     logs = [dataclasses.replace(log, entries=log.entries[: results[log.name].accepted]) for log in logs]
     traffic = traffic_of(logs, cut_processes(logs, pairs[1::2]))
     data, pieces = columns(logs, traffic.events)
+    sites, places = sites_of(program, pairs, names, traffic.events), Table()
     data["files"] = list(pairs[1::2])
     data["processes"] = processes(program, pairs, logs, results, traffic.events)
+    data["sites"] = [place_of(sites.made.get(event.position), places) for event in traffic.events] if sites.made else []
+    data["waiting"] = [[node, thread, place_of(call, places)] for (node, thread), call in sites.waiting.items() if call]
+    data["places"] = [in_words(call) for call in places.numbers]
     data.update(datagrams(traffic))
     data["courses"] = [course_data(course) for course in courses(program, pairs, watches, len(traffic.events))]
     return data, pieces
@@ -60,6 +66,11 @@ def columns(logs, events):
     }
     data["texts"] = list(texts.numbers)
     return data, list(pieces.numbers)
+
+
+def place_of(call, places):
+    """The number of a place in the source, from 1, or 0 where none is known."""
+    return places.number(call) + 1 if call else 0
 
 
 def exact(number):
