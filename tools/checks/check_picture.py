@@ -127,6 +127,20 @@ def check_picture(words, group, traffic):
     lost = group.sends - len(traffic.by_send)
     assert len(traffic.taken) == group.receives == sum(kind.startswith("arrow") for kind in kinds) - 3
     assert sum(kind == "cross" for kind in kinds) == lost + 1
+    check_arrows(root)
+
+
+def check_arrows(root):
+    """No arrow begins or ends in the words of an event."""
+    def numbers(part, *names):
+        return [float(part.get(name)) for name in names]
+
+    words = [numbers(part, "x", "y", "width", "height") for part in root.iter() if part.get("class") == "behind"]
+    arrows = [numbers(part, "x1", "y1", "x2", "y2") for part in root.iter() if part.tag.endswith("line") and part.get("class", "").startswith("arrow")]
+    assert words and arrows
+    for x1, y1, x2, y2 in arrows:
+        for left, top, width, height in words:
+            assert not any(left < x < left + width and top < y < top + height for x, y in ((x1, y1), (x2, y2))), (x1, y1, x2, y2, left, top)
 
 
 def check_group(seed, processes, events):
