@@ -47,7 +47,7 @@ def arguments():
 def with_addresses(names, watches):
     """The watches with addresses in place of names of variables, as NAME.places beside the modules has them."""
     try:
-        return [(name, names.line(expression)) for name, expression in watches]
+        return [(name, names.expression(expression)) for name, expression in watches]
     except Refusal as refusal:
         raise NotOneGroup("a watch is refused: %s" % printable(str(refusal))) from None
 

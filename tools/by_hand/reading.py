@@ -29,10 +29,13 @@ def show_type_in_short(session, rest, form):
 
 
 def show_type(session, rest, form):
-    """A type with the fields of its struct."""
+    """A type with the fields of its struct, or the names of its enumeration."""
     table, type_ = typed(session, rest)
     base = re.match(r"[^*\[]*", type_)[0]
-    struct = table.structs.get(base) if table else None
+    struct, enum = (table.structs.get(base), table.enums.get(base)) if table else (None, None)
+    if enum:
+        session.print("enum %s {%s}%s  // %s" % (base, ", ".join("%s = %d" % pair for pair in enum.numbers.items()), type_[len(base) :], enum.width))
+        return
     if struct is None:
         session.print(type_)
         return

@@ -7,7 +7,7 @@ from by_hand.commands import COMMANDS
 from by_hand.completion import LINES
 from by_hand.words import REPEATED, expanded, instead_of
 from logs.wording import bytes_lines, shown
-from naming import LONGEST_LINE
+from naming import LONGEST_LINE, NAME
 from sessions.arithmetic import has_own
 from sessions.casts import datagram, type_of
 from sessions.engine import MOVES
@@ -196,12 +196,19 @@ class Session:
             self.print("    %s is no word here: help lists them, docs/gdb.md has gdb's" % (typed or answer.sent).split()[0])
         elif column:
             self.print("    %s\n    %s^" % (answer.sent, " " * (int(column[1]) - 1)))
+            self.explain_name(NAME.match(answer.sent, int(column[1]) - 1))
             if has_own(answer.sent):
                 self.print("    & | ^ ~ << >> ?: are computed by p alone: in points write x / 4 % 2 for the bit 4 of x, x * 4 for x << 2")
         elif answer.lines[0].startswith("? 2"):
             self.print("    the processes are %s" % ", ".join(self.names.nodes))
         elif answer.lines[0].startswith("? 7"):
             self.print("    the logs have %d events" % self.engine.last)
+
+    def explain_name(self, found):
+        """What a name may be that the debugger does not know."""
+        if found and found[0] not in self.names.nodes:
+            node = self.current
+            self.print("    %s is no variable of %s: `names %s` lists them, and local variables are not told" % (found[0], node, node))
 
     def give_up(self):
         """Leaves a walk, and goes on where the session was."""

@@ -45,6 +45,8 @@ TYPED = (
     ("g 53", "at 53: "),
     ("p north.balances[0] + north.events", r"\d+"),
     ("p nobody.x", r"\? 1 syntax at column 7\n    print nobody.x\n          \^"),
+    ("p amount", r"(?s)\? 1 syntax at column 7\n.*    amount is no variable of .*: `names .*` lists"),
+    ("w north.balances[0] + amount", r"(?s)\? 1 syntax .*    amount is no variable of north"),
     ("p north.nothing", r"\? bank.wasm has no variable nothing"),
     ("finish", r"\? finish: a replay tells no frames.*\n"),
     ("hbreak x", r"\? hbreak: `b` makes all points"),
@@ -152,6 +154,33 @@ HABITS = (
 )
 
 
+# Over the bank's places with names for some numbers.
+ENUMERATORS = (
+    ("g 58", "at 58: "),
+    ("p north.transfers[0].message.kind", r"TRANSFER \(1\)\n"),
+    ("p/x north.transfers[0].message.kind", "0x1\n"),
+    ("p north.transfers[0].message", r"\{kind = TRANSFER \(1\), number = "),
+    ("p north.transfers[3].message.kind", "0\n"),
+    ("p north.transfers[0].message.kind == RECEIPT", "0\n"),
+    ("p TRANSFER | kind::RECEIPT", "3\n"),
+    ("p north.balances[LAST]", r"\d+\n"),
+    ("p LOSS + 3", "2\n"),
+    ("p (enum kind)2", r"RECEIPT \(2\)\n"),
+    ("p send + 1", r"\? 1 syntax"),
+    ("ptype north.transfers[0].message.kind", r"enum kind \{TRANSFER = 1, RECEIPT = 2\}  // u32"),
+    ("whatis north.transfers[0].message.kind", "kind\n"),
+    ("cast send struct message", ""),
+    ("e 1", r"58: .*\n    sent to south: \{kind = TRANSFER \(1\), "),
+    ("run", "at 0"),
+    ("w north.transfers[0].message.kind == TRANSFER if north.me != LOSS", "point 1"),
+    ("b north send if transfers[0].message.kind == TRANSFER", "point 2"),
+    ("c", "watch 1: 1\n"),
+    ("c", "break 2\n"),
+    ("w north.me == LOSS", "point 3"),
+    ("l", r"1 watch @north.u32\[5336\] == 1\n2 break north send\n3 watch @north.u32\[1184\] == \(0-1\)\n    point 1 is watch .* if north.me != LOSS\n"),
+)
+
+
 def session(program, typed, *words, wanted=0, pairs=PAIRS):
     run = subprocess.run(
         [sys.executable, os.path.join(TOOLS, "session"), "--program", program, *words, *pairs],
@@ -161,12 +190,24 @@ def session(program, typed, *words, wanted=0, pairs=PAIRS):
     return run.stdout
 
 
-def check_answers(program):
+def check_typed(program, lines, pairs=PAIRS):
     """Each line is followed by a mark, so that the answers can be told apart."""
-    typed = "".join("%s\nset $mark %d\np $mark + 1000000\n" % (line, place) for place, (line, _) in enumerate(TYPED))
-    answers = re.split(r"10000\d\d\n", session(program, typed, wanted=1))
-    for (line, wanted), answer in zip(TYPED, answers):
+    typed = "".join("%s\nset $mark %d\np $mark + 1000000\n" % (line, place) for place, (line, _) in enumerate(lines))
+    answers = re.split(r"10000\d\d\n", session(program, typed, wanted=1, pairs=pairs))
+    for (line, wanted), answer in zip(lines, answers):
         assert re.match(wanted, answer), (line, wanted, answer)
+
+
+def check_enumerators(program, folder):
+    """Numbers that have names are shown with them, and the names stand for the numbers."""
+    bank = os.path.join(TOP, "examples", "bank", "bank")
+    shutil.copy(bank + ".wasm", folder)
+    with open(bank + ".places", encoding="ascii") as file:
+        places = re.sub(r"(?m)^enum .*\n(number .*\n)+", "", file.read())
+    places = re.sub("field kind .*", "field kind kind 0", places)
+    with open(os.path.join(folder, "bank.places"), "w", encoding="ascii") as file:
+        file.write(places + "enum kind u32\nnumber TRANSFER 1\nnumber RECEIPT 2\nenum unnamed i32\nnumber LAST 1\nnumber LOSS -1\nnumber send 7\n")
+    check_typed(program, ENUMERATORS, [os.path.join(folder, "bank.wasm") if word.endswith(".wasm") else word for word in PAIRS])
 
 
 def check_habits(program, folder):
@@ -287,9 +328,9 @@ def main():
     parser = argparse.ArgumentParser(description=__doc__, formatter_class=argparse.RawDescriptionHelpFormatter)
     parser.add_argument("program", nargs="?", metavar="PROGRAM")
     program = os.path.abspath(program_of(parser.parse_args().program))
-    check_answers(program)
+    check_typed(program, TYPED)
     check_repeat(program)
-    for check in (check_kept, check_habits, check_hostile):
+    for check in (check_enumerators, check_kept, check_habits, check_hostile):
         with tempfile.TemporaryDirectory() as folder:
             check(program, folder)
     with tempfile.TemporaryDirectory() as folder:

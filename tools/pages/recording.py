@@ -37,12 +37,9 @@ def read_recording(program, pairs, names, watches):
     logs = [dataclasses.replace(log, entries=log.entries[: results[log.name].accepted]) for log in logs]
     traffic = traffic_of(logs, cut_processes(logs, pairs[1::2]))
     data, pieces = columns(logs, traffic.events)
-    sites, places = sites_of(program, pairs, names, traffic.events), Table()
     data["files"] = list(pairs[1::2])
     data["processes"] = processes(program, pairs, logs, results, traffic.events)
-    data["sites"] = [place_of(sites.made.get(event.position), places) for event in traffic.events] if sites.made else []
-    data["waiting"] = [[node, thread, place_of(call, places)] for (node, thread), call in sites.waiting.items() if call]
-    data["places"] = [in_words(call) for call in places.numbers]
+    data.update(placed(sites_of(program, pairs, names, traffic.events), len(traffic.events)))
     data.update(datagrams(traffic))
     data["courses"] = [course_data(course) for course in courses(program, pairs, watches, len(traffic.events))]
     return data, pieces
@@ -66,11 +63,6 @@ def columns(logs, events):
     }
     data["texts"] = list(texts.numbers)
     return data, list(pieces.numbers)
-
-
-def place_of(call, places):
-    """The number of a place in the source, from 1, or 0 where none is known."""
-    return places.number(call) + 1 if call else 0
 
 
 def exact(number):
@@ -103,6 +95,18 @@ def processes(program, pairs, logs, results, events):
         }
         for log in logs
     ]
+
+
+def placed(sites, count):
+    """The place in the source of each event and of each thread in the end, by its number from 1; 0 where none is known."""
+    places = Table()
+
+    def number(call):
+        return places.number(call) + 1 if call else 0
+
+    made = [number(sites.made.get(position)) for position in range(1, count + 1)] if sites.made else []
+    waiting = [[node, thread, number(call)] for (node, thread), call in sites.waiting.items() if call]
+    return {"sites": made, "waiting": waiting, "places": [in_words(call) for call in places.numbers]}
 
 
 def datagrams(traffic):

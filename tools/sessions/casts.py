@@ -88,7 +88,7 @@ def type_of(engine, node, name):
     if name in NUMBERS:
         return NUMBERS[name]
     table = engine.names.tables.get(node)
-    found = [known for known in (table.structs if table else ()) if known == name or known.endswith("::" + name)]
+    found = [known for known in ((*table.structs, *table.enums) if table else ()) if known == name or known.endswith("::" + name)]
     return found[0] if found else None
 
 
