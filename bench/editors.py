@@ -19,8 +19,8 @@ sys.path.append(os.path.join(TOP, "tools", "checks"))
 from editor import Editor  # noqa: E402 (it lies beside the checks)
 
 TICK = os.sysconf("SC_CLK_TCK")
-# A number that each event of a process but one changes, and one that changes seldom.
-OFTEN, SELDOM = "@p3.u32[8]", "@p3.u32[8] / 1000"
+# Numbers that each event of a process changes, that change a few times in all, and that never change.
+OFTEN, SELDOM, NEVER = "@p3.events", "@p3.events / 5000", "@p3.u32[8192]"
 MARK = "4294967291"
 
 
@@ -74,7 +74,7 @@ def editor_table(program, folder, events):
         clock.time(name, lambda: (editor.ask("goto", threadId=1, targetId=place), editor.event("stopped")))
     watch(editor, clock, "a change nearby", OFTEN)
     watch(editor, clock, "a change far away", SELDOM)
-    watch(editor, clock, "no change at all", "@p3.u32[8192]")
+    watch(editor, clock, "no change at all", NEVER)
     clock.time("continue, and pause", lambda: paused(editor))
     status, errors = editor.end()
     assert (status, errors) == (0, ""), (status, errors)
@@ -90,7 +90,7 @@ def look(editor, clock):
 
 
 def watch(editor, clock, name, expression):
-    """Both ways, from the end and from the beginning."""
+    """Both ways, from the end back and on again."""
     clock.time("setFunctionBreakpoints", lambda: editor.ask("setFunctionBreakpoints", breakpoints=[{"name": "watch " + expression}]))
     clock.time("reverseContinue, " + name, lambda: editor.move("reverseContinue", threadId=1))
     clock.time("continue, " + name, lambda: editor.move("continue", threadId=1))
@@ -130,7 +130,7 @@ def session_table(program, folder, events):
     session = ByHand(program, folder)
     clock = Clock(events, session.tool.pid)
     clock.time("session: until its first answer", lambda: session.ask("p 1"), begun)
-    for line in ("where", "t", "goto %d" % events, "where", "t", "w " + OFTEN, "rc", "c", "d 1", "w " + SELDOM, "rc", "d 2", "w @p3.u32[8192]", "rc", "c"):
+    for line in ("where", "t", "goto %d" % events, "where", "t", "w " + OFTEN, "rc", "c", "d 1", "w " + SELDOM, "rc", "c", "d 2", "w " + NEVER, "rc", "c"):
         clock.time("session: " + line, lambda: session.ask(line))
     session.tool.stdin.close()
     assert session.tool.wait() == 0

@@ -9,6 +9,8 @@ from sessions.places import in_words
 from sessions.spelling import FORMS, dump, number, of_answer
 
 LONGEST = 256
+# What C reads in octal.
+OCTAL = re.compile(r"(?<![\w.])0[0-9]+\b")
 MOST_SHOWN = 4096
 UNITS = {"b": 1, "h": 2, "w": 4, "g": 8}
 
@@ -34,6 +36,8 @@ def show_value(session, rest, form):
         session.print(value.text(form))
         return
     text = engine.names.qualified(rest, node)
+    if octal := OCTAL.search(text):
+        session.print("    %s is decimal here" % octal[0])
     if has_own(text):
         session.print(number(evaluate(text, engine.known), form))
     elif form:
@@ -52,6 +56,7 @@ def show_place(session, text, is_size, form):
 
 def show_bytes(session, rest, form):
     """The bytes of a variable, or LENGTH bytes at an address, 16 in a line; with a form as x/4xw numbers, N of them."""
+    rest = rest.lstrip("& ")
     value = value_of(session.engine, rest, session.current)
     words = re.fullmatch(r"/(\d*)([a-z]*)", form or "/")
     if value is None:

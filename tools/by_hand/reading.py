@@ -16,6 +16,8 @@ def typed(session, rest):
     """The table and the type of a variable or of a type's name."""
     name = re.sub(r"^(struct|enum)\s+", "", rest.strip())
     known = type_of(session.engine, session.current, name) if re.fullmatch(r"[\w:]+", name) else None
+    if known is None and name != rest.strip():
+        raise Refusal("%s has no %s: ptype shows the types of variables" % (session.current, rest.strip()))
     value = None if known else value_of(session.engine, rest, session.current)
     if not known and value is None:
         # What is no variable is a number, if it is anything.

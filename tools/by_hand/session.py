@@ -11,7 +11,7 @@ from naming import LONGEST_LINE, NAME
 from sessions.arithmetic import has_own
 from sessions.casts import datagram, type_of
 from sessions.engine import MOVES
-from sessions.names import Refusal
+from sessions.names import WITH_EXPRESSIONS, Refusal
 from sessions.places import in_words
 from sessions.reading import LineRefused
 from sessions.sources import Sources
@@ -196,7 +196,8 @@ class Session:
             self.print("    %s is no word here: help lists them, docs/gdb.md has gdb's" % (typed or answer.sent).split()[0])
         elif column:
             self.print("    %s\n    %s^" % (answer.sent, " " * (int(column[1]) - 1)))
-            self.explain_name(NAME.match(answer.sent, int(column[1]) - 1))
+            if answer.sent.split(" ", 1)[0] in WITH_EXPRESSIONS:
+                self.explain_name(NAME.match(answer.sent, int(column[1]) - 1))
             if has_own(answer.sent):
                 self.print("    & | ^ ~ << >> ?: are computed by p alone: in points write x / 4 % 2 for the bit 4 of x, x * 4 for x << 2")
         elif answer.lines[0].startswith("? 2"):
@@ -206,7 +207,11 @@ class Session:
 
     def explain_name(self, found):
         """What a name may be that the debugger does not know."""
-        if found and found[0] not in self.names.nodes:
+        if found is None or found[0] in self.names.nodes:
+            return
+        if found.string[found.end() : found.end() + 1] == ".":
+            self.print("    %s is no process: they are %s" % (found[0], ", ".join(self.names.nodes)))
+        else:
             node = self.current
             self.print("    %s is no variable of %s: `names %s` lists them, and local variables are not told" % (found[0], node, node))
 

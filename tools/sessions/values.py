@@ -204,6 +204,9 @@ class Value:
         return Value(self.table, self.type[:-1], AtAddress(memory, self.number()))
 
     def text(self, form=""):
+        if isinstance(self.bytes, InPieces) and not self.bytes.variable.pieces:
+            # Nothing of it is anywhere, which is said once.
+            self.bytes.start(0)
         try:
             self.bytes.read(self.offset, min(self.size, MOST_READ))
         except Refusal:
