@@ -193,6 +193,8 @@ def _parse_table(lines):
         raise ValueError("it names no module")
     table, struct, enum, places = PlaceTable(module, digest), None, None, []
     for words in words_of_lines[1:]:
+        if words[0] in ("variable", "struct", "field", "enum", "number") and not re.fullmatch("[0-9A-Za-z_:]+", words[1]):
+            raise ValueError("%s is no name" % words[1])
         if words[0] == "variable":
             table.variables.append(Variable(words[1], words[2]))
             places.append(words[3:])

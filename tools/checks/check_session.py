@@ -242,11 +242,11 @@ HOSTILE = (
 
 
 def check_hostile(program, folder):
-    """Over places that nest 100,000 deep, hold themselves and have names that a terminal would obey."""
+    """Over places that nest 100,000 deep and hold themselves; names that a terminal would obey make no places."""
     for name in ("a.wasm", "a.log"):
         shutil.copy(os.path.join(TOP, "examples", "first", name), folder)
     lines = ["module a.wasm %s" % digest_of(os.path.join(folder, "a.wasm")), "variable x::deep s0 1024", "variable x::own own 1024", "variable x::row u8[9][9][9][9][9][9][9] 0"]
-    lines += ["variable x::\x1b[31mred u32 0", "struct own 4", "field own own 0", "field next own* 0"]
+    lines += ["struct own 4", "field own own 0", "field next own* 0"]
     for depth in range(100_000):
         lines += ["struct s%d 4" % depth, "field f %s 0" % ("s%d" % (depth + 1) if depth < 99_999 else "u32")]
     with open(os.path.join(folder, "a.places"), "w") as file:
@@ -256,6 +256,10 @@ def check_hostile(program, folder):
     run = subprocess.run(words, cwd=folder, input=typed, stdout=subprocess.PIPE, stderr=subprocess.PIPE, timeout=600)
     assert run.returncode == 1 and run.stderr == b"" and b"\x1b" not in run.stdout, (run.stderr, run.stdout[-3000:])
     assert run.stdout.count(b"1000000\n") == len(HOSTILE), run.stdout
+    with open(os.path.join(folder, "a.places"), "w") as file:
+        file.write("\n".join([lines[0], "variable x::\x1b[31mred u32 0"]) + "\n")
+    run = subprocess.run(words, cwd=folder, input=b"names\n", stdout=subprocess.PIPE, timeout=600)
+    assert run.stdout == b"no names for a: a.places is no file of places that guests/build wrote\n", run.stdout
 
 
 def check_repeat(program):

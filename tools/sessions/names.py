@@ -4,7 +4,7 @@ import os
 import re
 
 from logs.format import CALLS, BadLog, head_of, printable
-from naming import NAME, REFERENCE, STEP, Script, end_of, place_of
+from naming import LONGEST_LINE, NAME, REFERENCE, STEP, Script, end_of, place_of
 from place_table import Refusal, read_table
 
 STRING = re.compile(r'"[^"]*"?')
@@ -176,20 +176,23 @@ def enumerators_of(tables):
 
 def replaced(text, named):
     """The text with what `named` makes of the names in it; strings and what scripts have in braces stay as they are."""
-    out, at = "", 0
+    if len(text) > LONGEST_LINE:
+        raise Refusal("8 line too long")
+    pieces, at = [], 0
     while at < len(text):
         if string := STRING.match(text, at):
-            out, at = out + string[0], string.end()
+            piece, at = string[0], string.end()
         elif braced := REFERENCE.match(text, at):
             end = end_of(text, braced.end()) + 1
-            out, at = out + text[at:end], end
+            piece, at = text[at:end], end
         elif found := named(at):
-            out, at = out + found[0], found[1]
+            piece, at = found
         elif word := WORD.match(text, at):
-            out, at = out + word[0], word.end()
+            piece, at = word[0], word.end()
         else:
-            out, at = out + text[at], at + 1
-    return out
+            piece, at = text[at], at + 1
+        pieces.append(piece)
+    return "".join(pieces)
 
 
 def end_of_path(text, at):
