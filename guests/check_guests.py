@@ -244,6 +244,9 @@ def main():
         build("answer.rs", folder)
         for source in ("ask.c", "ask.rs"):
             build(source, folder)
+            if source == "ask.c":
+                # It is a local variable's, and can be cast to.
+                assert "message" in read_table(os.path.join(folder, "ask.places")).structs
             check_group(source, folder)
             check_lines(source, folder)
 

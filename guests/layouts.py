@@ -14,6 +14,8 @@ STRUCTS = {"structure_type", "class_type", "union_type"}
 VARIANTS = {"variant_part", "variant"}
 # Types of Rust that are laid out as what they hold, and add nothing that one would name.
 SHELLS = re.compile(r"(Cell|UnsafeCell|ManuallyDrop|MaybeUninit)<")
+# Namespaces of the library of C++.
+LIBRARIES = ("std", "__cxxabiv1")
 # What the linker writes for the address of what it left out.
 LEFT_OUT = {0, 0xFFFFFFFF}
 # The variables at the places of calls, which the macro LIBLOG_HERE of liblog.h makes: call_places.py tells of them.
@@ -84,6 +86,13 @@ class Layouts:
             if entry.tag == "variable" and entry.name() != AT_CALL and (variable := self.variable_of(entry)):
                 self.table.variables.append(variable)
         self.table.variables.sort(key=lambda variable: variable.name)
+        self.add_structs()
+
+    def add_structs(self):
+        """The structs of a guest in C or C++ that no variable has, for casts. Only those are described that its code uses."""
+        for scope, found in self.defined.items():
+            if found[0].tag in STRUCTS and is_of_c(found[0]) and scope[-1] not in LIBRARIES and "<" not in "".join(scope):
+                self.type_of_entry(found[0])
 
     def give_name(self, typedef):
         """What has no name has that of its typedef."""
@@ -190,6 +199,12 @@ class Layouts:
         # The fields of a tuple of Rust are __0, __1 and so on. What tells variants apart has no name.
         name = re.sub(r"^__(?=\d+$)", "", member.name() or "variant")
         return [Field(re.sub("[^0-9A-Za-z_]", "_", name), type_, offset, bits)]
+
+
+def is_of_c(entry):
+    while entry.parent:
+        entry = entry.parent
+    return "Rust" not in entry.attributes.get("language", "")
 
 
 def _scope_of(entry):

@@ -3,7 +3,7 @@
 import re
 
 from sessions.arithmetic import evaluate, has_own
-from sessions.casts import address, value_of
+from sessions.casts import address, type_of, value_of
 from sessions.names import Refusal
 from sessions.places import in_words
 from sessions.spelling import FORMS, dump, number, of_answer
@@ -47,7 +47,12 @@ def show_value(session, rest, form):
 
 
 def show_place(session, text, is_size, form):
-    """How many bytes a variable has, or where it lies."""
+    """How many bytes a variable or a type has, or where a variable lies."""
+    named = re.fullmatch(r"(?:(?:struct|enum)\s+)?([\w:]+)", text) if is_size else None
+    type_ = type_of(session.engine, session.current, named[1]) if named and session.current in session.names.tables else None
+    if type_ and not session.names.is_variable(session.current, named[1]):
+        session.print(number(session.names.tables[session.current].size_of(type_), form))
+        return
     value = value_of(session.engine, text, session.current)
     if value is None:
         raise Refusal("%s is no variable" % text)
