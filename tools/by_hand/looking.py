@@ -140,8 +140,8 @@ def show_threads(session, rest, form):
 
 def place_behind(session, node, line):
     """The place in the source of the thread that a line of an answer tells of, after a blank."""
-    thread = line.split(" ", 1)[0]
-    call = session.engine.threads.call_of(node, int(thread)) if thread.isdigit() else None
+    thread, threads = line.split(" ", 1)[0], session.engine.threads
+    call = threads.call_of(node, int(thread)) if thread.isdigit() and threads.keeps_places(node) else None
     return " " + in_words(call) if call else ""
 
 
@@ -157,6 +157,6 @@ def show_names(session, rest, form):
 
 def show_position(session, rest, form):
     if session.engine.position == 0:
-        session.print("at 0, before the first of %d events" % session.engine.last)
+        session.print("at 0, before the first of %d events" % session.engine.count)
     else:
         session.send("events 1")

@@ -51,8 +51,7 @@ class Session:
             self.print("> " + sent)
 
     def greeting(self):
-        count = sum(self.engine.verdict.accepted.values())
-        return "%d events of %s; help lists the words" % (count, ", ".join(self.names.nodes))
+        return "%d events of %s; help lists the words" % (self.engine.count, ", ".join(self.names.nodes))
 
     def prompt(self):
         return "(friday %d) " % self.engine.position
@@ -203,7 +202,7 @@ class Session:
         elif answer.lines[0].startswith("? 2"):
             self.print("    the processes are %s" % ", ".join(self.names.nodes))
         elif answer.lines[0].startswith("? 7"):
-            self.print("    the logs have %d events" % self.engine.last)
+            self.print("    the logs have %d events" % self.engine.count)
 
     def explain_name(self, found):
         """What a name may be that the debugger does not know."""

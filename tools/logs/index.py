@@ -53,11 +53,13 @@ def columns():
 def through_short(data, at, most):
     """The columns of a log of version 2, and last where its events end."""
     clocks, threads, kinds, starts = columns()
+    add_clock, add_thread, add_kind, add_start = clocks.append, threads.append, kinds.append, starts.append
     clock, end, left = 0, len(data), -1 if most is None else most
     while left and at < end:
         begin = at
+        # Most numbers have one byte, and a call for each would take longer than all the rest.
         try:
-            size, at = short(data, at)
+            size, at = (data[at], at + 1) if data[at] < 128 else short(data, at)
             after = at + size
             if after > end:
                 break
@@ -69,10 +71,10 @@ def through_short(data, at, most):
         clock += more
         if clock >= 2**64 or thread >= 2**16:
             break
-        clocks.append(clock)
-        threads.append(thread)
-        kinds.append(kind)
-        starts.append(begin)
+        add_clock(clock)
+        add_thread(thread)
+        add_kind(kind)
+        add_start(begin)
         at, left = after, left - 1
     starts.append(at if not left or at >= end else begin)
     return clocks, threads, kinds, starts

@@ -200,12 +200,15 @@ class Recording {
     if (call === "print" && this.reply(position) >= 0) {
       return this.bytes(position).replace(/\\n"$/, '"');
     }
-    const isAnswered = this.reply(position) < 0 || ["now", "sleep_until", "spawn"].includes(call);
+    if (call === "sleep_until") {
+      return "until " + this.answer(position);
+    }
+    const isAnswered = this.reply(position) < 0 || ["now", "spawn"].includes(call);
     const answer = isAnswered ? " = " + this.answer(position) : "";
     if (call === "send") {
       return call + " " + this.nameOf(Number(this.argument(position))) + answer;
     }
-    const isTold = ["exit", "note", "sleep_until", "join", "lock", "unlock", "on_signal"].includes(call);
+    const isTold = ["exit", "note", "join", "lock", "unlock", "on_signal"].includes(call);
     return call + (isTold ? " " + this.argument(position) : "") + answer;
   }
 }
