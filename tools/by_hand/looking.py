@@ -140,8 +140,8 @@ def show_threads(session, rest, form):
 
 def place_behind(session, node, line):
     """The place in the source of the thread that a line of an answer tells of, after a blank."""
-    thread, threads = line.split(" ", 1)[0], session.engine.threads
-    call = threads.call_of(node, int(thread)) if thread.isdigit() and threads.keeps_places(node) else None
+    thread = line.split(" ", 1)[0]
+    call = session.engine.threads.call_of(node, int(thread)) if thread.isdigit() else None
     return " " + in_words(call) if call else ""
 
 
