@@ -199,6 +199,8 @@ class Session:
                 self.explain_name(NAME.match(answer.sent, int(column[1]) - 1))
             if has_own(answer.sent):
                 self.print("    & | ^ ~ << >> ?: are computed by p alone: in points write x / 4 % 2 for the bit 4 of x, x * 4 for x << 2")
+        elif answer.lines[0].startswith("? 2") and "@_" in answer.sent:
+            self.print("    @_ is each process, and stands in sum, min, max and count: sum(@_.events)")
         elif answer.lines[0].startswith("? 2"):
             self.print("    the processes are %s" % ", ".join(self.names.nodes))
         elif answer.lines[0].startswith("? 7"):

@@ -9,6 +9,8 @@ from place_table import Refusal, read_table
 
 STRING = re.compile(r'"[^"]*"?')
 WORD = re.compile(r"[@$.]?\w+", re.ASCII)
+# A character as C writes it, which stands for its number.
+CHARACTER, ESCAPED = re.compile(r"'(\\?[\x20-\x7e])'"), {"\\n": "\n", "\\t": "\t", "\\r": "\r", "\\0": "\0"}
 OWN_PLACES = ("u8", "u16", "u32", "i8", "i16", "i32", "i64", "global", "clock", "events", "size", "thread", "ended")
 # Words of programs, which no variable of a guest hides.
 KEPT_WORDS = ("set", "say", "stop", "if", "else")
@@ -129,17 +131,19 @@ class Names:
         return self.script.line(self.spelled(self.numbered(text)))
 
     def numbered(self, text):
-        """The text with its number in place of each enumerator."""
+        """The text with its number in place of each enumerator and of each character in quotes."""
 
         def named(at):
             if found := self.reference(text, at):
                 return text[at : found[2]], found[2]
+            if sign := CHARACTER.match(text, at):
+                return str(ord(ESCAPED.get(sign[1], sign[1][-1]))), sign.end()
             word = NAME.match(text, at)
             if word is None or not self.is_enumerator(word[0]):
                 return None
             return self.number_of(word[0]), word.end()
 
-        return replaced(text, named) if self.enumerators else text
+        return replaced(text, named) if self.enumerators or "'" in text else text
 
     def is_enumerator(self, name):
         return name in self.enumerators and name not in self.nodes and name not in OTHER_WORDS
@@ -187,6 +191,8 @@ def replaced(text, named):
             piece, at = text[at:end], end
         elif found := named(at):
             piece, at = found
+        elif sign := CHARACTER.match(text, at):
+            piece, at = sign[0], sign.end()
         elif word := WORD.match(text, at):
             piece, at = word[0], word.end()
         else:
