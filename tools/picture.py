@@ -23,8 +23,8 @@ from sessions.names import Names
 from sessions.sites import Sites, sites_of
 from sessions.verdict import Verdict
 
-# More events than these make what is hard to read.
-MANY, MANY_OF_SHIVIZ = 3000, 20_000
+# More events than these make what is hard to read, and more than the most a picture of many megabytes.
+MANY, MANY_OF_SHIVIZ, MOST = 3000, 20_000, 20_000
 
 
 def arguments():
@@ -34,6 +34,7 @@ def arguments():
     parser.add_argument("--shiviz", action="store_true", help="print a log for ShiViz in place of a picture")
     parser.add_argument("--from", dest="first", type=int, metavar="K", help="the position of the first event")
     parser.add_argument("--to", dest="last", type=int, metavar="K", help="the position of the last event")
+    parser.add_argument("--whole", action="store_true", help="a picture of many megabytes too")
     parser.add_argument("--process", action="append", type=listed, metavar="NAME,..", help="only the lines of these processes")
     parser.add_argument("--hide", action="append", type=listed, metavar="CALL,..", help="no dots for events of these calls")
     parser.add_argument("--bytes", action="store_true", help="what events sent and took, beside them and not only by the mouse")
@@ -105,14 +106,20 @@ class Asked:
         return by_replay(log, is_last, time, self.results[log.name], threads) if self.results else by_logs(log, is_last, time)
 
 
+def warn_of_size(chosen, count):
+    if count > MOST and not chosen.shiviz and not chosen.whole:
+        raise NotOneGroup("%d events make a picture of some %d MB; --from and --to take a part, and --whole draws them all" % (count, count * 370 // 10**6))
+    if count > (MANY_OF_SHIVIZ if chosen.shiviz else MANY):
+        words = count, "log for ShiViz" if chosen.shiviz else "picture"
+        print("%d events make a large %s; --from and --to take a part" % words, file=sys.stderr)
+
+
 def made(chosen):
     logs = read_group(chosen.pairs)
     traffic = traffic_of(logs, cut_processes(logs, chosen.pairs[1::2]))
     drawn = drawn_logs(chosen, logs)
     first, last = span(chosen, len(traffic.events))
-    if last - first >= (MANY_OF_SHIVIZ if chosen.shiviz else MANY):
-        words = last - first + 1, "log for ShiViz" if chosen.shiviz else "picture"
-        print("%d events make a large %s; --from and --to take a part" % words, file=sys.stderr)
+    warn_of_size(chosen, last - first + 1)
     if chosen.shiviz:
         return shiviz_text(traffic, Captions(logs, traffic).lines, first, last)
     asked = Asked(program_of(chosen), chosen.pairs, logs, traffic)

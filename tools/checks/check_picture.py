@@ -169,6 +169,17 @@ def check_refused():
         assert done.returncode != 0 and done.stdout == "" and len(done.stderr.splitlines()) == 1, (bad, done.stderr)
 
 
+def check_large():
+    """What would be a picture of many megabytes is refused at once, and a part of it is drawn."""
+    group = MadeUp(3, 2)
+    for _ in range(20_001):
+        group.note(0, [])
+    words = group.write()
+    done = picture("--logs-alone", *words)
+    assert done.returncode == 1 and done.stdout == "" and "--whole" in done.stderr, done.stderr
+    assert picture("--logs-alone", "--from", "20000", *words).returncode == 0
+
+
 def main():
     argparse.ArgumentParser(description=__doc__, formatter_class=argparse.RawDescriptionHelpFormatter).parse_args()
     with tempfile.TemporaryDirectory() as folder:
@@ -176,6 +187,7 @@ def main():
         for seed in range(12):
             check_group(seed, 1 + seed, 120)
         check_refused()
+        check_large()
         os.chdir("/")
     print("picture: as expected")
 
