@@ -25,6 +25,8 @@ def form_of(form):
 
 def show_value(session, rest, form):
     """A variable as a whole, or the value of an expression."""
+    if not rest:
+        raise Refusal("p wants a variable or an expression")
     form, engine, node = form_of(form), session.engine, session.current
     size = re.fullmatch(r"sizeof\s*\(?(.*?)\)?", rest)
     of_address = re.fullmatch(r"&\s*([^&].*)", rest)

@@ -208,13 +208,16 @@ class Session:
 
     def explain_name(self, found):
         """What a name may be that the debugger does not know."""
-        if found is None or found[0] in self.names.nodes:
+        if found is None or found[0][0].isdigit():
             return
-        if found.string[found.end() : found.end() + 1] == ".":
-            self.print("    %s is no process: they are %s" % (found[0], ", ".join(self.names.nodes)))
-        else:
+        name, is_whole = found[0], found.string[found.end() : found.end() + 1] != "."
+        if name in self.names.nodes and is_whole:
+            self.print("    %s is a process: `p %s.NAME` shows one of its variables, and `names %s` lists them" % (name, name, name))
+        elif name not in self.names.nodes and is_whole:
             node = self.current
-            self.print("    %s is no variable of %s: `names %s` lists them, and local variables are not told" % (found[0], node, node))
+            self.print("    %s is no variable of %s: `names %s` lists them, and local variables are not told" % (name, node, node))
+        elif name not in self.names.nodes:
+            self.print("    %s is no process: they are %s" % (name, ", ".join(self.names.nodes)))
 
     def give_up(self):
         """Leaves a walk, and goes on where the session was."""
