@@ -150,8 +150,8 @@ class Tmux:
             prompts = [line for line in lines if PROMPT.fullmatch(line)]
             if len(prompts) == count and PROMPT.fullmatch(lines[-1]) and not PROMPT.fullmatch(lines[-1])[1]:
                 return lines
-            if "Pane is dead" in (lines or [""])[-1]:
-                return lines[:-1]
+            if self.call("display-message", "-p", "#{pane_dead}") == "1\n":
+                return [line for line in self.text() if not line.startswith("Pane is dead")]
             assert time.monotonic() < last, lines[-30:]
             time.sleep(0.02)
 
