@@ -14,8 +14,8 @@ STRUCTS = {"structure_type", "class_type", "union_type"}
 VARIANTS = {"variant_part", "variant"}
 # Types of Rust that are laid out as what they hold, and add nothing that one would name.
 SHELLS = re.compile(r"(Cell|UnsafeCell|ManuallyDrop|MaybeUninit)<")
-# Namespaces of the library of C++.
-LIBRARIES = ("std", "__cxxabiv1")
+# Namespaces of the libraries of C++ and Rust.
+LIBRARIES = ("std", "__cxxabiv1", "core", "alloc", "compiler_builtins")
 # What the linker writes for the address of what it left out.
 LEFT_OUT = {0, 0xFFFFFFFF}
 # The variables at the places of calls, which the macro LIBLOG_HERE of liblog.h makes: call_places.py tells of them.
@@ -81,7 +81,7 @@ class Layouts:
             if entry.tag == "typedef":
                 self.give_name(entry)
         for entry in self.entries.values():
-            if entry.tag == "enumeration_type":
+            if entry.tag == "enumeration_type" and _scope_of(entry)[-1] not in LIBRARIES:
                 self.type_of_entry(entry)
             if entry.tag == "variable" and entry.name() != AT_CALL and (variable := self.variable_of(entry)):
                 self.table.variables.append(variable)
