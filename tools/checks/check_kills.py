@@ -93,6 +93,8 @@ int close(int file) {
 }
 """
 NAMES = ("north", "south", "east")
+# What a file holds that a call replaces; it is no front of anything.
+OLDER = b"older"
 PAIRS = [word for name in NAMES for word in ("../bank/bank.wasm", name + ".log")]
 
 
@@ -201,6 +203,15 @@ def check_in_order(names):
     return check
 
 
+def over_older(check, names):
+    """As where these files are absent before, but for what they hold until they are made."""
+    def checked(room, found, whole, files):
+        given = {name: data for name, data in files.items() if name not in names}
+        return check(room, {name: data for name, data in found.items() if name in given or data != OLDER}, whole, given)
+
+    return checked
+
+
 def check_over(name):
     """The file is as it was, or holds a front of the new one."""
     def check(room, found, whole, files):
@@ -221,10 +232,13 @@ def cases(logs, schedule):
     cuts = [name + ".cut" for name in NAMES]
     # What is said of several files is the first of them that is not whole.
     yield "record --images", ["record", "--images", "schedule"], schedule, check_record
+    made = [*(name + ".log" for name in NAMES), *images]
+    yield "record --images over older files", ["record", "--images", "schedule"], {**schedule, **dict.fromkeys(made, OLDER)}, over_older(check_record, made)
     yield "migrate into a new file", ["migrate", "old.log", "new.log"], old, check_in_order(["new.log"])
-    yield "migrate over a file", ["migrate", "old.log", "new.log"], {**old, "new.log": b"before"}, check_over("new.log")
+    yield "migrate over a file", ["migrate", "old.log", "new.log"], {**old, "new.log": OLDER}, check_over("new.log")
     yield "migrate in place", ["migrate", "old.log", "old.log"], old, check_over("old.log")
     yield "cut", ["cut", "0", "25", *PAIRS], logs, check_in_order(cuts)
+    yield "cut over older files", ["cut", "0", "25", *PAIRS], {**logs, **dict.fromkeys(cuts, OLDER)}, over_older(check_in_order(cuts), cuts)
     yield "replay --images", ["replay", "--images", *PAIRS], logs, check_in_order(images)
 
 
