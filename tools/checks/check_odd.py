@@ -31,7 +31,8 @@ LONG = 1_000_000
 LEFT_OUT = ("save", "script", "schedule", "cut", "page", "picture", "load", "source", "q", "quit", "exit")
 ODD = [b"\x00", b"\xff", b"\x1b[2J", b"\xe2\x80\xae", b"\t", b"'", b'"', b"{", b"}", b"[", b"(", b"@", b"$", b"->", b"::", b"99999999999999999999", b"-1", b"0x", b"\xc3\x28", b"%s", b"\\"]
 LONG_LINES = (b"p " + b"(" * LONG, b"p " + b"1+" * (LONG // 2), b"w " + b"a" * LONG, b"b north." + b"x" * LONG, b"x/" + b"9" * LONG, b"p " + b"~" * LONG, b"\xff" * LONG, b"list " + b"a" * LONG,
-              b"help " + b"x" * LONG, b"info " + b"x" * LONG, b"d " + b"1 " * (LONG // 2), b"cast send struct " + b"x" * LONG, b"display " + b"*" * LONG, b"p north.balances" + b"[0]" * (LONG // 3), b"c " + b"9" * LONG)
+              b"help " + b"x" * LONG, b"info " + b"x" * LONG, b"d " + b"1 " * (LONG // 2), b"cast send struct " + b"x" * LONG, b"display " + b"*" * LONG,
+              b"p north.balances" + b"[0]" * (LONG // 3), b"c " + b"9" * LONG)
 # JSON of no use to any request.
 VALUES = (None, True, -1, 0, 2**63, 10**400, 1.5, "", "\x1b[31m", "\ud800", "x" * 10_000, [], [[]], {}, {"path": 5}, [{"line": "x"}], {"a": {"b": []}})
 
