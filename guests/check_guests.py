@@ -16,6 +16,7 @@ sys.path.append(os.path.join(HERE, "..", "tools"))
 
 from asking.program import program_of  # noqa: E402 (it lies beside the tools)
 from logs.format import read_log  # noqa: E402
+from place_table import read_table  # noqa: E402
 
 PARSER = argparse.ArgumentParser(description=__doc__, formatter_class=argparse.RawDescriptionHelpFormatter, allow_abbrev=False)
 PARSER.add_argument("program", metavar="PROGRAM", nargs="?", help="the program friday, if not the one that answers ./friday")
@@ -151,6 +152,15 @@ def check_places(source, folder):
     print("%s: %d values at their places" % (source, len(paths)))
 
 
+def check_enums(folder):
+    """The names of numbers in places.c, of an enumeration with a name and of one without."""
+    table = read_table(os.path.join(folder, "places.places"))
+    assert table.enums["mood"].numbers == {"CALM": 1, "BUSY": 70000} and table.width_of("mood") == "u32", table.enums
+    assert any(enum.numbers == {"PEERS": 3} for enum in table.enums.values()), table.enums
+    assert next(variable for variable in table.variables if variable.name == "places::mood").type == "mood"
+    print("places.c: %d enumerations" % len(table.enums))
+
+
 def check_front_end(folder):
     words = [os.path.join(HERE, "places"), "a=places.places"]
     for line, answer in REFUSED:
@@ -226,6 +236,7 @@ def main():
         for source in ("places.rs", "places.c"):
             build(source, folder)
             check_places(source, folder)
+        check_enums(folder)
         check_front_end(folder)
         for source in ("threads.c", "threads.rs"):
             build(source, folder)
@@ -233,6 +244,9 @@ def main():
         build("answer.rs", folder)
         for source in ("ask.c", "ask.rs"):
             build(source, folder)
+            if source == "ask.c":
+                # It is a local variable's, and can be cast to.
+                assert "message" in read_table(os.path.join(folder, "ask.places")).structs
             check_group(source, folder)
             check_lines(source, folder)
 

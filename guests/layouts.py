@@ -3,7 +3,7 @@ import os
 import re
 from dataclasses import dataclass, field
 
-from place_table import Field, Piece, Struct, Switch, Variable
+from place_table import Enum, Field, Piece, Struct, Switch, Variable
 
 # The words of the debugger for numbers. It has no u64, so the 64 bits of one are read as i64.
 WIDTHS = {1: "8", 2: "16", 4: "32", 8: "64"}
@@ -14,6 +14,8 @@ STRUCTS = {"structure_type", "class_type", "union_type"}
 VARIANTS = {"variant_part", "variant"}
 # Types of Rust that are laid out as what they hold, and add nothing that one would name.
 SHELLS = re.compile(r"(Cell|UnsafeCell|ManuallyDrop|MaybeUninit)<")
+# Namespaces of the libraries of C++ and Rust.
+LIBRARIES = ("std", "__cxxabiv1", "core", "alloc", "compiler_builtins")
 # What the linker writes for the address of what it left out.
 LEFT_OUT = {0, 0xFFFFFFFF}
 # The variables at the places of calls, which the macro LIBLOG_HERE of liblog.h makes: call_places.py tells of them.
@@ -80,9 +82,27 @@ class Layouts:
 
     def fill(self):
         for entry in self.entries.values():
+            if entry.tag == "typedef":
+                self.give_name(entry)
+        for entry in self.entries.values():
+            if entry.tag == "enumeration_type" and _scope_of(entry)[-1] not in LIBRARIES:
+                self.type_of_entry(entry)
             if entry.tag == "variable" and entry.name() != AT_CALL and (variable := self.variable_of(entry)):
                 self.table.variables.append(variable)
         self.table.variables.sort(key=lambda variable: variable.name)
+        self.add_structs()
+
+    def add_structs(self):
+        """The structs of a guest in C or C++ that no variable has, for casts. Only those are described that its code uses."""
+        for scope, found in self.defined.items():
+            if found[0].tag in STRUCTS and is_of_c(found[0]) and scope[-1] not in LIBRARIES and "<" not in "".join(scope):
+                self.type_of_entry(found[0])
+
+    def give_name(self, typedef):
+        """What has no name has that of its typedef."""
+        target = self.referred(typedef, "type")
+        if target and target.tag in (*STRUCTS, "enumeration_type") and not target.name():
+            target.attributes["name"] = typedef.name()
 
     def referred(self, entry, attribute):
         offset = entry.number(attribute)
@@ -95,26 +115,23 @@ class Layouts:
         if is_local or "declaration" in entry.attributes or not re.fullmatch("[0-9A-Za-z_]+", declared.name()):
             return None
         variable = Variable(_path_of(declared), self.type_of(declared))
-        variable.switch = _switch_of(location, variable.type)
+        variable.switch = _switch_of(location, self.table.width_of(variable.type))
         if not variable.switch:
             variable.pieces = _pieces_of(location, self.table.size_of(variable.type))
         return variable
 
     def type_of(self, entry):
         target = self.referred(entry, "type")
-        if target is None:
-            return "bytes0"
-        if id(target) not in self.types:
-            self.types[id(target)] = self.spell(target)
-        return self.types[id(target)]
+        return self.type_of_entry(target) if target else "bytes0"
+
+    def type_of_entry(self, entry):
+        if id(entry) not in self.types:
+            self.types[id(entry)] = self.spell(entry)
+        return self.types[id(entry)]
 
     def spell(self, entry):
         size = entry.number("byte_size", 0)
         if entry.tag in QUALIFIERS:
-            # A struct without a name has that of its typedef.
-            target = self.referred(entry, "type")
-            if entry.name() and target and target.tag in STRUCTS and not target.name():
-                target.attributes["name"] = entry.name()
             return self.type_of(entry)
         if entry.tag in POINTERS:
             return self.type_of(entry) + "*"
@@ -123,7 +140,7 @@ class Layouts:
         if entry.tag in STRUCTS:
             return self.struct(entry, size)
         if entry.tag == "enumeration_type" and size in WIDTHS:
-            return self.type_of(entry) if "type" in entry.attributes else "u" + WIDTHS[size]
+            return self.enum(entry, self.type_of(entry) if "type" in entry.attributes else "u" + WIDTHS[size])
         if entry.tag == "base_type" and size in WIDTHS and "float" not in entry.attributes["encoding"]:
             is_signed = "DW_ATE_signed" in entry.attributes["encoding"] or size == 8
             return ("i" if is_signed else "u") + WIDTHS[size]
@@ -152,6 +169,16 @@ class Layouts:
             struct.fields += self.fields_of(member)
         return name
 
+    def enum(self, entry, width):
+        """An enumeration, which each unit that includes a header describes again."""
+        numbers = {child.name(): child.number("const_value") for child in entry.children if re.fullmatch("[0-9A-Za-z_]+", child.name())}
+        known = next((enum for enum in self.table.enums.values() if (enum.width, enum.numbers) == (width, numbers)), None)
+        if known or not numbers:
+            return known.name if known else width
+        name = self.free_name(word_of(entry.name()))
+        self.table.enums[name] = Enum(name, width, numbers)
+        return name
+
     def struct_elsewhere(self, entry):
         """A struct that is only declared here, as another unit defines it, if all that do agree on its size."""
         found = self.defined.get(_scope_of(entry), [])
@@ -162,8 +189,8 @@ class Layouts:
         return self.types[id(found[0])]
 
     def free_name(self, word):
-        is_taken = word in self.table.structs or re.fullmatch(r"[ui]\d+|bytes\d+", word)
-        return "%s_%d" % (word, len(self.table.structs)) if is_taken else word
+        is_taken = word in self.table.structs or word in self.table.enums or re.fullmatch(r"[ui]\d+|bytes\d+", word)
+        return "%s_%d" % (word, len(self.table.structs) + len(self.table.enums)) if is_taken else word
 
     def fields_of(self, member):
         """The field of a member, or those of a struct or union that has no name in this one."""
@@ -176,6 +203,12 @@ class Layouts:
         # The fields of a tuple of Rust are __0, __1 and so on. What tells variants apart has no name.
         name = re.sub(r"^__(?=\d+$)", "", member.name() or "variant")
         return [Field(re.sub("[^0-9A-Za-z_]", "_", name), type_, offset, bits)]
+
+
+def is_of_c(entry):
+    while entry.parent:
+        entry = entry.parent
+    return "Rust" not in entry.attributes.get("language", "")
 
 
 def _scope_of(entry):

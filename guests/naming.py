@@ -41,20 +41,21 @@ class Place:
             return "(@%s.u8[%d]*%d%+d)" % (self.node, self.variable.switch.address, second - first, first)
         if self.type.endswith("*"):
             return self.load_as("u32")
-        if not re.fullmatch("[ui][0-9]+", self.type):
+        width = self.table.width_of(self.type)
+        if not re.fullmatch("[ui][0-9]+", width):
             raise Refusal("it is %s, which is no number" % self.type)
-        return self.load_bits() if self.bits else self.load_as(self.type)
+        return self.load_bits(width) if self.bits else self.load_as(width)
 
     def load_as(self, width):
         return "@%s.%s[%s]" % (self.node, width, self.address(self.table.size_of(width)))
 
-    def load_bits(self):
+    def load_bits(self, type_):
         first, count = self.bits
         width = next((width for width in ("u8", "u16", "u32") if first + count <= int(width[1:])), None)
         if width is None:
             raise Refusal("a bit field that ends past 32 bits cannot be read")
         unsigned = "%s/%d%%%d" % (self.load_as(width), 1 << first, 1 << count)
-        if self.type[0] == "u":
+        if type_[0] == "u":
             return "(%s)" % unsigned
         half = 1 << count - 1
         return "((%s+%d)%%%d-%d)" % (unsigned, half, 1 << count, half)

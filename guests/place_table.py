@@ -61,6 +61,15 @@ class Struct:
     fields: list = field(default_factory=list)
 
 
+@dataclass
+class Enum:
+    """Names of numbers of a width."""
+
+    name: str
+    width: str
+    numbers: dict = field(default_factory=dict)
+
+
 @dataclass(frozen=True)
 class CallPlace:
     """A place in the source that makes calls, and the address that the guest keeps for it."""
@@ -111,6 +120,7 @@ class PlaceTable:
         self.digest = digest
         self.variables = []
         self.structs = {}
+        self.enums = {}
         self.calls = []
         self.functions = []
 
@@ -119,6 +129,10 @@ class PlaceTable:
         """How the names of variables begin that are in the guest's own file."""
         return re.sub("[^0-9A-Za-z_]+", "_", os.path.splitext(self.module)[0]).strip("_")
 
+    def width_of(self, type_):
+        """The width of a number of a type, which may be an enumeration; other types stay as they are."""
+        return self.enums[type_].width if type_ in self.enums else type_
+
     def size_of(self, type_):
         if type_.endswith("*"):
             return POINTER_SIZE
@@ -126,11 +140,12 @@ class PlaceTable:
             return array[1] * self.size_of(array[0])
         if type_ in self.structs:
             return self.structs[type_].size
-        if type_.startswith("bytes"):
-            return int(type_[5:])
-        if type_[1:] not in ("8", "16", "32", "64"):
+        width = self.width_of(type_)
+        if width.startswith("bytes"):
+            return int(width[5:])
+        if width[1:] not in ("8", "16", "32", "64"):
             raise ValueError("%s is no type" % type_)
-        return int(type_[1:]) // 8
+        return int(width[1:]) // 8
 
     def variable(self, name):
         """The variable of this name, or the one whose name ends in `::` and this. One in the file that the module has its name of
@@ -155,6 +170,9 @@ class PlaceTable:
         for struct in self.structs.values():
             lines.append("struct %s %d" % (struct.name, struct.size))
             lines += [_spell_field(f) for f in struct.fields]
+        for enum in self.enums.values():
+            lines.append("enum %s %s" % (enum.name, enum.width))
+            lines += ["number %s %d" % pair for pair in enum.numbers.items()]
         return "\n".join(lines) + "\n"
 
 
@@ -197,8 +215,10 @@ def _parse_table(lines):
     first, module, digest = words_of_lines[0]
     if first != "module":
         raise ValueError("it names no module")
-    table, struct, places = PlaceTable(module, digest), None, []
+    table, struct, enum, places = PlaceTable(module, digest), None, None, []
     for words in words_of_lines[1:]:
+        if words[0] in ("variable", "struct", "field", "enum", "number") and not re.fullmatch("[0-9A-Za-z_:]+", words[1]):
+            raise ValueError("%s is no name" % words[1])
         if words[0] == "variable":
             table.variables.append(Variable(words[1], words[2]))
             places.append(words[3:])
@@ -212,6 +232,10 @@ def _parse_table(lines):
         elif words[0] == "field":
             bits = tuple(int(n) for n in words[5].split("+")) if len(words) > 4 else None
             struct.fields.append(Field(words[1], words[2], int(words[3]), bits))
+        elif words[0] == "enum":
+            enum = table.enums[words[1]] = Enum(words[1], words[2])
+        elif words[0] == "number":
+            enum.numbers[words[1]] = int(words[2])
         else:
             raise ValueError("a line begins with %s" % words[0])
     for variable, words in zip(table.variables, places):

@@ -44,11 +44,10 @@ def arguments():
     return chosen
 
 
-def with_addresses(pairs, watches):
+def with_addresses(names, watches):
     """The watches with addresses in place of names of variables, as NAME.places beside the modules has them."""
-    names = Names(pairs, lambda line: None)
     try:
-        return [(name, names.line(expression)) for name, expression in watches]
+        return [(name, names.expression(expression)) for name, expression in watches]
     except Refusal as refusal:
         raise NotOneGroup("a watch is refused: %s" % printable(str(refusal))) from None
 
@@ -57,7 +56,8 @@ def made(chosen):
     recordings = []
     for pairs in (chosen.pairs, chosen.against):
         if pairs:
-            recordings.append(read_recording(chosen.program, pairs, with_addresses(pairs, chosen.watches)))
+            names = Names(pairs, lambda line: None)
+            recordings.append(read_recording(chosen.program, pairs, names, with_addresses(names, chosen.watches)))
             warn(Verdict(chosen.program, pairs))
     names = [[(process["number"], process["name"]) for process in data["processes"]] for data, _ in recordings]
     if names[0] != names[-1]:

@@ -18,11 +18,13 @@ from logs.vector_clocks import shiviz_text
 from pictures.captions import Captions
 from pictures.command_line import OneLineParser, warn, write
 from pictures.drawing import Picture
-from pictures.standing import by_logs, by_replay, threads_at
+from pictures.standing import by_logs, by_replay, threads_at, time_told, with_sites
+from sessions.names import Names
+from sessions.sites import Sites, sites_of
 from sessions.verdict import Verdict
 
-# More events than these make what is hard to read.
-MANY, MANY_OF_SHIVIZ = 3000, 20_000
+# More events than these make what is hard to read, and more than the most a picture of many megabytes.
+MANY, MANY_OF_SHIVIZ, MOST = 3000, 20_000, 20_000
 
 
 def arguments():
@@ -32,6 +34,7 @@ def arguments():
     parser.add_argument("--shiviz", action="store_true", help="print a log for ShiViz in place of a picture")
     parser.add_argument("--from", dest="first", type=int, metavar="K", help="the position of the first event")
     parser.add_argument("--to", dest="last", type=int, metavar="K", help="the position of the last event")
+    parser.add_argument("--whole", action="store_true", help="a picture of many megabytes too")
     parser.add_argument("--process", action="append", type=listed, metavar="NAME,..", help="only the lines of these processes")
     parser.add_argument("--hide", action="append", type=listed, metavar="CALL,..", help="no dots for events of these calls")
     parser.add_argument("--bytes", action="store_true", help="what events sent and took, beside them and not only by the mouse")
@@ -76,32 +79,52 @@ def program_of(chosen):
     return None if chosen.logs_alone else chosen.program or program_if_there()
 
 
-def ends_of(program, pairs, logs, traffic, last):
-    """How each process is at the last position, by its name."""
-    drawn = {log.name: all(event.position <= last for event in traffic.events if event.log is log) for log in logs}
-    if program is None:
-        return {log.name: by_logs(log, drawn[log.name]) for log in logs}
+def results_of(program, pairs):
+    """What replay says of each process; what is wrong with the logs is told."""
     verdict = Verdict(program, pairs)
     warn(verdict)
-    results = verdict.report.results if verdict.report else replayed(program, pairs)
-    whole = all(results[log.name].accepted == len(log.entries) for log in logs)
-    threads = threads_at(program, pairs, [log.name for log in logs], last) if whole else {}
-    return {log.name: by_replay(log, drawn[log.name], results[log.name], threads.get(log.name, ())) for log in logs}
+    return verdict.report.results if verdict.report else replayed(program, pairs)
+
+
+class Asked:
+    """What the program says of the processes, as far as there is one and it accepts all of the logs."""
+
+    def __init__(self, program, pairs, logs, traffic):
+        self.program, self.pairs, self.logs, self.events = program, pairs, logs, traffic.events
+        self.results = results_of(program, pairs) if program else None
+        self.is_whole = self.results is not None and all(self.results[log.name].accepted == len(log.entries) for log in logs)
+        self.sites = sites_of(program, pairs, Names(pairs, lambda line: None), self.events) if self.is_whole else Sites()
+
+    def ends(self, last):
+        """How each process is at a position, by its name."""
+        threads = threads_at(self.program, self.pairs, [log.name for log in self.logs], last) if self.is_whole else {}
+        sites = self.sites.at(last, self.events)
+        return {log.name: self.end(log, last, list(with_sites(log.name, threads.get(log.name, ()), sites))) for log in self.logs}
+
+    def end(self, log, last, threads):
+        is_last, time = all(event.position <= last for event in self.events if event.log is log), time_told(log, self.events[:last])
+        return by_replay(log, is_last, time, self.results[log.name], threads) if self.results else by_logs(log, is_last, time)
+
+
+def warn_of_size(chosen, count):
+    if count > MOST and not chosen.shiviz and not chosen.whole:
+        raise NotOneGroup("%d events make a picture of some %d MB; --from and --to take a part, and --whole draws them all" % (count, count * 370 // 10**6))
+    if count > (MANY_OF_SHIVIZ if chosen.shiviz else MANY):
+        words = count, "log for ShiViz" if chosen.shiviz else "picture"
+        print("%d events make a large %s; --from and --to take a part" % words, file=sys.stderr)
 
 
 def made(chosen):
     logs = read_group(chosen.pairs)
     traffic = traffic_of(logs, cut_processes(logs, chosen.pairs[1::2]))
-    captions = Captions(logs, traffic, chosen.bytes)
     drawn = drawn_logs(chosen, logs)
     first, last = span(chosen, len(traffic.events))
-    if last - first >= (MANY_OF_SHIVIZ if chosen.shiviz else MANY):
-        words = last - first + 1, "log for ShiViz" if chosen.shiviz else "picture"
-        print("%d events make a large %s; --from and --to take a part" % words, file=sys.stderr)
+    warn_of_size(chosen, last - first + 1)
     if chosen.shiviz:
-        return shiviz_text(traffic, captions.lines, first, last)
-    ends = ends_of(program_of(chosen), chosen.pairs, logs, traffic, last)
-    return Picture(drawn, traffic, captions, ends, first, last, chosen.hide).svg()
+        return shiviz_text(traffic, Captions(logs, traffic).lines, first, last)
+    asked = Asked(program_of(chosen), chosen.pairs, logs, traffic)
+    captions = Captions(logs, traffic, chosen.bytes, asked.sites.made)
+    return Picture(drawn, traffic, captions, asked.ends(last), first, last, chosen.hide).svg()
 
 
 def main():

@@ -4,12 +4,14 @@ import re
 
 from by_hand.framing import show_stack
 from sessions.arithmetic import evaluate, has_own
-from sessions.casts import address, value_of
+from sessions.casts import address, type_of, value_of
 from sessions.names import Refusal
 from sessions.places import in_words
 from sessions.spelling import FORMS, dump, number, of_answer
 
 LONGEST = 256
+# What C reads in octal.
+OCTAL = re.compile(r"(?<![\w.])0[0-9]+\b")
 MOST_SHOWN = 4096
 UNITS = {"b": 1, "h": 2, "w": 4, "g": 8}
 
@@ -24,6 +26,8 @@ def form_of(form):
 
 def show_value(session, rest, form):
     """A variable as a whole, or the value of an expression."""
+    if not rest:
+        raise Refusal("p wants a variable or an expression")
     form, engine, node = form_of(form), session.engine, session.current
     size = re.fullmatch(r"sizeof\s*\(?(.*?)\)?", rest)
     of_address = re.fullmatch(r"&\s*([^&].*)", rest)
@@ -35,6 +39,8 @@ def show_value(session, rest, form):
         session.print(value.text(form))
         return
     text = engine.names.qualified(rest, node)
+    if octal := OCTAL.search(text):
+        session.print("    %s is decimal here" % octal[0])
     if has_own(text):
         session.print(number(evaluate(text, engine.known), form))
     elif form:
@@ -44,7 +50,12 @@ def show_value(session, rest, form):
 
 
 def show_place(session, text, is_size, form):
-    """How many bytes a variable has, or where it lies."""
+    """How many bytes a variable or a type has, or where a variable lies."""
+    named = re.fullmatch(r"(?:(?:struct|enum)\s+)?([\w:]+)", text) if is_size else None
+    type_ = type_of(session.engine, session.current, named[1]) if named and session.current in session.names.tables else None
+    if type_ and not session.names.is_variable(session.current, named[1]):
+        session.print(number(session.names.tables[session.current].size_of(type_), form))
+        return
     value = value_of(session.engine, text, session.current)
     if value is None:
         raise Refusal("%s is no variable" % text)
@@ -53,6 +64,7 @@ def show_place(session, text, is_size, form):
 
 def show_bytes(session, rest, form):
     """The bytes of a variable, or LENGTH bytes at an address, 16 in a line; with a form as x/4xw numbers, N of them."""
+    rest = rest.lstrip("& ")
     value = value_of(session.engine, rest, session.current)
     words = re.fullmatch(r"/(\d*)([a-z]*)", form or "/")
     if value is None:
@@ -161,6 +173,6 @@ def show_where(session, rest, form):
 
 def show_position(session, rest, form):
     if session.engine.position == 0:
-        session.print("at 0, before the first of %d events" % session.engine.last)
+        session.print("at 0, before the first of %d events" % session.engine.count)
     else:
         session.send("events 1")

@@ -17,6 +17,8 @@ def typed(session, rest):
     """The table and the type of a variable or of a type's name."""
     name = re.sub(r"^(struct|enum)\s+", "", rest.strip())
     known = type_of(session.engine, session.current, name) if re.fullmatch(r"[\w:]+", name) else None
+    if known is None and name != rest.strip():
+        raise Refusal("%s has no %s: ptype shows the types of variables" % (session.current, rest.strip()))
     value = None if known else value_of(session.engine, rest, session.current)
     if not known and value is None:
         # What is no variable is a number, if it is anything.
@@ -30,10 +32,13 @@ def show_type_in_short(session, rest, form):
 
 
 def show_type(session, rest, form):
-    """A type with the fields of its struct."""
+    """A type with the fields of its struct, or the names of its enumeration."""
     table, type_ = typed(session, rest)
     base = re.match(r"[^*\[]*", type_)[0]
-    struct = table.structs.get(base) if table else None
+    struct, enum = (table.structs.get(base), table.enums.get(base)) if table else (None, None)
+    if enum:
+        session.print("enum %s {%s}%s  // %s" % (base, ", ".join("%s = %d" % pair for pair in enum.numbers.items()), type_[len(base) :], enum.width))
+        return
     if struct is None:
         session.print(type_)
         return

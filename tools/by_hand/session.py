@@ -8,11 +8,11 @@ from by_hand.completion import LINES
 from by_hand.pausing import Pause
 from by_hand.words import REPEATED, expanded, instead_of
 from logs.wording import bytes_lines, shown
-from naming import LONGEST_LINE
+from naming import LONGEST_LINE, NAME
 from sessions.arithmetic import has_own
 from sessions.casts import datagram, type_of
 from sessions.engine import MOVES
-from sessions.names import Refusal
+from sessions.names import WITH_EXPRESSIONS, Refusal
 from sessions.places import in_words
 from sessions.points import ignored
 from sessions.reading import LineRefused
@@ -57,8 +57,7 @@ class Session:
             self.print("> " + sent)
 
     def greeting(self):
-        count = sum(self.engine.verdict.accepted.values())
-        return "%d events of %s; help lists the words" % (count, ", ".join(self.names.nodes))
+        return "%d events of %s; help lists the words" % (self.engine.count, ", ".join(self.names.nodes))
 
     def prompt(self):
         return "(friday %d) " % self.engine.position
@@ -215,12 +214,29 @@ class Session:
             self.print("    %s is no word here: help lists them, docs/gdb.md has gdb's" % (typed or answer.sent).split()[0])
         elif column:
             self.print("    %s\n    %s^" % (answer.sent, " " * (int(column[1]) - 1)))
+            if answer.sent.split(" ", 1)[0] in WITH_EXPRESSIONS:
+                self.explain_name(NAME.match(answer.sent, int(column[1]) - 1))
             if has_own(answer.sent):
                 self.print("    & | ^ ~ << >> ?: are computed by p alone: in points write x / 4 % 2 for the bit 4 of x, x * 4 for x << 2")
+        elif answer.lines[0].startswith("? 2") and "@_" in answer.sent:
+            self.print("    @_ is each process, and stands in sum, min, max and count: sum(@_.events)")
         elif answer.lines[0].startswith("? 2"):
             self.print("    the processes are %s" % ", ".join(self.names.nodes))
         elif answer.lines[0].startswith("? 7"):
-            self.print("    the logs have %d events" % self.engine.last)
+            self.print("    the logs have %d events" % self.engine.count)
+
+    def explain_name(self, found):
+        """What a name may be that the debugger does not know."""
+        if found is None or found[0][0].isdigit():
+            return
+        name, is_whole = found[0], found.string[found.end() : found.end() + 1] != "."
+        if name in self.names.nodes and is_whole:
+            self.print("    %s is a process: `p %s.NAME` shows one of its variables, and `names %s` lists them" % (name, name, name))
+        elif name not in self.names.nodes and is_whole:
+            node = self.current
+            self.print("    %s is no variable of %s: `names %s` lists them, and local variables are not told" % (name, node, node))
+        elif name not in self.names.nodes:
+            self.print("    %s is no process: they are %s" % (name, ", ".join(self.names.nodes)))
 
     def give_up(self):
         """Leaves a walk, and goes on where the session was."""

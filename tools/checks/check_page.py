@@ -1,9 +1,10 @@
 #!/usr/bin/env python3
 """Checks page.py in a headless Chromium: the pages of the hunts are opened, moved, filtered and compared, and what stands
-there is held against the debugger's answers at random positions; a hostile group may not get out of its text; and a ring of
-16 processes with 100,000 events says how long opening and moving take, and how large the page is.
+there is held against the debugger's answers at random positions; places in the source and wall times are those of a session; a hostile
+group may not get out of its text; and a ring of 16 processes with 100,000 events says how long opening and moving take, and how large the
+page is.
 
-It wants Debian's packages chromium and wabt. The ring takes most of the time; --only names the checks that are wanted.
+It wants Debian's packages chromium and wabt, and clang. The ring takes most of the time; --only names the checks that are wanted.
 """
 
 import argparse
@@ -18,6 +19,7 @@ from asking.report import BUILT
 from browser import Browser
 from logs.vector_clocks import happens_before, vector_clocks
 from page_hostile import check_hostile
+from page_lines import check_lines
 from page_reader import Group, check_position, fill, go, no_complaint, now, opened, read_watches, same
 from page_ring import check_ring
 
@@ -242,7 +244,7 @@ def check_hunt(browser, program, hunt):
 
 def arguments():
     parser = argparse.ArgumentParser(description=__doc__, formatter_class=argparse.RawDescriptionHelpFormatter)
-    parser.add_argument("--only", action="append", choices=["hunts", "hostile", "ring"], help="one of the checks")
+    parser.add_argument("--only", action="append", choices=["hunts", "lines", "hostile", "ring"], help="one of the checks")
     parser.add_argument("program", nargs="?", default=BUILT, help="the program friday")
     chosen = parser.parse_args()
     chosen.program = os.path.abspath(chosen.program)
@@ -251,13 +253,15 @@ def arguments():
 
 def main():
     chosen = arguments()
-    wanted = chosen.only or ["hunts", "hostile", "ring"]
+    wanted = chosen.only or ["hunts", "lines", "hostile", "ring"]
     with tempfile.TemporaryDirectory() as folder, Browser() as browser:
         os.chdir(folder)
         if "hunts" in wanted:
             subprocess.run([PAGES, folder, chosen.program], check=True)
             for hunt in HUNTS:
                 check_hunt(browser, chosen.program, hunt)
+        if "lines" in wanted:
+            check_lines(browser, chosen.program)
         if "hostile" in wanted:
             check_hostile(browser, chosen.program)
         if "ring" in wanted:

@@ -127,6 +127,20 @@ def check_picture(words, group, traffic):
     lost = group.sends - len(traffic.by_send)
     assert len(traffic.taken) == group.receives == sum(kind.startswith("arrow") for kind in kinds) - 3
     assert sum(kind == "cross" for kind in kinds) == lost + 1
+    check_arrows(root)
+
+
+def check_arrows(root):
+    """No arrow begins or ends in the words of an event."""
+    def numbers(part, *names):
+        return [float(part.get(name)) for name in names]
+
+    words = [numbers(part, "x", "y", "width", "height") for part in root.iter() if part.get("class") == "behind"]
+    arrows = [numbers(part, "x1", "y1", "x2", "y2") for part in root.iter() if part.tag.endswith("line") and part.get("class", "").startswith("arrow")]
+    assert words and arrows
+    for x1, y1, x2, y2 in arrows:
+        for left, top, width, height in words:
+            assert not any(left < x < left + width and top < y < top + height for x, y in ((x1, y1), (x2, y2))), (x1, y1, x2, y2, left, top)
 
 
 def check_group(seed, processes, events):
@@ -155,6 +169,17 @@ def check_refused():
         assert done.returncode != 0 and done.stdout == "" and len(done.stderr.splitlines()) == 1, (bad, done.stderr)
 
 
+def check_large():
+    """What would be a picture of many megabytes is refused at once, and a part of it is drawn."""
+    group = MadeUp(3, 2)
+    for _ in range(20_001):
+        group.note(0, [])
+    words = group.write()
+    done = picture("--logs-alone", *words)
+    assert done.returncode == 1 and done.stdout == "" and "--whole" in done.stderr, done.stderr
+    assert picture("--logs-alone", "--from", "20000", *words).returncode == 0
+
+
 def main():
     argparse.ArgumentParser(description=__doc__, formatter_class=argparse.RawDescriptionHelpFormatter).parse_args()
     with tempfile.TemporaryDirectory() as folder:
@@ -162,6 +187,7 @@ def main():
         for seed in range(12):
             check_group(seed, 1 + seed, 120)
         check_refused()
+        check_large()
         os.chdir("/")
     print("picture: as expected")
 

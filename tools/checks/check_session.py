@@ -45,6 +45,8 @@ TYPED = (
     ("g 53", "at 53: "),
     ("p north.balances[0] + north.events", r"\d+"),
     ("p nobody.x", r"\? 1 syntax at column 7\n    print nobody.x\n          \^"),
+    ("p amount", r"(?s)\? 1 syntax at column 7\n.*    amount is no variable of .*: `names .*` lists"),
+    ("w north.balances[0] + amount", r"(?s)\? 1 syntax .*    amount is no variable of north"),
     ("p north.nothing", r"\? bank.wasm has no variable nothing"),
     ("finish", r"\? north 1 does not leave take_all up to the end\n"),
     ("up", r"#1  begin, kit/threads.c:14-22\n +14  static void begin\("),
@@ -99,6 +101,10 @@ HABITS = (
     ("p balances[0] > 80 ? 7 : 8", "7"),
     ("p (balances[0] & 0xf) + 1", "11"),
     ("p 1 << 64", "undef"),
+    ("p 'a' + me - 'a'", "0"),
+    ("p '?' ? '(' : ')'", "40"),
+    ("p me@_", r"\? "),
+    ("p @_.{me}", r"(?s)\? 2 no node\n    @_ is each process"),
     ("p 1 &", r"\? an operand is missing"),
     ("p &transfers", "0x14d0"),
     ("p sizeof(transfers[0])", "24"),
@@ -172,6 +178,33 @@ HABITS = (
 )
 
 
+# Over the bank's places with names for some numbers.
+ENUMERATORS = (
+    ("g 58", "at 58: "),
+    ("p north.transfers[0].message.kind", r"TRANSFER \(1\)\n"),
+    ("p/x north.transfers[0].message.kind", "0x1\n"),
+    ("p north.transfers[0].message", r"\{kind = TRANSFER \(1\), number = "),
+    ("p north.transfers[3].message.kind", "0\n"),
+    ("p north.transfers[0].message.kind == RECEIPT", "0\n"),
+    ("p TRANSFER | kind::RECEIPT", "3\n"),
+    ("p north.balances[LAST]", r"\d+\n"),
+    ("p LOSS + 3", "2\n"),
+    ("p (enum kind)2", r"RECEIPT \(2\)\n"),
+    ("p send + 1", r"\? 1 syntax"),
+    ("ptype north.transfers[0].message.kind", r"enum kind \{TRANSFER = 1, RECEIPT = 2\}  // u32"),
+    ("whatis north.transfers[0].message.kind", "kind\n"),
+    ("cast send struct message", ""),
+    ("e 1", r"58: .*\n    sent to south: \{kind = TRANSFER \(1\), "),
+    ("run", "at 0"),
+    ("w north.transfers[0].message.kind == TRANSFER if north.me != LOSS", "point 1"),
+    ("b north send if transfers[0].message.kind == TRANSFER", "point 2"),
+    ("c", "watch 1: .*1\n"),
+    ("c", "break 2\n"),
+    ("w north.me == LOSS", "point 3"),
+    ("l", r"1 watch @north.u32\[5336\] == 1.*\n2 break north send.*\n3 watch @north.u32\[1184\] == \(0-1\)\n    point 1 is watch .* if north.me != LOSS\n"),
+)
+
+
 def session(program, typed, *words, wanted=0, pairs=PAIRS):
     run = subprocess.run(
         [sys.executable, os.path.join(TOOLS, "session"), "--program", program, *words, *pairs],
@@ -181,12 +214,24 @@ def session(program, typed, *words, wanted=0, pairs=PAIRS):
     return run.stdout
 
 
-def check_answers(program):
+def check_typed(program, lines, pairs=PAIRS):
     """Each line is followed by a mark, so that the answers can be told apart."""
-    typed = "".join("%s\nset $mark %d\np $mark + 1000000\n" % (line, place) for place, (line, _) in enumerate(TYPED))
-    answers = re.split(r"10000\d\d\n", session(program, typed, wanted=1))
-    for (line, wanted), answer in zip(TYPED, answers):
+    typed = "".join("%s\nset $mark %d\np $mark + 1000000\n" % (line, place) for place, (line, _) in enumerate(lines))
+    answers = re.split(r"10000\d\d\n", session(program, typed, wanted=1, pairs=pairs))
+    for (line, wanted), answer in zip(lines, answers):
         assert re.match(wanted, answer), (line, wanted, answer)
+
+
+def check_enumerators(program, folder):
+    """Numbers that have names are shown with them, and the names stand for the numbers."""
+    bank = os.path.join(TOP, "examples", "bank", "bank")
+    shutil.copy(bank + ".wasm", folder)
+    with open(bank + ".places", encoding="ascii") as file:
+        places = re.sub(r"(?m)^enum .*\n(number .*\n)+", "", file.read())
+    places = re.sub("field kind .*", "field kind kind 0", places)
+    with open(os.path.join(folder, "bank.places"), "w", encoding="ascii") as file:
+        file.write(places + "enum kind u32\nnumber TRANSFER 1\nnumber RECEIPT 2\nenum unnamed i32\nnumber LAST 1\nnumber LOSS -1\nnumber send 7\n")
+    check_typed(program, ENUMERATORS, [os.path.join(folder, "bank.wasm") if word.endswith(".wasm") else word for word in PAIRS])
 
 
 def check_habits(program, folder):
@@ -223,12 +268,12 @@ HOSTILE = (
 
 
 def check_hostile(program, folder):
-    """Over places that nest 100,000 deep, hold themselves and have names that a terminal would obey."""
+    """Over places that nest 100,000 deep and hold themselves; names that a terminal would obey make no places."""
     for name in ("a.wasm", "a.log"):
         shutil.copy(os.path.join(TOP, "examples", "first", name), folder)
     lines = ["module a.wasm %s" % digest_of(os.path.join(folder, "a.wasm")), "variable x::deep s0 1024", "variable x::own own 1024", "variable x::row u8[9][9][9][9][9][9][9] 0"]
     lines += ["function %d \x1b[31mred%s" % (number, number % 2 * " a\x1b.c 1 99999999999999999999") for number in range(9)]
-    lines += ["variable x::\x1b[31mred u32 0", "struct own 4", "field own own 0", "field next own* 0"]
+    lines += ["struct own 4", "field own own 0", "field next own* 0"]
     for depth in range(100_000):
         lines += ["struct s%d 4" % depth, "field f %s 0" % ("s%d" % (depth + 1) if depth < 99_999 else "u32")]
     with open(os.path.join(folder, "a.places"), "w") as file:
@@ -238,6 +283,10 @@ def check_hostile(program, folder):
     run = subprocess.run(words, cwd=folder, input=typed, stdout=subprocess.PIPE, stderr=subprocess.PIPE, timeout=600)
     assert run.returncode == 1 and run.stderr == b"" and b"\x1b" not in run.stdout, (run.stderr, run.stdout[-3000:])
     assert run.stdout.count(b"1000000\n") == len(HOSTILE), run.stdout
+    with open(os.path.join(folder, "a.places"), "w") as file:
+        file.write("\n".join([lines[0], "variable x::\x1b[31mred u32 0"]) + "\n")
+    run = subprocess.run(words, cwd=folder, input=b"names\n", stdout=subprocess.PIPE, timeout=600)
+    assert run.stdout == b"no names for a: a.places is no file of places that guests/build wrote\n", run.stdout
 
 
 def check_repeat(program):
@@ -339,9 +388,9 @@ def main():
     parser = argparse.ArgumentParser(description=__doc__, formatter_class=argparse.RawDescriptionHelpFormatter)
     parser.add_argument("program", nargs="?", metavar="PROGRAM")
     program = os.path.abspath(program_of(parser.parse_args().program))
-    check_answers(program)
+    check_typed(program, TYPED)
     check_repeat(program)
-    for check in (check_kept, check_habits, check_much_said, check_hostile):
+    for check in (check_enumerators, check_kept, check_habits, check_much_said, check_hostile):
         with tempfile.TemporaryDirectory() as folder:
             check(program, folder)
     with tempfile.TemporaryDirectory() as folder:

@@ -1,5 +1,6 @@
 #!/usr/bin/env python3
-"""Checks what events.py, make_schedule.py, idle and picture.py print and refuse, over the examples pingpong and lost_update.
+"""Checks what events.py, make_schedule.py, idle and picture.py print and refuse, over the examples pingpong and lost_update, and over the
+bank with its lines, which wants clang.
 
 check_tools.py [PROGRAM]   (the program that answers ./friday, if none is given)
 """
@@ -14,6 +15,7 @@ import tempfile
 
 from tools_path import TOOLS, TOP  # before the modules of the tools, which it lets be found
 from asking.program import program_of
+from check_dap import PAIRS as LINED, prepared
 
 EXAMPLES = os.path.join(TOP, "examples")
 LOGS = [os.path.join(EXAMPLES, "lost_update", name + ".log") for name in ("north", "south", "east")]
@@ -71,6 +73,17 @@ def check_told(program):
     assert 'class="cross"' not in part.split("the process ended")[1] and ">cut</text>" in part, part
 
 
+def check_lined(program):
+    """A picture tells where in the source of a guest that keeps its lines events were made and threads wait, and the wall time."""
+    folder = os.path.join(os.getcwd(), "lined")
+    os.mkdir(folder)
+    prepared(program, folder)
+    pairs = [os.path.join(folder, word) for word in LINED]
+    whole, part = (run("picture.py", "--program", program, *words, *pairs) for words in ([], ["--to", "54"]))
+    assert "54: 25 north 3 print 4208 25 = 25\nin print_two, print_two.h:23\n" in whole, whole
+    assert ">wall time 0, told at 22<" in part and ">3 at unlock 1<" in part and ">\u00a0\u00a0in change, bank.c:65<" in part, part
+
+
 def check_schedules(program):
     """Modules are not written over, names in refusals are the caller's, and one seed makes one schedule."""
     for name in ("ping.wasm", "pong.wasm"):
@@ -119,6 +132,7 @@ def main():
     with tempfile.TemporaryDirectory() as folder:
         os.chdir(folder)
         check_told(program)
+        check_lined(program)
         check_schedules(program)
         check_idle(program)
         os.chdir("/")

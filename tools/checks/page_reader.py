@@ -18,11 +18,13 @@ READ = """Array.from(document.querySelectorAll(".stage"), (stage) => {
   const texts = (root, kinds) => Array.from(root.querySelectorAll(kinds), (each) => each.textContent);
   const process = (card) => [card.dataset.name, {
     end: texts(card, ".end")[0], last: texts(card, ".last")[0], told: texts(card, ":scope > .bytes"),
-    threads: texts(card, ".thread"), pending: texts(card, ".datagram"),
+    threads: Array.from(card.querySelectorAll(".thread"), (line) => line.firstChild.textContent),
+    sites: Array.from(card.querySelectorAll(".thread"), (line) => texts(line, ".site").join("")),
+    time: texts(card, ".time"), pending: texts(card, ".datagram"),
   }];
   return {
     position: Number(stage.querySelector(".position").value), slider: Number(stage.querySelector(".slider").value),
-    headline: texts(stage, ".headline")[0], told: texts(stage, ".told .bytes"), total: texts(stage, ".total")[0],
+    headline: texts(stage, ".headline")[0], site: texts(stage, ".at .site")[0], told: texts(stage, ".told .bytes"), total: texts(stage, ".total")[0],
     values: Array.from(stage.querySelectorAll(".watch"), (row) => texts(row, ".name, .value, .since")),
     events: Array.from(stage.querySelectorAll(".event"), (row) => row.firstChild.textContent),
     processes: Object.fromEntries(Array.from(stage.querySelectorAll(".process"), process)),

@@ -11,7 +11,8 @@ from logs.traffic import traffic_of
 from page_reader import go, no_complaint, now, opened, same
 from pages.file import page
 from pages.packing import BYTES_OF_AN_EVENT, packed
-from pages.recording import columns, datagrams
+from pages.recording import columns, datagrams, placed
+from sessions.sites import Sites
 from tools_path import TOOLS
 
 PAGE = os.path.join(TOOLS, "page.py")
@@ -130,7 +131,7 @@ def check_room(browser):
     traffic = traffic_of([log])
     data, pieces = columns([log], traffic.events)
     process = {"name": "long", "number": 0, "end": "running", "verdict": "log whole", "threads": [(0, "at exit 0")]}
-    data.update(files=["long.log"], courses=[], processes=[process], **datagrams(traffic))
+    data.update(files=["long.log"], courses=[], processes=[process], **datagrams(traffic), **placed(Sites(), 2000))
     text = packed(data, pieces)
     same("room", len(text) <= BYTES_OF_AN_EVENT * 2000, True)
     with open("long.html", "w", encoding="utf-8") as file:

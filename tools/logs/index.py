@@ -36,9 +36,14 @@ class LogIndex:
         cursor = Cursor(self.data[self.starts[number - 1] : self.starts[number]], self.log.version)
         return read_entry(cursor, self.clocks[number - 2] if number > 1 else 0)
 
-    def tag(self, number):
-        """The sender and the clock in the tag of the datagram that a receive took, or None. They end the entry."""
-        return tag_behind(self.data, self.starts[number]) if self.log.version == 2 else tag_in(self.data, self.starts[number - 1], self.starts[number])
+    def tags(self):
+        """The tag of each datagram that was taken, as one number, with the place of its event among them, from 0."""
+        data, starts = self.data, self.starts
+        for at in [at for at, kind in enumerate(self.kinds) if kind in RECEIVES]:
+            end = starts[at + 1]
+            tag = tag_behind(data, end) if self.log.version == 2 else tag_in(data, starts[at], end)
+            if tag:
+                yield at, tag
 
 
 def columns():
@@ -48,11 +53,13 @@ def columns():
 def through_short(data, at, most):
     """The columns of a log of version 2, and last where its events end."""
     clocks, threads, kinds, starts = columns()
+    add_clock, add_thread, add_kind, add_start = clocks.append, threads.append, kinds.append, starts.append
     clock, end, left = 0, len(data), -1 if most is None else most
     while left and at < end:
         begin = at
+        # Most numbers have one byte, and a call for each would take longer than all the rest.
         try:
-            size, at = short(data, at)
+            size, at = (data[at], at + 1) if data[at] < 128 else short(data, at)
             after = at + size
             if after > end:
                 break
@@ -64,10 +71,10 @@ def through_short(data, at, most):
         clock += more
         if clock >= 2**64 or thread >= 2**16:
             break
-        clocks.append(clock)
-        threads.append(thread)
-        kinds.append(kind)
-        starts.append(begin)
+        add_clock(clock)
+        add_thread(thread)
+        add_kind(kind)
+        add_start(begin)
         at, left = after, left - 1
     starts.append(at if not left or at >= end else begin)
     return clocks, threads, kinds, starts
@@ -101,20 +108,23 @@ def short(data, at):
 
 
 def tag_behind(data, end):
-    """The tag that ends an entry of version 2: a flag of 1, a sender of one byte, and a clock, which is not 0."""
+    """The tag that ends an entry of version 2, a flag of 1, a sender of one byte, and a clock, which is not 0; as one number, the clock
+    before the sender."""
     at = end - 1
-    if data[at] == 0:
+    clock = data[at]
+    if clock == 0:
         return None
     while data[at - 1] > 127:
         at -= 1
-    return data[at - 1], short(data, at)[0]
+        clock = clock << 7 | data[at] & 127
+    return clock << PROCESS_BITS | data[at - 1]
 
 
 def tag_in(data, start, end):
     count = int.from_bytes(data[start + COUNT_AT : start + COUNT_AT + 4], "little")
     if start + COUNT_AT + 4 + count + TAG_SIZE != end:
         return None
-    return int.from_bytes(data[end - 12 : end - 8], "little"), int.from_bytes(data[end - 8 : end], "little")
+    return int.from_bytes(data[end - 8 : end], "little") << PROCESS_BITS | int.from_bytes(data[end - 12 : end - 8], "little")
 
 
 class Index:
@@ -198,23 +208,29 @@ class Index:
         return self.of_process[part.log.name][at] if is_send(entry) and entry.arguments[0] == receiver else None
 
     def takers_in(self, part):
-        """Of each pair of a sender and a clock that tags name, the positions of the events of a process that took it."""
+        """By the tags of the datagrams that a process took, the position of the first event that took each, and those of the others."""
         if part.log.name not in self.taken:
-            found, positions, data = {}, self.of_process[part.log.name], part.data
-            for at, kind in enumerate(part.kinds):
-                if kind in RECEIVES and (part.log.version == 1 or data[part.starts[at + 1] - 1]):
-                    tag = part.tag(at + 1)
-                    if tag:
-                        found.setdefault(tag, []).append(positions[at])
-            self.taken[part.log.name] = found
+            first, again, positions = {}, {}, self.of_process[part.log.name]
+            for at, tag in part.tags():
+                if tag not in first:
+                    first[tag] = positions[at]
+                else:
+                    again.setdefault(tag, []).append(positions[at])
+            self.taken[part.log.name] = first, again
         return self.taken[part.log.name]
 
     def tags(self):
-        """Each tag that an event took, and the position of the event, in the order of the processes."""
-        return ((tag, position) for part in self.parts for tag, positions in self.takers_in(part).items() for position in positions)
+        """The sender and the clock in each tag that an event took, and the position of the event."""
+        for part in self.parts:
+            first, again = self.takers_in(part)
+            for tag in first:
+                for position in (first[tag], *again.get(tag, ())):
+                    yield (tag & 2**PROCESS_BITS - 1, tag >> PROCESS_BITS), position
 
     def taken_at(self, event):
         """The positions at which what an event sent was taken, in their order."""
         receiver = event.entry.arguments[0] if is_send(event.entry) else None
         part = next((part for part in self.parts if part.log.process == receiver), None)
-        return self.takers_in(part).get((event.log.process, event.entry.clock), []) if part else []
+        first, again = self.takers_in(part) if part else ({}, {})
+        tag = event.entry.clock << PROCESS_BITS | event.log.process
+        return [first[tag], *again.get(tag, ())] if tag in first else []

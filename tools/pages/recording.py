@@ -12,6 +12,8 @@ from asking.debugger import courses, threads_at
 from asking.report import replayed
 from logs.group import NotOneGroup, read_group
 from logs.traffic import Fate, cut_processes, traffic_of
+from sessions.places import in_words
+from sessions.sites import sites_of
 
 FATES = {Fate.NOT_TAKEN: 0, Fate.NO_LOG: 1, Fate.LEFT_GROUP: 2, Fate.CUT: 3}
 
@@ -26,8 +28,8 @@ class Table:
         return self.numbers.setdefault(thing, len(self.numbers))
 
 
-def read_recording(program, pairs, watches):
-    """The columns of a recording and its distinct byte strings, of the words MODULE LOG .. and of pairs NAME, EXPR."""
+def read_recording(program, pairs, names, watches):
+    """The columns of a recording and its distinct byte strings, of the words MODULE LOG .., its names and of pairs NAME, EXPR."""
     logs = read_group(pairs)
     results = replayed(program, pairs)
     if set(results) != {log.name for log in logs}:
@@ -37,6 +39,7 @@ def read_recording(program, pairs, watches):
     data, pieces = columns(logs, traffic.events)
     data["files"] = list(pairs[1::2])
     data["processes"] = processes(program, pairs, logs, results, traffic.events)
+    data.update(placed(sites_of(program, pairs, names, traffic.events), len(traffic.events)))
     data.update(datagrams(traffic))
     data["courses"] = [course_data(course) for course in courses(program, pairs, watches, len(traffic.events))]
     return data, pieces
@@ -92,6 +95,18 @@ def processes(program, pairs, logs, results, events):
         }
         for log in logs
     ]
+
+
+def placed(sites, count):
+    """The place in the source of each event and of each thread in the end, by its number from 1; 0 where none is known."""
+    places = Table()
+
+    def number(call):
+        return places.number(call) + 1 if call else 0
+
+    made = [number(sites.made.get(position)) for position in range(1, count + 1)] if sites.made else []
+    waiting = [[node, thread, number(call)] for (node, thread), call in sites.waiting.items() if call]
+    return {"sites": made, "waiting": waiting, "places": [in_words(call) for call in places.numbers]}
 
 
 def datagrams(traffic):

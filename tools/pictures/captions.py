@@ -2,6 +2,7 @@
 
 from logs.traffic import Fate, Origin
 from logs.wording import bytes_lines, shown
+from sessions.places import in_words
 
 LONGEST = 100
 FIRST_ARGUMENT = ("exit", "note", "sleep_until", "join", "lock", "unlock", "on_signal")
@@ -12,16 +13,19 @@ def shortened(text, longest=LONGEST):
 
 
 class Captions:
-    def __init__(self, logs, traffic, has_bytes=False):
-        self.traffic, self.has_bytes = traffic, has_bytes
+    def __init__(self, logs, traffic, has_bytes=False, sites=None):
+        """`sites` has the calls of the source at which events were made, where guests tell them."""
+        self.traffic, self.has_bytes, self.sites = traffic, has_bytes, sites or {}
         self.names = {log.process: log.name for log in logs}
         self.threaded = {log.process for log in logs if any(entry.thread for entry in log.entries)}
 
     def lines(self, event):
-        """The event as the debugger writes it, its bytes, and where they went or came from."""
-        head = "%d: %s" % (event.position, event.entry.text(event.log.name))
+        """The event as the debugger writes it, where in its source it was made, its bytes, and where they went or came from."""
+        head = ["%d: %s" % (event.position, event.entry.text(event.log.name))]
+        if event.position in self.sites:
+            head.append(in_words(self.sites[event.position]))
         told = [shortened(line) for line in bytes_lines(event.entry, self.names)]
-        return [head, *told, *self.sent(event), *self.came(event)]
+        return [*head, *told, *self.sent(event), *self.came(event)]
 
     def sent(self, event):
         fate = self.traffic.fates.get(event.position)

@@ -1,7 +1,7 @@
 """The space-time picture of a group: a line down for each process, and an arrow from each send to its receive."""
 
 from logs.traffic import Fate, Origin
-from pictures.layout import LEFT, LETTER, NAME_EVERY, ROW, Layout
+from pictures.layout import LETTER, NAME_EVERY, ROW, SCALE, Layout
 from pictures.legend import STYLE, heads, legend
 from pictures.svg import element, line, number, text, told
 
@@ -42,12 +42,12 @@ class Picture:
         layout, positions = self.layout, {}
         for event in self.events:
             positions.setdefault(event.entry.clock, []).append(event.position)
-        parts = [text("clock", 40, layout.top - 8, "scale"), text("position", LEFT - 14, layout.top - 8, "scale")]
+        parts = [text("clock", 40, layout.top - 8, "scale"), text("position", SCALE, layout.top - 8, "scale")]
         for clock, held in positions.items():
             y = layout.y_of_clock(clock)
             span = str(held[0]) if len(held) == 1 else "%d-%d" % (held[0], held[-1])
-            parts.append(line((LEFT - 8, y), (layout.width - 8, y), "row"))
-            parts += [text(str(clock), 40, y + 3, "scale"), text(span, LEFT - 14, y + 3, "scale")]
+            parts.append(line((SCALE + 6, y), (layout.width - 8, y), "row"))
+            parts += [text(str(clock), 40, y + 3, "scale"), text(span, SCALE, y + 3, "scale")]
         return "".join(parts)
 
     def life(self, log):
@@ -82,7 +82,7 @@ class Picture:
                 continue
             sent, received = (self.is_drawn(event) for event in (taken.send, taken.receive))
             if sent or received:
-                yield self.arrow(taken, self.place(taken.send), self.place(taken.receive))
+                yield self.arrow(taken, self.rim(taken.send, taken.receive), self.rim(taken.receive, taken.send))
 
     def is_drawn(self, event):
         return self.first <= event.position <= self.last
@@ -92,6 +92,18 @@ class Picture:
         if self.is_drawn(event):
             return self.layout.at(event)
         return self.layout.x(event.log.process), self.layout.top if event.position < self.first else self.layout.bottom
+
+    def rim(self, event, other):
+        """Where an arrow from or to an event ends: behind its words, if they stand on the side of the other event."""
+        x, y = self.place(event)
+        is_behind = self.is_drawn(event) and self.layout.x(other.log.process) > x
+        return (x + self.room(event) if is_behind else x), y
+
+    def room(self, event):
+        """How far the words of an event reach."""
+        signal = " signal %d" % event.entry.signal if event.entry.signal else ""
+        letters = len(self.clipped(self.captions.word(event)) + signal)
+        return min(12 + LETTER * letters, self.layout.width_of_column - 3 * DOT) if letters else 0
 
     def arrow(self, taken, start, end):
         head = "altered" if taken.altered else "again" if taken.earlier else "sent"

@@ -4,7 +4,7 @@ import re
 
 from sessions.names import Refusal
 
-TOKEN = re.compile(r'\s+|"[^"]*"?|[@$]?\w+|<<|>>|<=|>=|==|!=|&&|\|\||->|::|.', re.S)
+TOKEN = re.compile(r'\s+|"[^"]*"?|\'\\?.\'|[@$]?\w+|<<|>>|<=|>=|==|!=|&&|\|\||->|::|.', re.S)
 # From the weakest on; each groups from the left.
 LEVELS = (("||",), ("&&",), ("|",), ("^",), ("&",), ("==", "!="), ("<", "<=", ">", ">="), ("<<", ">>"), ("+", "-"), ("*", "/", "%"))
 OWN = ("|", "^", "&", "<<", ">>", "~", "?")

@@ -2,7 +2,7 @@
 
 import re
 
-from naming import STEP, end_of
+from naming import LONGEST_LINE, STEP, end_of
 from sessions.names import Refusal
 from sessions.values import Given, Value
 
@@ -18,6 +18,8 @@ MOST_IN_A_ROW, DEEPEST = 100_000, 16
 def value_of(engine, text, node, depth=0):
     """The value that such a text or a variable's path stands for, or None where it is another expression."""
     text = text.strip()
+    if len(text) > LONGEST_LINE:
+        raise Refusal("8 line too long")
     if depth > DEEPEST:
         raise Refusal("3 too deep")
     if row := re.fullmatch(r"([^@]+)@\s*(\d{1,9})", text):
@@ -88,7 +90,7 @@ def type_of(engine, node, name):
     if name in NUMBERS:
         return NUMBERS[name]
     table = engine.names.tables.get(node)
-    found = [known for known in (table.structs if table else ()) if known == name or known.endswith("::" + name)]
+    found = [known for known in ((*table.structs, *table.enums) if table else ()) if known == name or known.endswith("::" + name)]
     return found[0] if found else None
 
 

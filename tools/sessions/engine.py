@@ -122,6 +122,11 @@ class Engine(Reading):
         return len(self.index)
 
     @property
+    def count(self):
+        """How many events there are, which is known without going through the logs."""
+        return sum(self.verdict.accepted.values())
+
+    @property
     def event(self):
         """The event of the position, or None at 0."""
         return self.event_at(self.position)

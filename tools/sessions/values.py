@@ -166,9 +166,19 @@ class Value:
         """So many of this in a row."""
         return replace(self, type="%s[%d]" % (self.type, count))
 
+    @property
+    def width(self):
+        """The width of the number here, which an enumeration and a pointer have too."""
+        return "u32" if self.is_pointer else self.table.width_of(self.type)
+
+    def name_of(self, number):
+        """The enumerator of this number, or None."""
+        enum = self.table.enums.get(self.type)
+        return next((name for name, known in enum.numbers.items() if known == number), None) if enum else None
+
     def number(self):
         """The number here, None where there are no bytes."""
-        width = "u32" if self.is_pointer else self.type
+        width = self.width
         if not re.fullmatch("[ui](8|16|32|64)", width):
             raise Refusal("it is %s, which is no number" % self.type)
         if self.bits:
@@ -185,7 +195,7 @@ class Value:
         if len(data) < size:
             return None
         value = int.from_bytes(data, "little") >> first & (1 << count) - 1
-        return value - (1 << count) if self.type[0] == "i" and value >> count - 1 else value
+        return value - (1 << count) if self.width[0] == "i" and value >> count - 1 else value
 
     def pointed(self, memory):
         """What the pointer here points to."""
@@ -194,6 +204,9 @@ class Value:
         return Value(self.table, self.type[:-1], AtAddress(memory, self.number()))
 
     def text(self, form=""):
+        if isinstance(self.bytes, InPieces) and not self.bytes.variable.pieces:
+            # Nothing of it is anywhere, which is said once.
+            self.bytes.start(0)
         try:
             self.bytes.read(self.offset, min(self.size, MOST_READ))
         except Refusal:
@@ -220,6 +233,9 @@ class Spelling:
             found = value.number()
         except Refusal as refusal:
             return "(%s)" % refusal
+        name = None if self.form else value.name_of(found)
+        if name:
+            return "%s (%d)" % (name, found)
         form = self.form or ("x" if value.is_pointer else "")
         return number(found, form, value.bits[1] if value.bits else 8 * value.size)
 

@@ -33,6 +33,9 @@ class EventList {
   row(position) {
     const { recording, cursor } = this.stage;
     const row = element("li", position === cursor ? "event here" : "event", recording.headline(position));
+    if (recording.site(position)) {
+      row.append(element("span", "site", recording.site(position)));
+    }
     const told = recording.told(position)[0];
     if (told) {
       row.append(element("span", "bytes", shortened(told, 120)));

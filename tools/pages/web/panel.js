@@ -18,10 +18,18 @@ function link(text, position, stage) {
   return made;
 }
 
+// How a thread stands, and where in its source.
+function threadLine({ line, site }) {
+  const made = element("li", "thread", line);
+  made.append(site ? element("div", "site", site) : "");
+  return made;
+}
+
 class Panel {
   constructor(stage, root) {
     this.stage = stage;
     this.headline = root.querySelector(".headline");
+    this.site = root.querySelector(".site");
     this.told = root.querySelector(".told");
     this.values = root.querySelector(".values");
     this.processes = root.querySelector(".processes");
@@ -30,6 +38,7 @@ class Panel {
   show() {
     const { recording, cursor } = this.stage;
     this.headline.textContent = recording.headline(cursor);
+    this.site.textContent = recording.site(cursor);
     this.told.replaceChildren(...this.toldLines(cursor));
     this.values.replaceChildren(...this.stage.courses.map((course) => this.valueRow(course)));
     this.processes.replaceChildren(...this.stage.rows.shown.map((place) => this.card(place)));
@@ -63,12 +72,21 @@ class Panel {
     card.append(
       element("h3", "end", process.name + " " + standing.endAt(place, cursor)),
       element("div", "count", this.countText(place)),
+      ...this.timeTold(place),
       element("div", "last", "", [last ? link(recording.headline(last), last, this.stage) : "no event yet"]),
       ...this.toldLines(last),
-      element("ol", "threads", "", standing.threadLines(place, cursor).map((line) => element("li", "thread", line))),
+      element("ol", "threads", "", standing.threadLines(place, cursor).map(threadLine)),
       ...this.pending(place),
     );
     return card;
+  }
+
+  // The wall time that a process was told last.
+  timeTold(place) {
+    const { recording, standing, cursor } = this.stage;
+    const told = standing.timeTold(place, cursor);
+    const inside = ["wall time " + recording.answer(told) + ", ", link("told at " + told, told, this.stage)];
+    return told ? [element("div", "time", "", inside)] : [];
   }
 
   countText(place) {

@@ -45,6 +45,7 @@ class Recording {
     this.keepPieces(data, pool);
     this.number();
     this.keepTraffic(data);
+    this.keepPlaces(data);
   }
 
   keepPieces(data, pool) {
@@ -80,6 +81,18 @@ class Recording {
     this.fates = new Map(data.fates);
   }
 
+  // Where in the source each event was called, and where threads wait in the end, as far as guests tell.
+  keepPlaces(data) {
+    const places = ["", ...data.places.map(visible)];
+    this.places = data.sites.map((place) => places[place]);
+    this.waiting = new Map(data.waiting.map(([node, thread, place]) => [node + " " + thread, places[place]]));
+  }
+
+  // The place in the source of an event's call, or nothing.
+  site(position) {
+    return this.places[position - 1] || "";
+  }
+
   call(position) {
     return this.calls[this.text[position]];
   }
@@ -103,9 +116,14 @@ class Recording {
     return this.pending(position).split(" ")[1];
   }
 
-  reply(position) {
+  // The reply as it is written, which may be a number of 64 bits.
+  answer(position) {
     const [, reply] = this.texts[this.text[position]].split(" = ");
-    return reply === undefined ? 0 : parseInt(reply, 10);
+    return reply === undefined ? "" : reply.split(" ", 1)[0];
+  }
+
+  reply(position) {
+    return Number(this.answer(position));
   }
 
   signal(position) {
@@ -182,12 +200,16 @@ class Recording {
     if (call === "print" && this.reply(position) >= 0) {
       return this.bytes(position).replace(/\\n"$/, '"');
     }
-    const refused = this.reply(position) < 0 ? " = " + this.reply(position) : "";
-    if (call === "send") {
-      return call + " " + this.nameOf(Number(this.argument(position))) + refused;
+    if (call === "sleep_until") {
+      return "until " + this.answer(position);
     }
-    const isTold = ["exit", "note", "sleep_until", "join", "lock", "unlock", "on_signal"].includes(call);
-    return call + (isTold ? " " + this.argument(position) : "") + refused;
+    const isAnswered = this.reply(position) < 0 || ["now", "spawn"].includes(call);
+    const answer = isAnswered ? " = " + this.answer(position) : "";
+    if (call === "send") {
+      return call + " " + this.nameOf(Number(this.argument(position))) + answer;
+    }
+    const isTold = ["exit", "note", "join", "lock", "unlock", "on_signal"].includes(call);
+    return call + (isTold ? " " + this.argument(position) : "") + answer;
   }
 }
 

@@ -7,10 +7,14 @@ class Standing {
     this.recording = recording;
     this.threads = recording.processes.map((process) => this.threadsOf(process));
     this.sends = recording.processes.map(() => []);
+    this.times = recording.processes.map(() => []);
     for (let position = 1; position <= recording.count; position++) {
       const { process, thread } = recording;
       this.threads[process[position]].get(thread[position]).events.push(position);
       this.noteSend(position);
+      if (["now", "sleep_until"].includes(recording.call(position))) {
+        this.times[process[position]].push(position);
+      }
     }
   }
 
@@ -48,16 +52,27 @@ class Standing {
     return own[countUpTo(own, position) - 1] || 0;
   }
 
-  // The debugger's lines for the threads that were made: each stands at the call that its next event answers.
+  // The event that told a process the wall time last, or 0.
+  timeTold(place, position) {
+    const times = this.times[place];
+    return times[countUpTo(times, position) - 1] || 0;
+  }
+
+  // The debugger's lines for the threads that were made, each with the place in its source: each stands at the call that its
+  // next event answers.
   threadLines(place, position) {
     if (this.endAt(place, position) !== "running") {
       return [];
     }
+    const { recording } = this;
     const lines = [];
     for (const [number, thread] of this.threads[place]) {
       if (thread.made <= position) {
         const next = thread.events[countUpTo(thread.events, position)];
-        lines.push(number + " " + (next ? "at " + this.recording.pending(next) : thread.last));
+        const how = next ? "at " + recording.pending(next) : thread.last;
+        const waiting = how.startsWith("at ") && how !== "at begin";
+        const last = waiting ? recording.waiting.get(recording.processes[place].name + " " + number) || "" : "";
+        lines.push({ line: number + " " + how, site: next ? recording.site(next) : last });
       }
     }
     return lines;
