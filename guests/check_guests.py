@@ -67,6 +67,7 @@ WRITTEN = (
     ("watch sum(@_.{pair.left}) > 3", r"watch sum\(@_\.i32\[\d+\]\) > 3"),
     ("print @a.{head->next} == 0", r"print @a\.u32\[@a\.u32\[\d+\]\+8\] == 0"),
     ("print @a.{peers[$n].next}", r"print @a\.u32\[\d+\+\(\$n\)\*32\+8\]"),
+    ("break * * if @!.{head->next} > @!.clock", r"break \* \* if @!\.u32\[@!\.u32\[\d+\]\+8\] > @!\.clock"),
 )
 
 

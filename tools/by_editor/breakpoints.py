@@ -5,7 +5,7 @@ import re
 
 from by_hand.pointing import CALL_NAMES
 from sessions.names import Refusal
-from sessions.places import advice, calls_of, line_of
+from sessions.places import advice, calls_of
 from sessions.values import numbers_of
 
 FILTERS = [

@@ -3,7 +3,7 @@
 from by_hand.commands import COMMANDS
 
 # The debugger's own lines, which a session hands on.
-LINES = ("step", "back", "mem", "events", "vars", "quit")
+LINES = ("step", "back", "mem", "events", "frames", "vars", "quit")
 HIDDEN = ("bytes_at", "from_start", "list_here")
 WORDS = sorted([word for word in COMMANDS if word not in HIDDEN] + [*LINES, "run"])
 

@@ -59,6 +59,8 @@ TYPED = (
     ("bt south", r"south 0 at begin\n#0  _start, bank.c:149-165\n|south \d "),
     ("bt 3", r"north 3 at print 4128 25\n#0  print_two, print_two.h:16-24\n#1  serve, bank.c:81-92\n#2  begin, kit/threads.c:14-22\n$"),
     ("bt 77", r"\? north has no thread 77\n"),
+    ("frames north 1", r"1: 14 20\n"),
+    ("frames north 64", r"\? 1 syntax at column 14\n"),
     ("bt nobody", r"\? bt wants a process, .* north, south, east\n"),
     ("t north", r"(?s).*\n1 at recv 2176 16 2172 in take_all, bank.c:122-134 < begin\n"),
     ("hbreak x", r"\? hbreak: `b` makes all points"),
