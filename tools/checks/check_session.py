@@ -338,9 +338,11 @@ def main():
     program = os.path.abspath(program_of(parser.parse_args().program))
     check_typed(program, TYPED)
     check_repeat(program)
-    for check in (check_enumerators, check_kept, check_habits, check_hostile):
+    for check in (check_kept, check_habits, check_hostile):
         with tempfile.TemporaryDirectory() as folder:
             check(program, folder)
+    with tempfile.TemporaryDirectory() as folder:
+        check_enumerators(program, folder)
     with tempfile.TemporaryDirectory() as folder:
         check_given_up(folder)
     print("session: as expected")
