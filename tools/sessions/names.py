@@ -3,19 +3,17 @@
 import os
 import re
 
-from logs.format import CALLS, BadLog, head_of, printable
+from logs.format import BadLog, head_of, printable
 from function_names import functions_of
 from naming import LONGEST_LINE, NAME, REFERENCE, STEP, Script, end_of, place_of
 from place_table import Refusal, read_table
+from sessions.enumerators import CHARACTER, Enumerators, number_of_character
 
 STRING = re.compile(r'"[^"]*"?')
 WORD = re.compile(r"[@$.]?\w+", re.ASCII)
-# A character as C writes it, which stands for its number.
-CHARACTER, ESCAPED = re.compile(r"'(\\?[\x20-\x7e])'"), {"\\n": "\n", "\\t": "\t", "\\r": "\r", "\\0": "\0"}
 OWN_PLACES = ("u8", "u16", "u32", "i8", "i16", "i32", "i64", "global", "clock", "events", "size", "thread", "ended")
 # Words of programs, which no variable of a guest hides.
 KEPT_WORDS = ("set", "say", "stop", "if", "else")
-OTHER_WORDS = (*KEPT_WORDS, "undef", "sum", "min", "max", "count", *(call.name for call in CALLS))
 # Lines that have expressions, in which an enumerator stands for its number.
 WITH_EXPRESSIONS = ("print", "watch", "set", "do", "break")
 
@@ -45,7 +43,7 @@ class Names:
             except Refusal as refusal:
                 told("no names for %s: %s" % (node, printable(str(refusal))))
         self.script = Script(self.tables)
-        self.enumerators = enumerators_of(self.tables.values())
+        self.enumerators = Enumerators(self.tables.values(), self.nodes)
 
     def functions(self, node):
         """The functions of a process's module that have a name, by their numbers."""
@@ -133,8 +131,8 @@ class Names:
                 return text[at:end], end
             found = self.reference(text, at)
             name = NAME.match(text, at)
-            if found is None and name and self.is_enumerator(name[0]):
-                return self.number_of(name[0]), name.end()
+            if found is None and name and self.enumerators.has(name[0]):
+                return self.enumerators.number(name[0]), name.end()
             if found and found[0] != node:
                 raise Refusal("an index is read from the process of its array, and not from %s" % found[0])
             if found and self.has(node, found[1]):
@@ -163,23 +161,11 @@ class Names:
             if found := self.reference(text, at):
                 return text[at : found[2]], found[2]
             if sign := CHARACTER.match(text, at):
-                return str(ord(ESCAPED.get(sign[1], sign[1][-1]))), sign.end()
+                return number_of_character(sign), sign.end()
             word = NAME.match(text, at)
-            if word is None or not self.is_enumerator(word[0]):
-                return None
-            return self.number_of(word[0]), word.end()
+            return (self.enumerators.number(word[0]), word.end()) if word and self.enumerators.has(word[0]) else None
 
-        return replaced(text, named) if self.enumerators or "'" in text else text
-
-    def is_enumerator(self, name):
-        return name in self.enumerators and name not in self.nodes and name not in OTHER_WORDS
-
-    def number_of(self, name):
-        numbers = self.enumerators[name]
-        if len(numbers) > 1:
-            raise Refusal("%s is each of %s" % (name, ", ".join(map(str, sorted(numbers)))))
-        number = min(numbers)
-        return str(number) if number >= 0 else "(0%d)" % number
+        return replaced(text, named)
 
     def place(self, text):
         """The place of a text that is nothing but NODE.PATH or @NODE.{PATH}, or None."""
@@ -191,17 +177,6 @@ class Names:
         if found is None or found[2] != len(text) or not self.has(*found[:2]) or found[0] not in self.tables:
             return None
         return place_of(found[0], self.tables[found[0]], self.indexed(found[0], found[1]))
-
-
-def enumerators_of(tables):
-    """The numbers that each enumerator stands for, in some enumeration, also by the name of that and `::` before it."""
-    found = {}
-    for table in tables:
-        for enum in table.enums.values():
-            for name, number in enum.numbers.items():
-                found.setdefault(name, set()).add(number)
-                found.setdefault("%s::%s" % (enum.name, name), set()).add(number)
-    return found
 
 
 def replaced(text, named):
