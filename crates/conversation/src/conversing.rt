@@ -117,7 +117,8 @@ fn answer<S: LineSession, K: Sink>(
     }
 }
 
-// Takes the bytes of a piece, and answers each line that ends in it. The session itself moves only where a line ends.
+// Takes the bytes of a piece, and answers each line that ends in it. The session itself moves only where a line ends, and the
+// bytes of a line are kept where it or the piece ends: those from `from` on are still in the piece alone.
 fn take_piece<S: LineSession, K: Sink>(
     alloc: Global,
     reader: LineReader<S>,
