@@ -1,4 +1,4 @@
-# What is looked at around a recording: whose logs it replaces, and whether another one runs in the same folder.
+# What is looked at around a recording: whose logs have its names, and whether another one runs in the same folder.
 # shellcheck shell=sh
 
 # The names of the processes, which stand before the first item, or their modules.
@@ -26,7 +26,7 @@ state_of() {
 }
 
 before_recording() {
-    logs='' schedule='' kinds=log names='' note=''
+    logs='' schedule='' kinds=log names='' note='' aside=''
     for word in "$@"; do
         case $word in
         record) ;;
@@ -51,8 +51,8 @@ before_recording() {
     note=$(note_of_folder)
     sum=$(sum_of_inputs)
     lock_folder || return
-    tell_logs
-    return 0
+    tell_others
+    keep_logs
 }
 
 # The lock is on the folder, and goes with this shell and the program.
@@ -64,8 +64,7 @@ lock_folder() {
     return 6
 }
 
-# Nothing is said where the logs are still those of this very recording, which are written again.
-tell_logs() {
+tell_others() {
     others=''
     for log in *.log; do
         case " $names " in
@@ -74,12 +73,33 @@ tell_logs() {
         esac
     done
     [ -z "$others" ] || say "logs of another recording are in this folder:$others. Each recording wants a folder of its own"
+}
+
+# A log grows under its own name, so one of another recording is set aside first. Logs that are still those of this very recording
+# are written again.
+keep_logs() {
     [ -n "$logs" ] || return 0
     [ "$(printf '%s\n' "$sum"; state_of "$logs")" != "$(cat "$note" 2>/dev/null)" ] || return 0
-    say "logs of another recording are here, which this one replaces:$logs. To keep such logs, copy them first, or record in a folder of its own"
+    for log in $logs; do
+        mv -fT -- "$log" "$log.old" 2>/dev/null || {
+            put_back
+            say "$log is of another recording and cannot be kept as $log.old: record in a folder of its own"
+            return 6
+        }
+        aside="$aside $log"
+    done
+    say "logs of another recording are kept as NAME.log.old:$logs"
+}
+
+# Where a recording made no log, as a refused one, the older logs stand as before. They are not its own.
+put_back() {
+    for log in $aside; do
+        [ -e "$log" ] || { mv -T -- "$log.old" "$log" && note=''; } 2>/dev/null
+    done
 }
 
 after_recording() {
+    put_back
     [ -n "$note" ] || return 0
     logs=''
     for name in $names; do

@@ -2,7 +2,7 @@
 use Rattle.std.specs.Prelude.{⊤, ◌≡◌, ◌⊎◌, ℕ, List, [], ◌++◌, string_bytes, Bool, IsTrue, Option, take, MatchResult, Result, Ok, Err, true, false}
 use Rattle.std.specs.Io.KnownBytes.{append_known}
 use Rattle.fri_outside.specs.Outside.{Folder, Counts, CountRose, raised_count}
-use Rattle.fri_outside.specs.Several.{with_files, ChangesOnlyFiles}
+use Rattle.fri_outside.specs.Several.{with_files, AreFirstMade, ChangesOnlyFiles}
 use Rattle.fri_outside.specs.declared.files.WriteError.{WriteError}
 use Rattle.fri_outside.specs.declared.files.WriteError.TheVariants as writing
 use Rattle.command_run.specs.declared.status.Status.{Status}
@@ -152,11 +152,21 @@ MakesWorkFiles (Err refusal.ReadFault) files before after = ChangesOnlyFiles bef
 MakesWorkFiles (Err refusal.WriteFault) files before after = ChangesOnlyFiles before files after
 MakesWorkFiles (Err refusal.NoMemory) files before after = ChangesOnlyFiles before files after
 
--- these files were to be made, and some are made in part where a write or memory failed
+-- each of the files that were to be made is the old one or the new one, whole: at an answer they are all made, and the
+-- first of them where a write or memory failed
+abbrev pub MakesWholeFiles : Result WorkText StopCause → List (List ℕ × List ℕ) → Option Folder → Option Folder → Type 0
+MakesWholeFiles (Ok answer) files before after = after ≡ with_files files before
+MakesWholeFiles (Err (refusal.Refused file why)) files before after = after ≡ with_files files before
+MakesWholeFiles (Err (refusal.Absent file)) files before after = after ≡ with_files files before
+MakesWholeFiles (Err refusal.ReadFault) files before after = AreFirstMade files before after
+MakesWholeFiles (Err refusal.WriteFault) files before after = AreFirstMade files before after
+MakesWholeFiles (Err refusal.NoMemory) files before after = AreFirstMade files before after
+
+-- these files were to be made, each whole. The first of them are made where a write or memory failed
 abbrev pub MakesAllFiles : Result ⊤ StopCause → List (List ℕ × List ℕ) → Option Folder → Option Folder → Type 0
 MakesAllFiles (Ok _) files before after = after ≡ with_files files before
-MakesAllFiles (Err refusal.WriteFault) files before after = ChangesOnlyFiles before files after
-MakesAllFiles (Err refusal.NoMemory) files before after = ChangesOnlyFiles before files after
+MakesAllFiles (Err refusal.WriteFault) files before after = AreFirstMade files before after
+MakesAllFiles (Err refusal.NoMemory) files before after = AreFirstMade files before after
 MakesAllFiles (Err refusal.ReadFault) files before after = ⊥
 MakesAllFiles (Err (refusal.Refused file why)) files before after = ⊥
 MakesAllFiles (Err (refusal.Absent file)) files before after = ⊥

@@ -9,7 +9,7 @@ use Rattle.fri_outside.specs.Several.{with_files}
 use Rattle.command_run.specs.declared.status.Status.{Status}
 use Rattle.command_run.specs.declared.refusal.StopCause.{StopCause}
 use Rattle.command_run.specs.declared.refusal.StopCause.TheVariants as refusal
-use Rattle.command_run.specs.Call.{LeavesFiles, MakesWorkFiles, PrintsText, StopsAsCause, TellsOutcome}
+use Rattle.command_run.specs.Call.{LeavesFiles, MakesWholeFiles, MakesWorkFiles, PrintsText, StopsAsCause, TellsOutcome}
 use Rattle.command_run.specs.FileLaws.{same_changes}
 use Rattle.command_run.specs.Outcome.{CommandOutcome, CommandStop, and_then, no_work_done, writes_of}
 
@@ -72,6 +72,19 @@ pub refused_makes : (f : Folder → CommandOutcome) (told after : Option Folder)
 refused_makes f told after e stops same o is =
     let h = outcome_when_told f told o is in
     subst (λ (o : CommandOutcome). MakesWorkFiles (Err e) (writes_of o) told after) (sym h.2) (stops_make_files (f h.0) e told after (stops h.0 h.1) same)
+
+-- the same where each file is made whole
+stops_make_whole : (o : CommandOutcome) (e : StopCause) (before after : Option Folder) → StopsAsCause o e → after ≡ before → MakesWholeFiles (Err e) (writes_of o) before after
+stops_make_whole o (refusal.Refused file why) before after is same = same ∙ sym (ap (λ f. with_files f before) (ap writes_of is))
+stops_make_whole o (refusal.Absent file) before after is same = same ∙ sym (ap (λ f. with_files f before) (ap writes_of is))
+stops_make_whole o refusal.ReadFault before after is same = (0, same)
+stops_make_whole o refusal.WriteFault before after is same = (0, same)
+stops_make_whole o refusal.NoMemory before after is same = (0, same)
+
+pub refused_makes_whole : (f : Folder → CommandOutcome) (told after : Option Folder) (e : StopCause) → WhenTold told (λ folder. StopsAsCause (f folder) e) → after ≡ told → (o : CommandOutcome) → option_map f told ≡ Some o → MakesWholeFiles (Err e) (writes_of o) told after
+refused_makes_whole f told after e stops same o is =
+    let h = outcome_when_told f told o is in
+    subst (λ (o : CommandOutcome). MakesWholeFiles (Err e) (writes_of o) told after) (sym h.2) (stops_make_whole (f h.0) e told after (stops h.0 h.1) same)
 
 -- ---- texts
 

@@ -3,7 +3,7 @@ use Rattle.std.specs.Prelude.{◌≡◌, ◌≢◌, ◌⊎◌, ℕ, Bool, IsTrue
 use Rattle.std.specs.Result.{IsOk}
 use Rattle.fri_outside.specs.Outside.{Folder, WhenTold, Counts, CountRose, raised_count}
 use Rattle.fri_outside.specs.Terminal.{Hearing}
-use Rattle.fri_outside.specs.Several.{with_files, OtherFilesStay}
+use Rattle.fri_outside.specs.Several.{with_files, AreFirstMade, OtherFilesStay}
 use Rattle.command_run.specs.declared.status.Status.{Status}
 use Rattle.command_run.specs.declared.status.Status.TheVariants as ends
 use Rattle.command_run.specs.declared.refusal.WorkText.{WorkText}
@@ -78,6 +78,14 @@ pub record LeavesInput (old new : Outside) (answer : Status) : Type 0 where
   pub unheard : new.hearing ≡ old.hearing
   pub read : answer ≡ ends.ReadFault → CountRose old.counts.reads new.counts.reads
   pub refused : answer ≡ ends.Refused → PrintsRefusal old.taken new.taken (λ file. CountRose old.counts.misses new.counts.misses)
+
+-- ---- a command that makes each of its files whole
+
+-- it reads no input. Whatever its status, the first of the files of its outcome are made, each with all its bytes, and
+-- no other name changed: so each file is the old one or the new one
+pub record LeavesWholeFiles (outcome_of : Folder → CommandOutcome) (old new : Outside) (answer : Status) : Type 0 where
+  pub input : LeavesInput old new answer
+  pub whole : WhenTold old.told (λ folder. AreFirstMade (writes_of (outcome_of folder)) old.told new.told)
 
 -- ---- a command that prints once, at its end
 

@@ -11,7 +11,7 @@ use Rattle.command_run.specs.declared.refusal.WorkText.{WorkText}
 use Rattle.command_run.specs.declared.refusal.WorkText.TheVariants as answered
 use Rattle.command_run.specs.declared.refusal.StopCause.{StopCause}
 use Rattle.command_run.specs.declared.refusal.StopCause.TheVariants as refusal
-use Rattle.command_run.specs.Call.{MakesWorkFiles, MakesAllFiles, StopsAsCause, TellsOutcome}
+use Rattle.command_run.specs.Call.{MakesWholeFiles, MakesAllFiles, StopsAsCause, TellsOutcome}
 use Rattle.command_run.specs.Outcome.{CommandOutcome, CommandStop, and_then, writes_of}
 use Rattle.command_run.specs.OutcomeLaws.{result_follows, outcome_when_told, same_Ok_value}
 use Rattle.log_pairs.specs.declared.pairs.Loaded.{Loaded as LoadedFiles}
@@ -92,9 +92,9 @@ module _ (process event : ℕ) (pairs : List Pair) (told : Option Folder) (past 
   work_is : (o : CommandOutcome) → option_map (cut_outcome process event pairs) told ≡ Some o → o ≡ Ok (work_of_past past)
   work_is o here = let h = outcome_when_told (cut_outcome process event pairs) told o here in h.2 ∙ works h.0 h.1
 
-  pub work_makes : (after : Option Folder) (result : Result WorkText StopCause) → MakesWorkFiles result (map front_file past.fronts.items) told after
-      → (o : CommandOutcome) → option_map (cut_outcome process event pairs) told ≡ Some o → MakesWorkFiles result (writes_of o) told after
-  work_makes after result makes o here = subst (λ (o : CommandOutcome). MakesWorkFiles result (writes_of o) told after) (sym (work_is o here)) makes
+  pub work_makes : (after : Option Folder) (result : Result WorkText StopCause) → MakesWholeFiles result (map front_file past.fronts.items) told after
+      → (o : CommandOutcome) → option_map (cut_outcome process event pairs) told ≡ Some o → MakesWholeFiles result (writes_of o) told after
+  work_makes after result makes o here = subst (λ (o : CommandOutcome). MakesWholeFiles result (writes_of o) told after) (sym (work_is o here)) makes
 
   pub work_tells : (o : CommandOutcome) → option_map (cut_outcome process event pairs) told ≡ Some o → TellsOutcome o (Ok (answered.Done past.text))
   work_tells o here = (work_of_past past, work_is o here, refl, refl)

@@ -1,17 +1,13 @@
 -- The files of the logs, one made after the other.
-use Rattle.std.proofs.Common.{◌≡◌, ◌∙◌, ◌+◌, ◌<◌, ◌++◌, ℕ, zero, suc, List, [], ◌∷◌, get_or, length, map, take, drop, slice_get, true, Option, Some, option_map, ap, arith, append-nil, subst, sym, inl, inr}
+use Rattle.std.proofs.Common.{◌≡◌, ◌∙◌, ◌+◌, ◌<◌, ◌++◌, ℕ, zero, suc, List, [], ◌∷◌, get_or, length, map, take, slice_get, true, Option, Some, option_map, ap, arith, subst, sym}
 use Rattle.std.specs.Prelude.{All}
-use Rattle.std.proofs.lemmas.List.{take-append-drop}
 use Rattle.std.proofs.lemmas.Option.{same_Some, slice_get-get_or, slice_get-map}
-use Rattle.fri_outside.specs.Laws.{KeepsFiles}
 use Rattle.fri_outside.specs.Outside.{Folder, with_file}
-use Rattle.fri_outside.specs.Several.{AreFileFronts, ChangesOnlyFiles, with_files}
+use Rattle.fri_outside.specs.Several.{with_files}
 use Rattle.fri_text.specs.Name.{is_name}
 use Rattle.call_log.specs.Head.{IsHead}
 use Rattle.call_log.specs.Log.{entries_of, rewritten_log}
-use Rattle.process_files.specs.PartLaws.{part_fronts}
-use Rattle.process_files.specs.Parts.{AreMadeInPart, made_in_part}
-use Rattle.command_run.specs.FileLaws.{fronts_behind, fronts_of_more, with_more_files}
+use Rattle.command_run.specs.FileLaws.{with_more_files}
 use Rattle.cut_command.specs.declared.fronts.Front.{Front}
 use Rattle.cut_command.specs.Cut.{cut_name}
 use Rattle.cut_command.specs.inside.Meanings.{front_file}
@@ -42,12 +38,6 @@ more_files [] n file at = cc
 more_files (f ∷ files) zero file at = ap (λ (f : List ℕ × List ℕ). f ∷ []) (same_Some f file at)
 more_files (f ∷ files) (suc n) file at = ap (λ (fs : Files). f ∷ fs) (more_files files n file at)
 
--- a file comes after those before it
-files_around : (files : Files) (n : ℕ) (file : List ℕ × List ℕ) → slice_get files n ≡ Some file → files ≡ take n files ++ (file ∷ drop (suc n) files)
-files_around [] n file at = cc
-files_around (f ∷ files) zero file at = ap (λ (f : List ℕ × List ℕ). f ∷ files) (same_Some f file at)
-files_around (f ∷ files) (suc n) file at = ap (λ (fs : Files). f ∷ fs) (files_around files n file at)
-
 -- ---- what was made
 
 -- the next file, too
@@ -57,29 +47,3 @@ one_made files n file before mid after at so_far made =
     let next : suc n ≡ n + 1 = omega arith in
     made ∙ ap (with_file file.0 file.1) so_far ∙ sym (with_more_files (take n files) (file ∷ []) before)
     ∙ ap (λ (fs : Files). with_files fs before) (sym (more_files files n file at) ∙ ap (λ (k : ℕ). take k files) next)
-
-no_fronts : (files : Files) → AreFileFronts [] files
-no_fronts files place name bytes at = cc
-
--- the first files alone
-pub first_made : KeepsFiles → (files : Files) (n : ℕ) (before mid : Option Folder) → mid ≡ with_files (take n files) before → ChangesOnlyFiles before files mid
-first_made keeps files n before mid so_far =
-    let first = take n files in
-    let made : mid ≡ with_files (first ++ []) before = so_far ∙ ap (λ (fs : Files). with_files fs before) (sym (append-nil first)) in
-    subst (ChangesOnlyFiles before files) (sym made)
-    (keeps.left before (first ++ []) files
-    (subst (AreFileFronts (first ++ [])) (take-append-drop n files) (fronts_behind first [] (drop n files) (no_fronts (drop n files)))))
-
--- and a part of the next one
-pub part_made : KeepsFiles → (files : Files) (n : ℕ) (file : List ℕ × List ℕ) (before mid after : Option Folder) → slice_get files n ≡ Some file → mid ≡ with_files (take n files) before
-    → AreMadeInPart (file ∷ []) mid after → ChangesOnlyFiles before files after
-part_made keeps files n file before mid after at so_far (inl same) = first_made keeps files n before after (same ∙ so_far)
-part_made keeps files n file before mid after at so_far (inr (k, m, made)) =
-    let first = take n files in
-    let part = made_in_part (file ∷ []) k m in
-    let rest = drop (suc n) files in
-    let all : after ≡ with_files (first ++ part) before = made ∙ ap (with_files part) so_far ∙ sym (with_more_files first part before) in
-    subst (ChangesOnlyFiles before files) (sym all)
-    (keeps.left before (first ++ part) files
-    (subst (AreFileFronts (first ++ part)) (sym (files_around files n file at))
-    (fronts_behind first part (file ∷ rest) (fronts_of_more part (file ∷ []) rest (part_fronts (file ∷ []) k m)))))

@@ -2,7 +2,7 @@
 ghost use Rattle.std.specs.Prelude.{◌≡◌, All, false, map, option_map, IfErr, IfOk};
 ghost use Rattle.fri_outside.specs.Outside.{WhenTold};
 ghost use Rattle.call_log.specs.Head.{IsHead};
-ghost use Rattle.command_run.specs.Call.{CountsFaults, DivergesOnlyIf, KeepsFolder, MakesWorkFiles, MakesAllFiles, RaisesCount, TellsOutcome};
+ghost use Rattle.command_run.specs.Call.{CountsFaults, DivergesOnlyIf, KeepsFolder, MakesWholeFiles, MakesAllFiles, RaisesCount, TellsOutcome};
 ghost use Rattle.command_run.specs.Outcome.{writes_of};
 ghost use Rattle.log_pairs.specs.Meanings.{pair_of};
 ghost use Rattle.cut_command.specs.Cut.{cut_outcome};
@@ -25,7 +25,6 @@ fn write_cuts<F: Files>(alloc: Global, fronts: &[Front<'_>], files: &mut F) -> R
     ensures counts { CountsFaults (F.counts files.old) (F.counts files.new) result }
     ensures cause { IfErr result (RaisesCount (F.counts files.old) (F.counts files.new)) }
 {
-    fri_outside::laws::keeps_files();
     for front in fronts {
         let bytes = rewrite(alloc, &front.log, front.kept)?;
         write_file(alloc, front.log.head().name, ".cut", &bytes, files)?;
@@ -34,7 +33,8 @@ fn write_cuts<F: Files>(alloc: Global, fronts: &[Front<'_>], files: &mut F) -> R
 }
 
 /// Makes of each log of a group a file with the part of it that an event of a process needs. All files are read, and all
-/// refusals made, before the first is written; after a fault the files stand that were made, the last of them in part.
+/// refusals made, before the first is written; after a fault the first of the files are made, each of them whole, and the
+/// others are as before.
 pub fn cut<F: Files>(
     alloc: Global,
     process: u32,
@@ -44,7 +44,7 @@ pub fn cut<F: Files>(
 ) -> Result<WorkText, StopCause>
     ensures tells { WhenTold (option_map (cut_outcome process event (map pair_of pairs.now)) (F.told files.old)) (λ outcome. TellsOutcome outcome result) }
     ensures makes { WhenTold (option_map (cut_outcome process event (map pair_of pairs.now)) (F.told files.old)) (λ outcome.
-        MakesWorkFiles result (writes_of outcome) (F.told files.old) (F.told files.new)) }
+        MakesWholeFiles result (writes_of outcome) (F.told files.old) (F.told files.new)) }
     ensures keeps { KeepsFolder result (F.told files.old) (F.told files.new) }
     ensures done { DivergesOnlyIf false result }
     ensures counts { CountsFaults (F.counts files.old) (F.counts files.new) result }

@@ -8,6 +8,10 @@ abbrev pub with_files : List (List ℕ × List ℕ) → Option Folder → Option
 with_files [] told = told
 with_files (file ∷ files) told = with_files files (with_file file.0 file.1 told)
 
+-- the first of these files are made, each with all its bytes, and no other name changed
+abbrev pub AreFirstMade : List (List ℕ × List ℕ) → Option Folder → Option Folder → Type 0
+AreFirstMade files before after = (n : ℕ) × (after ≡ with_files (take n files) before)
+
 -- the files with this piece after the bytes of the one at this place, if there is one
 abbrev pub files_with_grown_piece : List (List ℕ × List ℕ) → ℕ → List ℕ → List (List ℕ × List ℕ)
 files_with_grown_piece [] place piece = []

@@ -71,7 +71,7 @@ impl MemFiles {
         self.shelf.get(name)
     }
 
-    /// Lets the call of this number fail, where the first call of `read`, `create` or `append` has the
+    /// Lets the call of this number fail, where the first call of `read`, `create`, `replace` or `append` has the
     /// number 1.
     pub fn fail_at(&mut self, call: u64) -> Result<(), AllocError>
         ensures ok { OnOk result (self.new ≡ record self.old { plan = with_failure call self.old.plan }) }
@@ -130,6 +130,25 @@ impl Files for MemFiles {
             return Err(WriteError::Failed);
         }
         self.shelf.put(self.alloc, name, Vec::new(self.alloc))?;
+        Ok(())
+    }
+
+    /// A call that is to fail changes no file.
+    fn replace(&mut self, name: &str, bytes: &[u8]) -> Result<(), WriteError>
+        ensures ok { OnOk result (self.new.folder ≡ insert self.old.folder name.now bytes.now) }
+        ensures err { OnErr result (self.new.folder ≡ self.old.folder) }
+
+        ensures fails { IsErrOf result WriteError.Failed ↔ IsDueFailure self.old.plan }
+        ensures called { self.new.plan ≡ after_call self.old.plan }
+        ensures counted { self.new.counts ≡ after_write self.old.counts result }
+        ensures quiet { self.old.plan.failing ≡ [] → SameFaultCounts self.old.counts self.new.counts }
+    {
+        if self.plan.count_call() {
+            self.write_faults = self.write_faults.saturating_add(1);
+            return Err(WriteError::Failed);
+        }
+        let bytes = Vec::from_slice(self.alloc, bytes)?;
+        self.shelf.put(self.alloc, name, bytes)?;
         Ok(())
     }
 

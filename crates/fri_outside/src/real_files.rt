@@ -5,6 +5,7 @@ ghost use Rattle.fri_outside.specs.Outside.{FoundFile, Held, SaysOf, WhenTold, a
 ghost use Rattle.fri_outside.specs.inside.Reading.{MovesFrontOfBytes};
 
 use crate::open_files::{OpenFiles, close};
+use crate::replacing::{place_of, replace};
 use crate::{FileError, Files, WriteError};
 use std::alloc::Global;
 use std::fs::{OpenFile, OpenOptions};
@@ -17,7 +18,8 @@ use std::{fs, io, rt};
 /// faults.
 ///
 /// A file that was created stays open until it is created again or all are closed. So a piece at its end
-/// costs one write, and a reader at the other end of a pipe gets all pieces as one stream.
+/// costs one write, and a reader at the other end of a pipe gets all pieces as one stream. A file that takes the place of
+/// another is made beside it, and moved there once it is whole.
 ///
 /// Such files cannot be let go, so whoever has them has to close them.
 pub struct RealFiles<'a, R: rt::Files> {
@@ -92,6 +94,22 @@ impl<'a, R: rt::Files> RealFiles<'a, R> {
         }
     }
 
+    // Puts a file in the place of one of that name. What is no regular file is written to as it is.
+    fn replace_file(&mut self, name: &str, bytes: &[u8]) -> Result<(), WriteError>
+        ensures same { self.new ≡ self.old }
+    {
+        match place_of(self.rt, self.alloc, name)? {
+            Some(place) => {
+                self.open.close(name)?;
+                replace(self.rt, self.alloc, place, bytes)
+            }
+            None => {
+                self.create_file(name)?;
+                self.write(name, bytes)
+            }
+        }
+    }
+
     fn count_write(&mut self, outcome: Result<(), WriteError>) -> Result<(), WriteError>
         ensures same { result ≡ outcome }
         ensures counted { self.new ≡ after_write self.old result }
@@ -146,7 +164,7 @@ fn bytes_error(error: &io::Error) -> FileError
 }
 
 // The error of a call that changed no file.
-fn open_error(error: &io::Error) -> WriteError {
+pub(crate) fn open_error(error: &io::Error) -> WriteError {
     match error.kind() {
         ErrorKind::OutOfMemory => WriteError::NoMemory,
         _ => WriteError::Failed,
@@ -221,7 +239,7 @@ fn read_file<R: rt::Files>(
 }
 
 // A write that fails may have written a part, so it is a fault whatever its error says.
-fn write_piece<W: Write>(file: &mut W, piece: &[u8]) -> Result<(), WriteError>
+pub(crate) fn write_piece<W: Write>(file: &mut W, piece: &[u8]) -> Result<(), WriteError>
     ensures { OnOk result (Appends (W.contents file.old) (W.contents file.new) piece.now) }
 {
     file.write_all(piece).map_err(|_| WriteError::Failed)
@@ -263,6 +281,13 @@ impl<'a, R: rt::Files> Files for RealFiles<'a, R> {
         ensures counted { self.new ≡ after_write self.old result }
     {
         let outcome = self.create_file(name);
+        self.count_write(outcome)
+    }
+
+    fn replace(&mut self, name: &str, bytes: &[u8]) -> Result<(), WriteError>
+        ensures counted { self.new ≡ after_write self.old result }
+    {
+        let outcome = self.replace_file(name, bytes);
         self.count_write(outcome)
     }
 

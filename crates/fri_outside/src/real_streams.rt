@@ -1,17 +1,19 @@
-// A source over a reader and a sink over a writer. They count what failed, and tell no contents.
+// A source over a reader and a sink over a writer. They count what failed. They tell no contents to whoever has a source or
+// a sink; over a reader or a writer whose bytes are known, no byte is dropped and none goes twice.
 ghost use Rattle.std.specs.Prelude.{◌≡◌, ◌<◌, ◌≤◌, None, length, IfOk};
+ghost use Rattle.std.specs.Io.KnownBytes.{ReadConsumes, WriteAppends};
 ghost use Rattle.fri_outside.specs.Terminal.{deaf_hearing};
 ghost use Rattle.fri_outside.specs.Outside.{after_source_read, after_sink_write};
 
 use crate::{Failed, Sink, Source, WriteError};
 use std::io::{ErrorKind, Read, Write};
-use std::marker::Model;
 
 // Reads, and again where the call was interrupted before it read anything.
 fn read_through<R: Read>(reader: &mut R, buf: &mut [u8]) -> Result<usize, Failed>
-    ensures { IfOk result (λ n. n ≤ length buf.new) }
+    ensures bound { IfOk result (λ n. n ≤ length buf.new) }
+    ensures bytes { ReadConsumes (R.remaining reader.old) (R.remaining reader.new) result buf.new }
 {
-    for _ in 0..u64::MAX {
+    'turns: for _ in 0..u64::MAX {
         match reader.read(buf) {
             Ok(count) => return Ok(count),
             Err(error) if error.kind() == ErrorKind::Interrupted => {}
@@ -25,8 +27,9 @@ fn read_through<R: Read>(reader: &mut R, buf: &mut [u8]) -> Result<usize, Failed
 fn write_through<W: Write>(writer: &mut W, piece: &[u8]) -> Result<usize, WriteError>
     ensures bound { IfOk result (λ n. n ≤ length piece.now) }
     ensures some { IfOk result (λ n. 0 < n) }
+    ensures bytes { WriteAppends (W.contents writer.old) (W.contents writer.new) result piece.now }
 {
-    for _ in 0..u64::MAX {
+    'turns: for _ in 0..u64::MAX {
         match writer.write(piece) {
             Ok(count) if count > 0 => return Ok(count),
             Ok(_) => return Err(WriteError::Failed),
@@ -48,17 +51,10 @@ pub struct ReaderSource<R: Read + Drop> {
     faults: u64,
 }
 
-impl<R: Read + Drop> Model for ReaderSource<R> {
-    ghost use Rattle.std.specs.Prelude.{ℕ};
-
-    ghost Value = { ℕ };
-
-    ghost view = { λ source. source.faults };
-}
-
 impl<R: Read + Drop> ReaderSource<R> {
     pub fn new(reader: R) -> Self
-        ensures { result ≡ 0 }
+        ensures source { result.reader ≡ reader }
+        ensures faults { result.faults ≡ 0 }
     {
         ReaderSource { reader, faults: 0 }
     }
@@ -67,12 +63,13 @@ impl<R: Read + Drop> ReaderSource<R> {
 impl<R: Read + Drop> Source for ReaderSource<R> {
     ghost left = { λ _. None };
 
-    ghost faults = { λ source. source };
+    ghost faults = { λ source. source.faults };
 
     fn read(&mut self, buf: &mut [u8]) -> Result<usize, Failed>
         requires { 0 < length buf.old }
         ensures bound { IfOk result (λ n. n ≤ length buf.new) }
-        ensures counted { self.new ≡ after_source_read self.old result }
+        ensures bytes { ReadConsumes (R.remaining self.old.reader) (R.remaining self.new.reader) result buf.new }
+        ensures counted { self.new.faults ≡ after_source_read self.old.faults result }
     {
         let outcome = read_through(&mut self.reader, buf);
         if outcome.is_err() {
@@ -90,17 +87,10 @@ pub struct WriterSink<W: Write + Drop> {
     faults: u64,
 }
 
-impl<W: Write + Drop> Model for WriterSink<W> {
-    ghost use Rattle.std.specs.Prelude.{ℕ};
-
-    ghost Value = { ℕ };
-
-    ghost view = { λ sink. sink.faults };
-}
-
 impl<W: Write + Drop> WriterSink<W> {
     pub fn new(writer: W) -> Self
-        ensures { result ≡ 0 }
+        ensures sink { result.writer ≡ writer }
+        ensures faults { result.faults ≡ 0 }
     {
         WriterSink { writer, faults: 0 }
     }
@@ -109,7 +99,7 @@ impl<W: Write + Drop> WriterSink<W> {
 impl<W: Write + Drop> Sink for WriterSink<W> {
     ghost taken = { λ _. None };
 
-    ghost faults = { λ sink. sink };
+    ghost faults = { λ sink. sink.faults };
 
     ghost hearing = { λ _. deaf_hearing };
 
@@ -117,7 +107,8 @@ impl<W: Write + Drop> Sink for WriterSink<W> {
         requires { 0 < length piece.now }
         ensures bound { IfOk result (λ n. n ≤ length piece.now) }
         ensures some { IfOk result (λ n. 0 < n) }
-        ensures counted { self.new ≡ after_sink_write self.old result }
+        ensures bytes { WriteAppends (W.contents self.old.writer) (W.contents self.new.writer) result piece.now }
+        ensures counted { self.new.faults ≡ after_sink_write self.old.faults result }
     {
         let outcome = write_through(&mut self.writer, piece);
         if outcome == Err(WriteError::Failed) {

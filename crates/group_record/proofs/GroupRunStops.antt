@@ -1,9 +1,9 @@
 -- A run goes on, and where it was stopped it stays stopped.
-use Rattle.std.proofs.Common.{◌≡◌, ℕ, zero, suc, ◌++◌, Bool, true, false, cond, List, [], ◌∷◌, Option, Some, None, inl, inr, refl, ap, sym, subst, ◌∙◌, append_assoc}
+use Rattle.std.proofs.Common.{◌≡◌, ℕ, zero, suc, ◌++◌, Bool, true, false, cond, List, [], ◌∷◌, Option, Some, None, refl, take, ap, sym, subst, ◌∙◌, append_assoc}
 use Rattle.std.specs.Prelude.{is_some, Err}
 use Rattle.std.specs.Int.{w64, cast_unsigned}
 use Rattle.fri_outside.specs.Outside.{Folder}
-use Rattle.fri_outside.specs.Several.{with_files}
+use Rattle.fri_outside.specs.Several.{AreFirstMade, with_files}
 use Rattle.schedule_text.specs.declared.item.Item.{Item}
 use Rattle.schedule_text.specs.declared.item.Item.TheVariants as item
 use Rattle.guest_process.specs.Live.{Event}
@@ -12,11 +12,10 @@ use Rattle.group_record.specs.declared.error.RecordError.{RecordError}
 use Rattle.group_record.specs.declared.error.RecordError.TheVariants as errors
 use Rattle.group_record.specs.declared.recorder.Recorder.{Recorder}
 use Rattle.group_record.specs.Files.{IsStoppedRecording, InHeads, Between, InEntry, InImages, change}
-use Rattle.process_files.specs.Parts.{AreMadeInPart, made_in_part}
 use Rattle.group_record.specs.Logs.{logs_of_steps}
 use Rattle.group_record.specs.inside.Recorded.{RecorderComes, FilesOf}
 use Rattle.group_record.specs.Run.{GroupStart, RunProgress, RunStep, Had, Did, IsMoment, after_item, after_items, attempt, run_attempts, done_by_item, event_of_try, had_event, log_has_room, unless_log_full}
-use Rattle.process_files.specs.PartLaws.{after_none, files_after}
+use Rattle.process_files.specs.FirstLaws.{after_none, files_after}
 
 -- the steps of one progress stand in front of the other's; and where a log is full, it is all there is
 pub record LeadsTo (early late : RunProgress) : Type 0 where
@@ -93,21 +92,20 @@ stopped_on group early late before after on (InHeads many cut is) = InHeads many
 stopped_on group early late before after on (Between steps front is) = Between steps (front_on steps early late front on) is
 stopped_on group early late before after on (InEntry steps later p n e split short is) =
     InEntry steps (on.0 ++ later) p n e (on.1 ∙ ap (λ xs. on.0 ++ xs) split ∙ sym (append_assoc on.0 later (Had p e ∷ steps))) short is
-stopped_on group early late before after on (InImages n m is) = Between early on (is ∙ ap (λ fs. with_files fs before) (after_none (logs_of_steps group early) n m))
+stopped_on group early late before after on (InImages n is) = Between early on (is ∙ ap (λ fs. with_files fs before) (after_none (logs_of_steps group early) n))
 
 -- the same where images are asked for
 pub stopped_before : (group : GroupStart) (steps : List RunStep) (images : List (List ℕ × List ℕ)) (before after : Option Folder) → IsStoppedRecording group steps [] before after → IsStoppedRecording group steps images before after
 stopped_before group steps images before after (InHeads many cut is) = InHeads many cut is
 stopped_before group steps images before after (Between early front is) = Between early front is
 stopped_before group steps images before after (InEntry early later p n e split short is) = InEntry early later p n e split short is
-stopped_before group steps images before after (InImages n m is) = Between steps ([], refl) (is ∙ ap (λ fs. with_files fs before) (after_none (logs_of_steps group steps) n m))
+stopped_before group steps images before after (InImages n is) = Between steps ([], refl) (is ∙ ap (λ fs. with_files fs before) (after_none (logs_of_steps group steps) n))
 
 -- or where one was not made
-pub stopped_in : (group : GroupStart) (steps : List RunStep) (images : List (List ℕ × List ℕ)) (before now after : Option Folder) → now ≡ with_files (logs_of_steps group steps) before → AreMadeInPart images now after
+pub stopped_in : (group : GroupStart) (steps : List RunStep) (images : List (List ℕ × List ℕ)) (before now after : Option Folder) → now ≡ with_files (logs_of_steps group steps) before → AreFirstMade images now after
     → IsStoppedRecording group steps images before after
-stopped_in group steps images before now after written (inl same) = Between steps ([], refl) (same ∙ written)
-stopped_in group steps images before now after written (inr (n, m, is)) =
-    InImages n m (is ∙ ap (with_files (made_in_part images n m)) written ∙ sym (files_after (logs_of_steps group steps) (made_in_part images n m) before))
+stopped_in group steps images before now after written (n, is) =
+    InImages n (is ∙ ap (with_files (take n images)) written ∙ sym (files_after (logs_of_steps group steps) (take n images) before))
 
 -- what is answered at one moment is answered of the whole
 pub comes_on : (group : GroupStart) (early late : RunProgress) (error : RecordError) (r : Recorder) (before after : Option Folder) → LeadsTo early late

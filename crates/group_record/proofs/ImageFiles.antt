@@ -4,7 +4,7 @@ use Rattle.std.specs.Prelude.{is_none, map, Err}
 use Rattle.std.proofs.lemmas.List.{length-map}
 use Rattle.std.proofs.lemmas.Option.{slice_get-get_or}
 use Rattle.fri_outside.specs.Outside.{Folder}
-use Rattle.fri_outside.specs.Several.{with_files}
+use Rattle.fri_outside.specs.Several.{AreFirstMade, with_files}
 use Rattle.fri_outside.specs.declared.files.WriteError.{WriteError}
 use Rattle.fri_outside.specs.declared.files.WriteError.TheVariants as writing
 use Rattle.lib_calls.specs.Traffic.{prints}
@@ -15,8 +15,7 @@ use Rattle.group_record.specs.declared.recorder.Recorder.{Recorder}
 use Rattle.group_record.specs.Answer.{error_of}
 use Rattle.group_record.specs.Images.{images, images_from, images_of, memory_of_process}
 use Rattle.process_files.specs.Images.{image_files}
-use Rattle.process_files.specs.PartLaws.{files_after_part, files_after, files_front_part}
-use Rattle.process_files.specs.Parts.{AreMadeInPart}
+use Rattle.process_files.specs.FirstLaws.{files_after, first_after, first_of_more}
 use Rattle.group_record.specs.inside.Recorded.{KeepsUpWithRun, MakesFiles, prints_kept_for}
 use Rattle.group_record.specs.Run.{GroupStart, RunProgress, RunStep, entries_of_steps, process_after, processes_in_group}
 use Rattle.group_record.proofs.SharedLemmas.{at_place}
@@ -51,11 +50,11 @@ image_made group steps p name before now after within named so_far is = record {
 }
 
 pub image_fails : (group : GroupStart) (steps : List RunStep) (p : ℕ) (name : List ℕ) (before now after : Option Folder) → p < processes_in_group group → name ≡ slice_index_or group.names p []
-    → ImagesTo group steps p before now → AreMadeInPart (image_at group steps p name) now after → AreMadeInPart (images group steps) before after
+    → ImagesTo group steps p before now → AreFirstMade (image_at group steps p name) now after → AreFirstMade (images group steps) before after
 image_fails group steps p name before now after within named so_far part =
     let others = images_from group steps (p + 1) (drop (p + 1) group.names) in
-    subst (λ fs. AreMadeInPart fs before after) (sym (so_far.rest ∙ ap (λ fs. so_far.front ++ fs) (images_here group steps p name within named)))
-    (files_after_part so_far.front (image_at group steps p name ++ others) before now after so_far.made (files_front_part (image_at group steps p name) others now after part))
+    subst (λ fs. AreFirstMade fs before after) (sym (so_far.rest ∙ ap (λ fs. so_far.front ++ fs) (images_here group steps p name within named)))
+    (first_after so_far.front (image_at group steps p name ++ others) before now after so_far.made (first_of_more (image_at group steps p name) others now after part))
 
 -- what the recorder has of process p is its image
 pub image_is : (group : GroupStart) (done : RunProgress) (r : Recorder) (p : ℕ) (m : Member) (S : State) (name memory printed : List ℕ) → KeepsUpWithRun group done r → slice_get r.members.items p ≡ Some m → m.process ≡ Some S
@@ -80,10 +79,10 @@ asked_images : (asked : Bool) (group : GroupStart) (done : RunProgress) → aske
 asked_images asked group done is room =
     ap (λ asked. images_of asked group done) is ∙ ap (λ full. cond (is_none full) (images group done.steps) []) room
 
-pub asked_fails : (asked : Bool) (group : GroupStart) (done : RunProgress) (error : WriteError) (before after : Option Folder) → asked ≡ true → done.full ≡ None → AreMadeInPart (images group done.steps) before after
+pub asked_fails : (asked : Bool) (group : GroupStart) (done : RunProgress) (error : WriteError) (before after : Option Folder) → asked ≡ true → done.full ≡ None → AreFirstMade (images group done.steps) before after
     → MakesFiles (images_of asked group done) (Err (error_of error)) before after
-asked_fails asked group done writing.Failed before after is room part = subst (λ fs. AreMadeInPart fs before after) (sym (asked_images asked group done is room)) part
-asked_fails asked group done writing.NoMemory before after is room part = subst (λ fs. AreMadeInPart fs before after) (sym (asked_images asked group done is room)) part
+asked_fails asked group done writing.Failed before after is room part = subst (λ fs. AreFirstMade fs before after) (sym (asked_images asked group done is room)) part
+asked_fails asked group done writing.NoMemory before after is room part = subst (λ fs. AreFirstMade fs before after) (sym (asked_images asked group done is room)) part
 
 pub within_kept : (asked : Bool) → asked ≡ true → (count kept p : ℕ) → kept ≡ prints_kept_for asked count → p < count → p < kept
 within_kept asked is count kept p all within = subst (λ n. p < n) (sym (all ∙ ap (λ asked. prints_kept_for asked count) is)) within

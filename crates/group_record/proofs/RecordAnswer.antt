@@ -4,7 +4,7 @@ use Rattle.std.specs.Prelude.{All, IsTrue, Result, Ok, Err, is_some}
 use Rattle.std.proofs.lemmas.Option.{slice_get-get_or}
 use Rattle.std.proofs.lemmas.List.{length-map}
 use Rattle.fri_outside.specs.Outside.{Folder}
-use Rattle.fri_outside.specs.Several.{with_files}
+use Rattle.fri_outside.specs.Several.{AreFirstMade, with_files}
 use Rattle.schedule_text.specs.declared.process.ProcessLine.{ProcessLine}
 use Rattle.schedule_text.specs.Schedule.{IsInRange, IsSchedule, Schedule}
 use Rattle.guest_process.specs.State.{State}
@@ -16,12 +16,11 @@ use Rattle.group_record.specs.Answer.{RecordAnswers, StoppedWhereBegun, group_of
 use Rattle.group_record.specs.inside.Begun.{GroupBegins, StopsAtHead}
 use Rattle.group_record.specs.Files.{Between, IsStoppedRecording, change}
 use Rattle.group_record.specs.Images.{images_of}
-use Rattle.process_files.specs.Parts.{AreMadeInPart}
 use Rattle.group_record.specs.Logs.{logs_of_steps}
 use Rattle.group_record.specs.inside.Recorded.{RecorderDoes, FilesOf, KeepsUpWithRun, MakesFiles, MakesImages, SumsUpRun, RecordingUnderWay}
 use Rattle.group_record.specs.Run.{GroupStart, RunProgress, after_items, no_progress_yet, run}
 use Rattle.group_record.proofs.GroupRunStops.{stopped_before, stopped_in, stopped_on}
-use Rattle.process_files.specs.PartLaws.{files_after}
+use Rattle.process_files.specs.FirstLaws.{files_after}
 
 -- what was stopped before the images
 stops_in : (asked : Bool) (schedule : Schedule) (first : List State) (before after : Option Folder) → IsStoppedRecording (group_of schedule first) (run (group_of schedule first) schedule.items).steps [] before after
@@ -87,7 +86,7 @@ images_fail asked schedule begun recorder last error before now middle after b d
     h : KeepsUpWithRun group done last × FilesOf group done before middle
     h = does group no_progress_yet before b.2 b.3
 
-    stopped : AreMadeInPart (images_of asked group done) middle after → StoppedWhereBegun schedule asked begun before after
+    stopped : AreFirstMade (images_of asked group done) middle after → StoppedWhereBegun schedule asked begun before after
     stopped part = subst (λ x. StoppedWhereBegun schedule asked x before after) (sym b.1) (stopped_in group done.steps (images_of asked group done) before middle after h.1 part)
 
     by_error : (error : RecordError) → MakesFiles (images_of asked group done) (Err error) middle after → RecordAnswers schedule asked begun (Err error) (change before after)

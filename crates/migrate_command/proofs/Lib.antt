@@ -1,3 +1,2 @@
-pub mod FileFronts
 pub mod MigrateOutcome
 pub mod NewFileIsRead

@@ -1,3 +1,2 @@
 mod NamesAreText
-mod OneFile
 mod TwoFiles

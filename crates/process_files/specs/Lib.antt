@@ -1,5 +1,4 @@
 -- What process_files promises.
 pub mod Images
-pub mod Parts
--- What follows of it by computing.
-pub mod PartLaws
+-- What follows of it.
+pub mod FirstLaws

@@ -1,10 +1,9 @@
 // The files of a process, each made with all its bytes.
-ghost use Rattle.std.specs.Prelude.{◌≡◌, ◌++◌, [], ◌∷◌, IsTrue, OnErr, OnOk};
+ghost use Rattle.std.specs.Prelude.{◌≡◌, ◌++◌, IsTrue, OnErr, OnOk};
 ghost use Rattle.fri_outside.specs.Outside.{after_write, with_file};
-ghost use Rattle.fri_outside.specs.Several.{with_files};
+ghost use Rattle.fri_outside.specs.Several.{AreFirstMade, with_files};
 ghost use Rattle.fri_text.specs.Name.{is_name};
 ghost use Rattle.process_files.specs.Images.{image_files};
-ghost use Rattle.process_files.specs.Parts.{AreMadeInPart};
 
 use crate::naming::process_file;
 use fri_outside::{Files, WriteError};
@@ -20,14 +19,14 @@ pub fn write_image<F: Files>(
 ) -> Result<(), WriteError>
     requires { IsTrue (is_name name.now) }
     ensures ok { OnOk result (F.told files.new ≡ with_files (image_files name.now memory.now printed.now) (F.told files.old)) }
-    ensures err { OnErr result (AreMadeInPart (image_files name.now memory.now printed.now) (F.told files.old) (F.told files.new)) }
+    ensures err { OnErr result (AreFirstMade (image_files name.now memory.now printed.now) (F.told files.old) (F.told files.new)) }
     ensures counted { F.counts files.new ≡ after_write (F.counts files.old) result }
 {
     write_file(alloc, name, ".mem", memory, files)?;
     write_file(alloc, name, ".out", printed, files)
 }
 
-/// Makes the file of a process that ends so, with these bytes.
+/// Makes the file of a process that ends so, with these bytes, in place of one of that name.
 pub fn write_file<F: Files>(
     alloc: Global,
     name: &[u8],
@@ -37,11 +36,9 @@ pub fn write_file<F: Files>(
 ) -> Result<(), WriteError>
     requires { IsTrue (is_name name.now) }
     ensures ok { OnOk result (F.told files.new ≡ with_file (name.now ++ ending.now) bytes.now (F.told files.old)) }
-    ensures err { OnErr result (AreMadeInPart ((name.now ++ ending.now, bytes.now) ∷ []) (F.told files.old) (F.told files.new)) }
+    ensures err { OnErr result (F.told files.new ≡ F.told files.old) }
     ensures counted { F.counts files.new ≡ after_write (F.counts files.old) result }
 {
-    fri_outside::laws::keeps_files();
     let file = process_file(alloc, name, ending)?;
-    files.create(&file)?;
-    files.append(&file, bytes)
+    files.replace(&file, bytes)
 }

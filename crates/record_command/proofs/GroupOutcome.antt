@@ -1,6 +1,7 @@
 -- What `record` says of its result, from what the recording of a group answers.
 use Rattle.std.proofs.Common.{◌≡◌, ◌<◌, ◌++◌, ℕ, Bool, true, false, cond, List, [], ◌∷◌, append-nil, Option, Some, None, Result, Ok, Err, length, refl, sym, ap, subst, ◌∙◌, arith}
 use Rattle.std.specs.Prelude.{is_none}
+use Rattle.std.proofs.Math.Seq.{take-length}
 use Rattle.fri_outside.specs.Laws.{KeepsFiles}
 use Rattle.fri_outside.specs.Outside.{Folder}
 use Rattle.fri_outside.specs.Several.{ChangesOnlyFiles, with_files}
@@ -14,7 +15,6 @@ use Rattle.group_record.specs.declared.summary.SummaryLine.{SummaryLine}
 use Rattle.group_record.specs.Answer.{RecordAnswers, StoppedWhereBegun, IsSummary, first_states, group_of, summary_lines}
 use Rattle.group_record.specs.Files.{Between, InImages, IsStoppedRecording, change}
 use Rattle.group_record.specs.Images.{images_of, images as all_images}
-use Rattle.process_files.specs.Parts.{made_in_part}
 use Rattle.group_record.specs.Logs.{logs_of_steps}
 use Rattle.group_record.specs.Run.{GroupStart, RunProgress, run}
 use Rattle.command_run.specs.declared.refusal.WorkText.TheVariants as answered
@@ -150,16 +150,11 @@ at_first : (images : Bool) (schedule : Schedule) (states : Result (List State) �
     → IsStoppedRecording (group_of schedule first) (run_of schedule first).steps (images_of images (group_of schedule first) (run_of schedule first)) before after → StoppedWhereBegun schedule images states before after
 at_first images schedule states first before after is stopped = subst (λ (s : Result (List State) ℕ). StoppedWhereBegun schedule images s before after) (sym is) stopped
 
--- all of these files are a part of them
-whole_part : (files : List (List ℕ × List ℕ)) → files ≡ made_in_part files (length files) 0
-whole_part [] = refl
-whole_part (file ∷ files) = ap (λ (rest : List (List ℕ × List ℕ)). file ∷ rest) (whole_part files)
-
 pub answer_stops : (images : Bool) (schedule : Schedule) (states : Result (List State) ℕ) (result : Result Summary RecordError) (before after : Option Folder) → RecordAnswers schedule images states result (change before after) → StoppedWhereBegun schedule images states before after
 answer_stops images schedule states (Ok summary) before after (first, is, done) =
     let files = images_of images (group_of schedule first) (run_of schedule first) in
     at_first images schedule states first before after is
-    (InImages (length files) 0 (done.files ∙ ap (λ (some : List (List ℕ × List ℕ)). with_files (logs_of_steps (group_of schedule first) (run_of schedule first).steps ++ some) before) (whole_part files)))
+    (InImages (length files) (done.files ∙ ap (λ (some : List (List ℕ × List ℕ)). with_files (logs_of_steps (group_of schedule first) (run_of schedule first).steps ++ some) before) (sym (take-length files))))
 answer_stops images schedule states (Err (errors.BadSegment p)) before after (is, same) = subst (λ (s : Result (List State) ℕ). StoppedWhereBegun schedule images s before after) (sym is) same
 answer_stops images schedule states (Err (errors.LogFull item)) before after (first, is, full) = at_first images schedule states first before after is (Between (run_of schedule first).steps ([], refl) full.files)
 answer_stops images schedule states (Err errors.WriteFault) before after stopped = stopped

@@ -21,7 +21,6 @@ use Rattle.group_world.specs.History as world
 use Rattle.group_record.specs.Files.{IsStoppedRecording, InHeads, Between, InEntry, InImages, heads_cut}
 use Rattle.group_record.specs.Images.{images, images_from, images_of}
 use Rattle.process_files.specs.Images.{mem_name, out_name}
-use Rattle.process_files.specs.Parts.{made_in_part}
 use Rattle.group_record.specs.Logs.{files_from, log_name, logs_of_steps}
 use Rattle.group_record.specs.Run.{GroupStart, Had, IsMoment, RunProgress, RunStep, act_of, entries_of_steps, entry_bytes, head_of_log, history_of_steps, log_of, name_of_process, processes_in_group}
 use Rattle.record_command.specs.Agreement.{LeavesLogs}
@@ -160,16 +159,9 @@ fronts_behind [] files whole fronts place n bytes at = fronts place n bytes at
 fronts_behind (file ∷ first) files whole fronts zero n bytes at = ([], at ∙ ap (a_file n) (sym (append-nil bytes)))
 fronts_behind (file ∷ first) files whole fronts (suc place) n bytes at = fronts_behind first files whole fronts place n bytes at
 
--- a part of these files
-pub part_fronts : (files : List (List ℕ × List ℕ)) (n m : ℕ) → AreFileFronts (made_in_part files n m) files
-unfolding IsGrown
-part_fronts [] zero m place name bytes at = cc
-part_fronts [] (suc n) m place name bytes at = cc
-part_fronts (file ∷ files) zero m zero name bytes at =
-    first_front file.0 (take m file.1) file.1 name bytes (drop m file.1, sym (take-append-drop m file.1)) at
-part_fronts (file ∷ files) zero m (suc place) name bytes at = cc
-part_fronts (file ∷ files) (suc n) m zero name bytes at = ([], at ∙ ap (a_file name) (sym (append-nil bytes)))
-part_fronts (file ∷ files) (suc n) m (suc place) name bytes at = part_fronts files n m place name bytes at
+-- the first of these files
+pub first_fronts : (files : List (List ℕ × List ℕ)) (n : ℕ) → AreFileFronts (take n files) files
+first_fronts files n place name bytes at = ([], taken_at n files place (name, bytes) at ∙ ap (a_file name) (sym (append-nil bytes)))
 
 -- where a recording was stopped, each log and image is as before or has some of its front, and no other file changes
 pub stopped_changes : KeepsFiles → (group : GroupStart) (steps : List RunStep) (images : List (List ℕ × List ℕ)) (before after : Option Folder) → IsStoppedRecording group steps images before after
@@ -192,9 +184,9 @@ stopped_changes keeps group steps images before after (InEntry early later p n e
 
       entry : IsGrown (log_of group steps (0 + p)) (log_of group early (0 + p) ++ take n (entry_bytes group early p e))
       entry = subst (λ (k : ℕ). IsGrown (log_of group steps k) (log_of group early k ++ take n (entry_bytes group early p e))) here (entry_grows group steps later early p n e at)
-stopped_changes keeps group steps images before after (InImages n m is) =
+stopped_changes keeps group steps images before after (InImages n is) =
     subst (ChangesOnlyFiles before (logs_of_steps group steps ++ images)) (sym is)
-    (keeps.left before _ _ (fronts_behind (logs_of_steps group steps) (made_in_part images n m) images (part_fronts images n m)))
+    (keeps.left before _ _ (fronts_behind (logs_of_steps group steps) (take n images) images (first_fronts images n)))
 
 -- ---- the whole run's logs
 

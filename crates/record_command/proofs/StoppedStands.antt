@@ -9,13 +9,12 @@ use Rattle.guest_process.specs.Live.{Event}
 use Rattle.schedule_text.specs.Laws.{GivesSchedules}
 use Rattle.group_record.specs.Files.{IsStoppedRecording, InHeads, Between, InEntry, InImages}
 use Rattle.group_record.specs.Images.{images_of}
-use Rattle.process_files.specs.Parts.{made_in_part}
 use Rattle.group_record.specs.Logs.{log_name, logs_of_steps}
 use Rattle.group_record.specs.Run.{GroupStart, Had, IsMoment, RunStep, entry_bytes, log_of, name_of_process, processes_in_group}
 use Rattle.record_command.specs.Agreement.{IsAtMomentOfRun, IsStoppedInHeads, MayFollowLog, Front, Nothing, group_in, run_in, steps_in}
 use Rattle.record_command.specs.Laws.{RecordingsStand}
 use Rattle.record_command.proofs.FolderRecordings.{schedule_formed}
-use Rattle.record_command.proofs.StoppedFiles.{files_stand, images_are_no_logs, log_at, logs_apart, logs_stand, part_fronts}
+use Rattle.record_command.proofs.StoppedFiles.{files_stand, images_are_no_logs, log_at, logs_apart, logs_stand, first_fronts}
 
 -- ---- one of the logs has more
 
@@ -42,16 +41,16 @@ grown_at (file ∷ files) zero piece (suc q) name bytes at = at ∙ ap (λ (b : 
 grown_at (file ∷ files) (suc p) piece zero name bytes at = at ∙ ap (λ (b : List ℕ). Some (name, b)) (sym (append-nil bytes))
 grown_at (file ∷ files) (suc p) piece (suc q) name bytes at = grown_at files p piece q name bytes at
 
--- ---- a part of the images
+-- ---- the first of the images
 
 held_at : {A : Type 0} (xs : List A) (k : ℕ) (x : A) → slice_get xs k ≡ Some x → Contains xs x
 held_at [] k x at = cc
 held_at (y ∷ xs) zero x at = (0, omega arith, same_Some y x at)
 held_at (y ∷ xs) (suc k) x at = let rest = held_at xs k x at in (suc rest.0, omega (arith, rest.1), rest.2)
 
-parts_are_no_logs : (images : List (List ℕ × List ℕ)) (n m : ℕ) → ((name bytes : List ℕ) → Contains images (log_name name, bytes) → ⊥) → (name bytes : List ℕ) → Contains (made_in_part images n m) (log_name name, bytes) → ⊥
-parts_are_no_logs images n m none name bytes (k, inside, at) =
-    let front = part_fronts images n m k (log_name name) bytes (slice_get-get_or (made_in_part images n m) k (log_name name, bytes) inside ∙ ap Some at) in
+first_are_no_logs : (images : List (List ℕ × List ℕ)) (n : ℕ) → ((name bytes : List ℕ) → Contains images (log_name name, bytes) → ⊥) → (name bytes : List ℕ) → Contains (take n images) (log_name name, bytes) → ⊥
+first_are_no_logs images n none name bytes (k, inside, at) =
+    let front = first_fronts images n k (log_name name) bytes (slice_get-get_or (take n images) k (log_name name, bytes) inside ∙ ap Some at) in
     none name (bytes ++ front.0) (held_at images k (log_name name, bytes ++ front.0) front.1)
 
 nothing_more : (name bytes : List ℕ) → Contains {X = List ℕ × List ℕ} [] (log_name name, bytes) → ⊥
@@ -104,8 +103,8 @@ recordings_stand_so keeps gives images name before after r stopped = by_case sto
             (λ q below. grown_at (logs_of_steps (group_in r) early) p piece q (log_name (name_of_process (group_in r) q)) (log_of (group_in r) early q) (log_at (group_in r) early q below))
             nothing_more (alone (files_with_grown_piece (logs_of_steps (group_in r) early) p piece) is) q below;
       })
-  by_case (InImages n m is) =
+  by_case (InImages n is) =
       let files = images_of images (group_in r) (run_in r) in
       inr (uncut (group_in r) (steps_in r) (steps_in r) after ([], refl)
-      (logs_stand keeps (group_in r) (steps_in r) (made_in_part files n m) before after (apart (steps_in r))
-      (parts_are_no_logs files n m (images_are_no_logs images (group_in r) (run_in r))) (sym is)))
+      (logs_stand keeps (group_in r) (steps_in r) (take n files) before after (apart (steps_in r))
+      (first_are_no_logs files n (images_are_no_logs images (group_in r) (run_in r))) (sym is)))

@@ -78,7 +78,7 @@ abbrev pub AgreesWithRun : List ℕ → Folder → Type 0
 AgreesWithRun schedule_name folder = (r : IsRecordable folder schedule_name) → LogsAgree (group_in r) (steps_in r)
 
 -- wherever it is stopped, the logs are those of a moment of its run, but for a first part of the next entry; or the
--- whole logs stand, and some of the images that were asked for
+-- whole logs stand, and the first of the images that were asked for, each of them whole
 abbrev pub LeavesMoment : Bool → List ℕ → Folder → Option Folder → Type 0
 LeavesMoment images schedule_name before after =
     (r : IsRecordable before schedule_name) → IsStoppedRecording (group_in r) (steps_in r) (images_of images (group_in r) (run_in r)) (Some before) after

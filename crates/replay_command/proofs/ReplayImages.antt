@@ -1,19 +1,17 @@
 -- The images that a replay makes, one process after the other.
-use Rattle.std.proofs.Common.{◌≡◌, ◌∙◌, ◌+◌, ◌<◌, ◌++◌, ℕ, zero, suc, List, [], ◌∷◌, length, get_or, take, drop, slice_get, true, Option, Some, refl, ap, subst, sym, inl, inr, arith, append-nil}
+use Rattle.std.proofs.Common.{◌≡◌, ◌∙◌, ◌+◌, ◌<◌, ◌++◌, ℕ, zero, suc, List, [], ◌∷◌, length, get_or, take, drop, slice_get, true, Option, Some, refl, ap, subst, sym, arith}
 use Rattle.std.specs.Prelude.{All}
 use Rattle.std.proofs.lemmas.Option.{same_Some, slice_get_read}
-use Rattle.fri_outside.specs.Laws.{KeepsFiles}
 use Rattle.fri_outside.specs.Outside.{Folder}
-use Rattle.fri_outside.specs.Several.{AreFileFronts, ChangesOnlyFiles, with_files}
+use Rattle.fri_outside.specs.Several.{AreFirstMade, with_files}
 use Rattle.call_log.specs.Head.{Head, IsHead}
 use Rattle.fri_text.specs.Name.{is_name}
-use Rattle.process_files.specs.PartLaws.{part_fronts}
+use Rattle.process_files.specs.FirstLaws.{first_after, first_of_more}
 use Rattle.process_files.specs.Images.{image_files}
-use Rattle.process_files.specs.Parts.{AreMadeInPart, made_in_part}
 use Rattle.proc_replay.specs.Replaying.{Replaying}
 use Rattle.group_state.specs.declared.image.Image.{Image}
 use Rattle.group_state.specs.Image.{image_of, memory_of_image, print_of_image}
-use Rattle.command_run.specs.FileLaws.{fronts_behind, fronts_of_more, with_more_files}
+use Rattle.command_run.specs.FileLaws.{all_first_made, with_more_files}
 use Rattle.replay_command.specs.Report.{images_in}
 
 -- the two files of a process
@@ -78,34 +76,17 @@ one_made start node files before mid after a so_far made =
     ∙ ap (λ (f : List (List ℕ × List ℕ)). with_files f before) (sym (more_images start node a.replay a.is))
     ∙ ap (λ (k : ℕ). with_files (images_in (take k start)) before) next
 
-no_fronts : (files : List (List ℕ × List ℕ)) → AreFileFronts [] files
-no_fronts files place name bytes at = cc
-
 -- those of the first nodes alone
-pub first_made : KeepsFiles → (start : List Replaying) (node : ℕ) (before mid : Option Folder) → mid ≡ with_files (images_in (take node start)) before → ChangesOnlyFiles before (images_in start) mid
-first_made keeps start node before mid so_far =
-    let first = images_in (take node start) in
-    let rest = images_in (drop node start) in
-    let made : mid ≡ with_files (first ++ []) before = so_far ∙ ap (λ (files : List (List ℕ × List ℕ)). with_files files before) (sym (append-nil first)) in
-    subst (λ (t : Option Folder). ChangesOnlyFiles before (images_in start) t) (sym made)
-    (keeps.left before (first ++ []) (images_in start)
-    (subst (AreFileFronts (first ++ [])) (sym (images_before start node)) (fronts_behind first [] rest (no_fronts rest))))
+pub first_made : (start : List Replaying) (node : ℕ) (before mid : Option Folder) → mid ≡ with_files (images_in (take node start)) before → AreFirstMade (images_in start) before mid
+first_made start node before mid so_far =
+    subst (λ (files : List (List ℕ × List ℕ)). AreFirstMade files before mid) (sym (images_before start node))
+    (first_of_more (images_in (take node start)) (images_in (drop node start)) before mid (all_first_made (images_in (take node start)) before mid so_far))
 
-part_of_own : KeepsFiles → (start : List Replaying) (node : ℕ) (r : Replaying) (before mid after : Option Folder) → slice_get start node ≡ Some r → mid ≡ with_files (images_in (take node start)) before
-    → AreMadeInPart (files_of r) mid after → ChangesOnlyFiles before (images_in start) after
-part_of_own keeps start node r before mid after is so_far (inl same) = first_made keeps start node before after (same ∙ so_far)
-part_of_own keeps start node r before mid after is so_far (inr (n, m, made)) =
-    let first = images_in (take node start) in
-    let part = made_in_part (files_of r) n m in
-    let rest = images_in (drop (suc node) start) in
-    let all : after ≡ with_files (first ++ part) before = made ∙ ap (with_files part) so_far ∙ sym (with_more_files first part before) in
-    subst (λ (t : Option Folder). ChangesOnlyFiles before (images_in start) t) (sym all)
-    (keeps.left before (first ++ part) (images_in start)
-    (subst (AreFileFronts (first ++ part)) (sym (images_around start node r is))
-    (fronts_behind first part (files_of r ++ rest) (fronts_of_more part (files_of r) rest (part_fronts (files_of r) n m)))))
-
--- and a part of the next one's
-pub part_made : KeepsFiles → (start : List Replaying) (node : ℕ) (files : List (List ℕ × List ℕ)) (before mid after : Option Folder) → AreOwn start node files → mid ≡ with_files (images_in (take node start)) before
-    → AreMadeInPart files mid after → ChangesOnlyFiles before (images_in start) after
-part_made keeps start node files before mid after a so_far part =
-    part_of_own keeps start node a.replay before mid after a.is so_far (subst (λ (f : List (List ℕ × List ℕ)). AreMadeInPart f mid after) a.own part)
+-- and the first of the next one's
+pub part_made : (start : List Replaying) (node : ℕ) (files : List (List ℕ × List ℕ)) (before mid after : Option Folder) → AreOwn start node files → mid ≡ with_files (images_in (take node start)) before
+    → AreFirstMade files mid after → AreFirstMade (images_in start) before after
+part_made start node files before mid after a so_far first =
+    let own = subst (λ (f : List (List ℕ × List ℕ)). AreFirstMade f mid after) a.own first in
+    subst (λ (files : List (List ℕ × List ℕ)). AreFirstMade files before after) (sym (images_around start node a.replay a.is))
+    (first_after (images_in (take node start)) (files_of a.replay ++ images_in (drop (suc node) start)) before mid after so_far
+    (first_of_more (files_of a.replay) (images_in (drop (suc node) start)) mid after own))

@@ -12,7 +12,7 @@ use Rattle.group_state.specs.Tally.{tally_of_events}
 use Rattle.command_run.specs.declared.refusal.WorkText.{WorkText}
 use Rattle.command_run.specs.declared.refusal.WorkText.TheVariants as answered
 use Rattle.command_run.specs.declared.refusal.StopCause.{StopCause}
-use Rattle.command_run.specs.Call.{MakesWorkFiles, MakesAllFiles, StopsAsCause, TellsOutcome}
+use Rattle.command_run.specs.Call.{MakesWholeFiles, MakesAllFiles, StopsAsCause, TellsOutcome}
 use Rattle.replay_command.specs.Report.{replay_outcome, some_log_diverges, images_if, replay_work, report_text}
 use Rattle.command_run.specs.Outcome.{CommandOutcome, CommandStop, and_then, writes_of}
 use Rattle.log_pairs.specs.Pairs.{NoneOpened, Pair, WasOpened, replays_of_pairs}
@@ -47,9 +47,9 @@ images_begun images slice start told mid after e same kept made =
 
 -- the images were made, and whatever comes then
 pub replay_makes : (images : Bool) (pairs : List Pair) (told after : Option Folder) (start : List Replaying) (result : Result WorkText StopCause) → WasOpened pairs told start
-    → MakesWorkFiles result (images_if images start) told after → (o : CommandOutcome) → option_map (replay_outcome images pairs) told ≡ Some o → MakesWorkFiles result (writes_of o) told after
+    → MakesWholeFiles result (images_if images start) told after → (o : CommandOutcome) → option_map (replay_outcome images pairs) told ≡ Some o → MakesWholeFiles result (writes_of o) told after
 replay_makes images pairs told after start result opens makes o here =
-    subst (λ (o : CommandOutcome). MakesWorkFiles result (writes_of o) told after) (sym (opened_works images pairs told start opens o here)) makes
+    subst (λ (o : CommandOutcome). MakesWholeFiles result (writes_of o) told after) (sym (opened_works images pairs told start opens o here)) makes
 
 -- ---- what is said
 

@@ -2,7 +2,7 @@
 ghost use Rattle.std.specs.Prelude.{◌≡◌, All, List, map, option_map, IfErr};
 ghost use Rattle.fri_outside.specs.Outside.{WhenTold};
 ghost use Rattle.call_log.specs.Head.{IsHead};
-ghost use Rattle.command_run.specs.Call.{CountsFaults, KeepsFolder, MakesWorkFiles, MakesAllFiles, RaisesCount, TellsOutcome};
+ghost use Rattle.command_run.specs.Call.{CountsFaults, KeepsFolder, MakesWholeFiles, MakesAllFiles, RaisesCount, TellsOutcome};
 ghost use Rattle.command_run.specs.Outcome.{writes_of};
 ghost use Rattle.replay_command.specs.Report.{images_if, images_in, replay_outcome};
 ghost use Rattle.log_pairs.specs.Meanings.{pair_of};
@@ -28,7 +28,6 @@ fn write_images<F: Files>(
     ensures counts { CountsFaults (F.counts files.old) (F.counts files.new) result }
     ensures cause { IfErr result (RaisesCount (F.counts files.old) (F.counts files.new)) }
 {
-    fri_outside::laws::keeps_files();
     for replayer in replayers {
         let image = image_of(alloc, replayer)?;
         write_image(
@@ -63,7 +62,8 @@ fn write_asked<F: Files>(
 }
 
 /// Replays the logs of a group, each by its module, and says what came of each and of all. With `images` the files
-/// of what the processes leave are made before.
+/// of what the processes leave are made before, each of them whole. After a fault the first of them are made, and the others
+/// are as before.
 pub fn replay<F: Files>(
     alloc: Global,
     images: bool,
@@ -72,12 +72,11 @@ pub fn replay<F: Files>(
 ) -> Result<WorkText, StopCause>
     ensures tells { WhenTold (option_map (replay_outcome images (map pair_of pairs.now)) (F.told files.old)) (λ outcome. TellsOutcome outcome result) }
     ensures makes { WhenTold (option_map (replay_outcome images (map pair_of pairs.now)) (F.told files.old)) (λ outcome.
-        MakesWorkFiles result (writes_of outcome) (F.told files.old) (F.told files.new)) }
+        MakesWholeFiles result (writes_of outcome) (F.told files.old) (F.told files.new)) }
     ensures keeps { KeepsFolder result (F.told files.old) (F.told files.new) }
     ensures counts { CountsFaults (F.counts files.old) (F.counts files.new) result }
     ensures cause { IfErr result (RaisesCount (F.counts files.old) (F.counts files.new)) }
 {
-    fri_outside::laws::keeps_files();
     let all = load_all(alloc, pairs, files)?;
     let replayers = begin_all(alloc, &all)?;
     write_asked(alloc, images, &replayers, files)?;

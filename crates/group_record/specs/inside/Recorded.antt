@@ -2,7 +2,7 @@
 use Rattle.std.specs.Prelude.{◌≡◌, ◌≢◌, ℕ, ◌+◌, ◌++◌, ◌<◌, ◌≤◌, ◌^◌, [], ⊤, Bool, true, false, ◌&&◌, not, is_some, option_and_then, if◌then◌else◌, IsTrue, AllPairs, List, length, map, Option, Some, None, Result, Ok, Err, slice_get, slice_set}
 use Rattle.std.specs.List.{slice_index_or}
 use Rattle.fri_outside.specs.Outside.{Folder}
-use Rattle.fri_outside.specs.Several.{with_files}
+use Rattle.fri_outside.specs.Several.{AreFirstMade, with_files}
 use Rattle.lib_calls.specs.declared.entry.Entry.{Entry}
 use Rattle.lib_calls.specs.Traffic.{drawn, is_taken, printed, prints}
 use Rattle.lib_calls.specs.Entry.{IsShaped}
@@ -27,7 +27,6 @@ use Rattle.group_record.specs.Run.{GroupStart, RunProgress, RunStep, entries_of_
 use Rattle.group_record.specs.Logs.{logs_of_steps}
 use Rattle.group_record.specs.Files.{FolderChange, IsStoppedRecording, change}
 use Rattle.group_record.specs.Images.{images_of}
-use Rattle.process_files.specs.Parts.{AreMadeInPart}
 use Rattle.group_record.specs.Live.{IsMemberAfter}
 use Rattle.group_record.specs.inside.Members.{live_member, member_after}
 use Rattle.group_record.specs.Answer.{IsSummary}
@@ -164,8 +163,8 @@ abbrev pub MakesFiles : List (List ℕ × List ℕ) → Result ⊤ RecordError �
 MakesFiles files (Ok _) before after = after ≡ with_files files before
 MakesFiles files (Err (errors.BadSegment p)) before after = ⊥
 MakesFiles files (Err (errors.LogFull item)) before after = ⊥
-MakesFiles files (Err errors.WriteFault) before after = AreMadeInPart files before after
-MakesFiles files (Err errors.NoMemory) before after = AreMadeInPart files before after
+MakesFiles files (Err errors.WriteFault) before after = AreFirstMade files before after
+MakesFiles files (Err errors.NoMemory) before after = AreFirstMade files before after
 
 -- the images of the group up to where the recorder is were to be made, if they were asked for
 abbrev pub MakesImages : Bool → List ProcessLine → Recorder → Result ⊤ RecordError → FolderChange → Type 0

@@ -3,7 +3,7 @@ use Rattle.std.proofs.lemmas.Result.{err_from_is_err_and}
 use Rattle.command_run.specs.declared.refusal.WorkText.TheVariants as answered
 use Rattle.command_run.specs.CountLaws.{counts_still}
 use Rattle.command_run.specs.FileLaws.{some_files_made}
-use Rattle.command_run.specs.OutcomeLaws.{refused_makes, refused_tells}
+use Rattle.command_run.specs.OutcomeLaws.{refused_makes_whole, refused_tells}
 use Rattle.log_pairs.specs.Meanings.{WereLoaded, pair_of}
 use Rattle.cut_command.specs.Cut.{cut_outcome}
 use Rattle.cut_command.proofs.CutOutcome.{files_made, found_past, opening_stops, work_cuts, work_makes, work_tells}
@@ -15,7 +15,7 @@ returns-in_err-all-clause-makes g c =
     let pairs = map pair_of c.args.pairs.now in
     let told = g.F.Files.told c.args.files.now in
     let stops = opening_stops c.args.process c.args.event pairs told c.in_err-all.field-0.0 c.in_err-all.ensures.answer in
-    rw (p.1, p.2) (refused_makes (cut_outcome c.args.process c.args.event pairs) told (g.F.Files.told c.load_all.new.files) c.in_err-all.field-0.0 stops c.load_all.ensures.same)
+    rw (p.1, p.2) (refused_makes_whole (cut_outcome c.args.process c.args.event pairs) told (g.F.Files.told c.load_all.new.files) c.in_err-all.field-0.0 stops c.load_all.ensures.same)
 
 pub returns-in_err-replayers-clause-tells : goal.returns-in_err-replayers-clause-tells
 returns-in_err-replayers-clause-tells g c =
@@ -33,7 +33,7 @@ returns-in_err-replayers-clause-makes g c =
     let told = g.F.Files.told c.args.files.now in
     let stops = opening_stops c.args.process c.args.event pairs told c.in_err-replayers.field-0.0
     (c.in_err-replayers.ensures.answer pairs told (subst (WereLoaded pairs told) (sym c.deref.ensures.value) c.in_ok-all.ensures.answer)) in
-    rw (p.1, p.2) (refused_makes (cut_outcome c.args.process c.args.event pairs) told (g.F.Files.told c.load_all.new.files) c.in_err-replayers.field-0.0 stops c.load_all.ensures.same)
+    rw (p.1, p.2) (refused_makes_whole (cut_outcome c.args.process c.args.event pairs) told (g.F.Files.told c.load_all.new.files) c.in_err-replayers.field-0.0 stops c.load_all.ensures.same)
 
 pub returns-in_err-replayers-clause-counts : goal.returns-in_err-replayers-clause-counts
 returns-in_err-replayers-clause-counts g c =
@@ -63,7 +63,7 @@ returns-in_err-past-clause-makes g c =
     let loaded = subst (WereLoaded pairs told) (sym c.deref-2.ensures.value) c.in_ok-all.ensures.answer in
     let begun = c.in_ok-replayers.ensures.answer pairs told (subst (WereLoaded pairs told) (sym c.deref.ensures.value) c.in_ok-all.ensures.answer) in
     let stops = found_past c.args.process c.args.event pairs told c.deref-2.result.now c.in_ok-replayers.replayers.items (Err c.in_err-past.field-0.0) loaded begun c.in_err-past.ensures.answer in
-    rw (p.1, p.2) (refused_makes (cut_outcome c.args.process c.args.event pairs) told (g.F.Files.told c.load_all.new.files) c.in_err-past.field-0.0 stops c.load_all.ensures.same)
+    rw (p.1, p.2) (refused_makes_whole (cut_outcome c.args.process c.args.event pairs) told (g.F.Files.told c.load_all.new.files) c.in_err-past.field-0.0 stops c.load_all.ensures.same)
 
 pub returns-in_err-past-clause-counts : goal.returns-in_err-past-clause-counts
 returns-in_err-past-clause-counts g c =

@@ -1,8 +1,7 @@
-use Rattle.std.proofs.Common.{◌≡◌, ◌<◌, ◌∙◌, true, length, inl, refl, ap, subst, arith}
+use Rattle.std.proofs.Common.{◌≡◌, ◌<◌, ◌∙◌, true, length, refl, ap, subst, arith}
 use Rattle.std.proofs.lemmas.Result.{err_from_is_err_and}
-use Rattle.fri_outside.specs.Several.{with_files}
+use Rattle.fri_outside.specs.Several.{AreFirstMade, with_files}
 use Rattle.fri_outside.specs.declared.files.WriteError.TheVariants as writing
-use Rattle.process_files.specs.Parts.{AreMadeInPart}
 use Rattle.group_record.specs.Run.{processes_in_group}
 use Rattle.group_record.proofs.ImageFiles.{asked_fails, image_fails, image_is, image_made, name_here, named_all, within_kept}
 use Rattle.group_record.proofs.SharedLemmas.{at_place, failed_write}
@@ -17,7 +16,7 @@ returns-in_err-memory-clause-images g c = λ group done keeps named.
     let within : k < processes_in_group group = omega (arith, c.loop-p-test.true, named_all c.args.processes.now group.names named) in
     let name = name_here c.args.processes.now k c.index-processes-p.result c.as_slice-name.result.now group.names c.loop-p-test.true c.index-processes-p.is c.as_slice-name.ensures named in
     rw (p.1, p.2) (asked_fails c.args.asked group done writing.NoMemory before now c.if-not-asked.false keeps.room
-    (image_fails group done.steps k c.as_slice-name.result.now before now now within name (c.loop-p.invariant.made group done keeps named) (inl refl)))
+    (image_fails group done.steps k c.as_slice-name.result.now before now now within name (c.loop-p.invariant.made group done keeps named) (0, refl)))
 
 pub returns-in_err-write_image-clause-images : goal.returns-in_err-write_image-clause-images
 returns-in_err-write_image-clause-images g c = λ group done keeps named.
@@ -35,7 +34,7 @@ returns-in_err-write_image-clause-images g c = λ group done keeps named.
     (within_kept c.args.asked asked (length c.args.processes.now) (length c.args.recorder.now.prints) k c.requires.kept c.loop-p-test.true) c.of.ensures in
     rw (p.1, p.2) (asked_fails c.args.asked group done c.in_err-write_image.field-0.0 before after asked keeps.room
     (image_fails group done.steps k c.as_slice-name.result.now before now after within name (c.loop-p.invariant.made group done keeps named)
-    (subst (λ fs. AreMadeInPart fs now after) image c.in_err-write_image.ensures.err)))
+    (subst (λ fs. AreFirstMade fs now after) image c.in_err-write_image.ensures.err)))
 
 pub loop-p-preserved : goal.loop-p-preserved
 loop-p-preserved g c = record {

@@ -1,5 +1,5 @@
 use Rattle.std.proofs.lemmas.Result.{err_from_is_err_and}
-use Rattle.command_run.specs.OutcomeLaws.{refused_makes, refused_tells}
+use Rattle.command_run.specs.OutcomeLaws.{refused_makes_whole, refused_tells}
 use Rattle.migrate_command.specs.Migrate.{migrate_outcome}
 use Rattle.migrate_command.proofs.making.migrate.Goals as goal
 
@@ -12,4 +12,4 @@ pub returns-in_err-bytes-clause-makes : goal.returns-in_err-bytes-clause-makes
 returns-in_err-bytes-clause-makes g c =
     let p = err_from_is_err_and c.from_residual.result c.from_residual.ensures.1 in
     rw (p.1, p.2)
-    (refused_makes (migrate_outcome c.args.log_file.now c.args.new_file.now) (g.F.Files.told c.args.files.now) (g.F.Files.told c.take_migration.new.files) c.in_err-bytes.field-0.0 (c.in_err-bytes.ensures.answer c.args.new_file.now) c.take_migration.ensures.same)
+    (refused_makes_whole (migrate_outcome c.args.log_file.now c.args.new_file.now) (g.F.Files.told c.args.files.now) (g.F.Files.told c.take_migration.new.files) c.in_err-bytes.field-0.0 (c.in_err-bytes.ensures.answer c.args.new_file.now) c.take_migration.ensures.same)

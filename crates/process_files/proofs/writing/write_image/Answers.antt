@@ -1,9 +1,6 @@
-use Rattle.std.proofs.Common.{[], ◌∷◌}
 use Rattle.std.proofs.lemmas.Result.{err_from_is_err_and}
-use Rattle.process_files.specs.Images.{image_files, mem_name, out_name}
-use Rattle.process_files.specs.Parts.{AreMadeInPart}
+use Rattle.process_files.specs.Images.{mem_name, out_name}
 use Rattle.process_files.proofs.TwoFiles.{first_fails, second_fails}
-use Rattle.process_files.proofs.OneFile.{on_err}
 use Rattle.process_files.proofs.writing.write_image.Goals as goal
 
 pub returns-in_err-write_file-clause-err : goal.returns-in_err-write_file-clause-err
@@ -13,10 +10,5 @@ returns-in_err-write_file-clause-err g c =
 
 pub returns-clause-err : goal.returns-clause-err
 returns-clause-err g c =
-    let before = g.F.Files.told c.args.files.now in
-    let now = g.F.Files.told c.write_file.new.files in
-    let after = g.F.Files.told c.write_file-2.new.files in
-    let name = c.args.name.now in
-    on_err (AreMadeInPart ((out_name name, c.args.printed.now) ∷ []) now after) (AreMadeInPart (image_files name c.args.memory.now c.args.printed.now) before after) c.write_file-2.result
-    (second_fails (mem_name name, c.args.memory.now) (out_name name, c.args.printed.now) before now after c.in_ok-write_file.ensures.ok)
-    c.write_file-2.ensures.err
+    second_fails (mem_name c.args.name.now, c.args.memory.now) (out_name c.args.name.now, c.args.printed.now) (g.F.Files.told c.args.files.now) (g.F.Files.told c.write_file.new.files) (g.F.Files.told c.write_file-2.new.files) c.write_file-2.result
+    c.in_ok-write_file.ensures.ok c.write_file-2.ensures.err

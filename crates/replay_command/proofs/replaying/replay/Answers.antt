@@ -2,8 +2,8 @@ use Rattle.std.proofs.Common.{List, Ok, Err, map, subst, sym}
 use Rattle.std.proofs.lemmas.Result.{err_from_is_err_and}
 use Rattle.command_run.specs.declared.refusal.StopCause.TheVariants as refusal
 use Rattle.command_run.specs.CountLaws.{counts_still}
-use Rattle.command_run.specs.FileLaws.{all_files_made, some_files_made}
-use Rattle.command_run.specs.OutcomeLaws.{refused_makes, refused_tells}
+use Rattle.command_run.specs.FileLaws.{all_first_made, some_files_made}
+use Rattle.command_run.specs.OutcomeLaws.{refused_makes_whole, refused_tells}
 use Rattle.log_pairs.specs.declared.pairs.Loaded.{Loaded}
 use Rattle.log_pairs.specs.Meanings.{WereLoaded, pair_of}
 use Rattle.replay_command.specs.Report.{replay_outcome}
@@ -19,7 +19,7 @@ pub returns-in_err-all-clause-makes : goal.returns-in_err-all-clause-makes
 returns-in_err-all-clause-makes g c =
     let p = err_from_is_err_and c.from_residual.result c.from_residual.ensures.1 in
     rw (p.1, p.2)
-    (refused_makes (replay_outcome c.args.images (map pair_of c.args.pairs.now)) (g.F.Files.told c.args.files.now) (g.F.Files.told c.load_all.new.files) c.in_err-all.field-0.0 (opening_stops c.args.images (map pair_of c.args.pairs.now) (g.F.Files.told c.args.files.now) c.in_err-all.field-0.0 c.in_err-all.ensures.answer) c.load_all.ensures.same)
+    (refused_makes_whole (replay_outcome c.args.images (map pair_of c.args.pairs.now)) (g.F.Files.told c.args.files.now) (g.F.Files.told c.load_all.new.files) c.in_err-all.field-0.0 (opening_stops c.args.images (map pair_of c.args.pairs.now) (g.F.Files.told c.args.files.now) c.in_err-all.field-0.0 c.in_err-all.ensures.answer) c.load_all.ensures.same)
 
 pub returns-in_err-replayers-clause-tells : goal.returns-in_err-replayers-clause-tells
 returns-in_err-replayers-clause-tells g c =
@@ -30,7 +30,7 @@ pub returns-in_err-replayers-clause-makes : goal.returns-in_err-replayers-clause
 returns-in_err-replayers-clause-makes g c =
     let p = err_from_is_err_and c.from_residual-in_err-replayers.result c.from_residual-in_err-replayers.ensures.1 in
     rw (p.1, p.2)
-    (refused_makes (replay_outcome c.args.images (map pair_of c.args.pairs.now)) (g.F.Files.told c.args.files.now) (g.F.Files.told c.load_all.new.files) c.in_err-replayers.field-0.0 (opening_stops c.args.images (map pair_of c.args.pairs.now) (g.F.Files.told c.args.files.now) c.in_err-replayers.field-0.0 (c.in_err-replayers.ensures.answer (map pair_of c.args.pairs.now) (g.F.Files.told c.args.files.now) (subst (λ (all : List Loaded). WereLoaded (map pair_of c.args.pairs.now) (g.F.Files.told c.args.files.now) all) (sym c.deref.ensures.value) c.in_ok-all.ensures.answer))) c.load_all.ensures.same)
+    (refused_makes_whole (replay_outcome c.args.images (map pair_of c.args.pairs.now)) (g.F.Files.told c.args.files.now) (g.F.Files.told c.load_all.new.files) c.in_err-replayers.field-0.0 (opening_stops c.args.images (map pair_of c.args.pairs.now) (g.F.Files.told c.args.files.now) c.in_err-replayers.field-0.0 (c.in_err-replayers.ensures.answer (map pair_of c.args.pairs.now) (g.F.Files.told c.args.files.now) (subst (λ (all : List Loaded). WereLoaded (map pair_of c.args.pairs.now) (g.F.Files.told c.args.files.now) all) (sym c.deref.ensures.value) c.in_ok-all.ensures.answer))) c.load_all.ensures.same)
 
 pub returns-in_err-replayers-clause-cause : goal.returns-in_err-replayers-clause-cause
 returns-in_err-replayers-clause-cause g c =
@@ -56,7 +56,7 @@ returns-in_err-report-clause-makes g c =
     rw (p.1, p.2)
     (replay_makes c.args.images (map pair_of c.args.pairs.now) (g.F.Files.told c.args.files.now) (g.F.Files.told c.write_asked.new.files) c.in_ok-replayers.replayers.items (Err refusal.NoMemory)
     (c.in_ok-replayers.ensures.answer (map pair_of c.args.pairs.now) (g.F.Files.told c.args.files.now) (subst (λ (all : List Loaded). WereLoaded (map pair_of c.args.pairs.now) (g.F.Files.told c.args.files.now) all) (sym c.deref.ensures.value) c.in_ok-all.ensures.answer))
-    (all_files_made c.keeps_files.ensures _ _ _ (images_made c.args.images _ _ _ _ _ c.deref-2.ensures.value c.load_all.ensures.same c.in_ok-write_asked.ensures.made)))
+    (all_first_made _ _ _ (images_made c.args.images _ _ _ _ _ c.deref-2.ensures.value c.load_all.ensures.same c.in_ok-write_asked.ensures.made)))
 
 pub returns-in_err-print_report-clause-makes : goal.returns-in_err-print_report-clause-makes
 returns-in_err-print_report-clause-makes g c =
@@ -64,7 +64,7 @@ returns-in_err-print_report-clause-makes g c =
     rw (p.1, p.2)
     (replay_makes c.args.images (map pair_of c.args.pairs.now) (g.F.Files.told c.args.files.now) (g.F.Files.told c.write_asked.new.files) c.in_ok-replayers.replayers.items (Err refusal.NoMemory)
     (c.in_ok-replayers.ensures.answer (map pair_of c.args.pairs.now) (g.F.Files.told c.args.files.now) (subst (λ (all : List Loaded). WereLoaded (map pair_of c.args.pairs.now) (g.F.Files.told c.args.files.now) all) (sym c.deref.ensures.value) c.in_ok-all.ensures.answer))
-    (all_files_made c.keeps_files.ensures _ _ _ (images_made c.args.images _ _ _ _ _ c.deref-2.ensures.value c.load_all.ensures.same c.in_ok-write_asked.ensures.made)))
+    (all_first_made _ _ _ (images_made c.args.images _ _ _ _ _ c.deref-2.ensures.value c.load_all.ensures.same c.in_ok-write_asked.ensures.made)))
 
 pub returns-clause-tells : goal.returns-clause-tells
 returns-clause-tells g c =

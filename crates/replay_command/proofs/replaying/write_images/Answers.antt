@@ -14,7 +14,7 @@ image_of-requires g c =
 pub returns-in_err-image-clause-made : goal.returns-in_err-image-clause-made
 returns-in_err-image-clause-made g c =
     let p = err_from_is_err_and c.from_residual.result c.from_residual.ensures.1 in
-    rw (p.1, p.2) (first_made c.keeps_files.ensures c.args.replayers.now c.loop-replayer.replayer-index _ _ c.loop-replayer.invariant.0)
+    rw (p.1, p.2) (first_made c.args.replayers.now c.loop-replayer.replayer-index _ _ c.loop-replayer.invariant.0)
 
 pub write_image-requires : goal.write_image-requires
 write_image-requires g c =
@@ -28,7 +28,7 @@ returns-in_err-write_image-clause-made g c =
     let own = own_files c.args.replayers.now c.loop-replayer.replayer-index c.replayer-item.result (head_of c.head.result) c.as_slice.result.now c.as_slice-in-loop-replayer.result.now c.in_ok-image.image within c.replayer-item.is c.head.ensures c.in_ok-image.ensures c.as_slice.ensures c.as_slice-in-loop-replayer.ensures in
     rw (p.1, p.2)
     (failed_makes c.in_err-write_image.field-0.0 _ _ _
-    (part_made c.keeps_files.ensures c.args.replayers.now c.loop-replayer.replayer-index _ _ _ _ own c.loop-replayer.invariant.0 c.in_err-write_image.ensures.err))
+    (part_made c.args.replayers.now c.loop-replayer.replayer-index _ _ _ _ own c.loop-replayer.invariant.0 c.in_err-write_image.ensures.err))
 
 pub loop-replayer-preserved : goal.loop-replayer-preserved
 loop-replayer-preserved g c =

@@ -18,6 +18,13 @@ create-tells g c = record {
   counted = c.ensures.counted;
 }
 
+pub replace-tells : goal.replace-tells
+replace-tells g c = record {
+  ok = at_ok c.result refl;
+  err = at_err c.result refl;
+  counted = c.ensures.counted;
+}
+
 pub append-tells : goal.append-tells
 append-tells g c = record {
   ok = at_ok c.result refl;
