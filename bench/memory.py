@@ -128,10 +128,8 @@ def sizes(data):
 
 
 def check_cut(stands, whole):
-    """What is left of cut logs are the first of them, and a front of one."""
-    left = list(stands.items())
-    assert [name for name, _ in left] == list(whole)[: len(left)], "a later log was cut before an earlier one"
-    assert all(data == whole[name] for name, data in left[:-1]), "a log is not whole, and a later one stands"
+    """What is left of cut logs are the first of them, each of them whole."""
+    assert list(stands.items()) == list(whole.items())[: len(stands)], "a log is not whole, or a later one was cut before an earlier one"
 
 
 def check_stopped(words, names, whole):
@@ -139,6 +137,7 @@ def check_stopped(words, names, whole):
     stands = held(words, names)
     for name, data in stands.items():
         assert whole[name].startswith(data), f"{name} is no front of what it is to hold"
+        assert data == whole[name] or name.endswith(".log"), f"{name} is not whole"
     if words[0] == "cut":
         return check_cut(stands, whole)
     left = [stands.get(f"{name}.log") for name in names]

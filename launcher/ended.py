@@ -123,9 +123,14 @@ def in_the_way(status, words):
         found = ["%s %s" % (path, why) for path in all_files_of(words) for why in [why_unreadable(path)] if why]
         yield from found or input_in_the_way()
     if status == 6:
-        found = ["%s %s" % (path, why) for path in made_by(words) for why in [why_unwritable(path)] if why]
+        found = ["%s %s" % (path, why) for path in made_by(words) for why in [why_unwritable(path, grows(words, path))] if why]
         found += ["the disk of this folder is full"] if made_by(words) and os.statvfs(".").f_bavail == 0 else []
         yield from found or output_in_the_way()
+
+
+def grows(words, path):
+    """The logs of a recording are written as it goes."""
+    return words[0] == "record" and path.endswith(".log")
 
 
 def input_in_the_way():

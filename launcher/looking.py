@@ -56,8 +56,8 @@ def why_unreadable(path):
     return None
 
 
-def why_unwritable(path):
-    """What keeps a file from being made or replaced, or None."""
+def why_unwritable(path, grows):
+    """What keeps a file from being made or replaced, or None. One that grows is written to in its place."""
     if os.path.isdir(path):
         return "is a folder"
     folder = os.path.dirname(path) or "."
@@ -65,4 +65,9 @@ def why_unwritable(path):
         return "is in a folder that is not there"
     if not os.access(path if os.path.exists(path) else folder, os.W_OK):
         return "(Permission denied)"
-    return None
+    beside = os.path.realpath(path) + ".friday-new"
+    if grows or not os.path.isfile(path):
+        return None
+    if not os.access(os.path.dirname(beside), os.W_OK):
+        return "is in a folder that may not be written to"
+    return "is made as %s at first, which is a folder" % beside if os.path.isdir(beside) else None

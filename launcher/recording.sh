@@ -94,7 +94,10 @@ keep_logs() {
 # Where a recording made no log, as a refused one, the older logs stand as before. They are not its own.
 put_back() {
     for log in $aside; do
-        [ -e "$log" ] || { mv -T -- "$log.old" "$log" && note=''; } 2>/dev/null
+        [ ! -e "$log" ] || return 0
+    done
+    for log in $aside; do
+        mv -T -- "$log.old" "$log" 2>/dev/null && note=''
     done
 }
 

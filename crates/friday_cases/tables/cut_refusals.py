@@ -145,23 +145,18 @@ def files(script):
     script.run("cut 1 2 ping.wasm ping.log least pong.log", *refused("pong.log", NO_EVENT))
 
 
-# Of two pairs: four files are read, and then each of the two is made and written.
+# Of two pairs: four files are read, and then each of the two is made.
 READS, MADE = 4, ("ping", "pong")
 
 
 def after_failing(call, made):
-    """What the two files hold where this call fails: each is made empty and then written, of which half is done."""
-    stands = [b"old", b"old"]
-    for at, log in enumerate(made):
-        create, append = READS + 1 + 2 * at, READS + 2 + 2 * at
-        if create < call:
-            stands[at] = log.spelled()[: len(log.spelled()) // 2] if append == call else log.spelled()
-    return stands
+    """What the two files hold where this call fails: each is the old one until the new one is whole."""
+    return [log.spelled() if READS + 1 + at < call else b"old" for at, log in enumerate(made)]
 
 
 def failing(script):
     made = fronts(ping_and_pong(), 1, 2)
-    for call in range(1, READS + 5):
+    for call in range(1, READS + 3):
         given = ping_pong(script, "a cut whose call %d on files fails" % call)
         script.fail("files", call)
         script.run("cut 1 2 " + words(given), "ReadFault" if call <= READS else "WriteFault")
@@ -174,10 +169,10 @@ def failing(script):
 
 
 def failing_onto_logs(script):
-    """A log that is written over may be lost."""
+    """A log that is to be written over stands until the new one is whole."""
     given = ping_and_pong()
     made = fronts(given, 1, 2)
-    for call in range(READS + 1, READS + 5):
+    for call in range(READS + 1, READS + 3):
         script.case("a cut onto the logs themselves, whose call %d on files fails" % call)
         modules(script, kept(script, PAIR))
         for log in given:
@@ -197,8 +192,8 @@ def failing_output(script):
     for line in ("cut 1 6 " + words(given), "cut 2 1 " + words(given), "cut 1 2 x y", "cut 1 2"):
         script.fail("output", 1)
         script.run(line, "WriteFault")
-    # These made 17 calls on files. A cut that is refused makes 4, and one of two pairs 8; each makes one write, and reads no input.
-    script.fail("files", 17 + 4 + 8 + 1)
+    # These made 15 calls on files. A cut that is refused makes 4, and one of two pairs 6; each makes one write, and reads no input.
+    script.fail("files", 15 + 4 + 6 + 1)
     for line, outcome in (("cut 1 6 ", refused("pong.log", NO_EVENT)), ("cut 1 2 ", ("Done", *text_of(given, fronts(given, 1, 2))))):
         script.fail("input", 1)
         script.fail("output", 2)

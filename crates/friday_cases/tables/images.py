@@ -237,22 +237,20 @@ def none(script):
 
 
 def stopped_at(write):
-    """How the four files stand where this write of them fails: each is made, and then has its bytes."""
-    files = []
-    for at, (old, held) in enumerate(((times(PAGE + 1, b"\7").data, PING), (b"old", b"")) + ((times(PAGE + 1, b"\7").data, PONG), (b"old", b""))):
-        made, filled = 2 * at + 1, 2 * at + 2
-        files.append(held if write > filled else held[: len(held) // 2] if write == filled else old if write <= made else b"")
-    return files
+    """How the four files stand where this one of them is not made: each is the old one until the new one is whole."""
+    old = times(PAGE + 1, b"\7").data
+    files = (old, PING), (b"old", b""), (old, PONG), (b"old", b"")
+    return [new if at + 1 < write else before for at, (before, new) in enumerate(files)]
 
 
 def failing(script):
-    """Each write of an image fails, of a recording and of a replay, where the words are in another order."""
+    """Each file of the images fails, of a recording and of a replay, where the words are in another order."""
     for begun, line, before in (
         (recording, "record --images s", 18),
         (replaying, "replay --images pong.wasm pong.log ping.wasm ping.log", 4),
     ):
-        for write in range(1, 9):
-            begun(script, "images, of which write %d fails" % write)
+        for write in range(1, 5):
+            begun(script, "images, of which file %d fails" % write)
             script.fail("files", before + write)
             script.run(line, "WriteFault")
             groups.shown(script, groups.log(0, 6), groups.log(1, 5))

@@ -5,11 +5,14 @@ use fri_outside::{
 };
 use std::alloc::Global;
 use std::fs;
+use std::os::unix::fs::symlink;
 use std::test::Fail;
 
 const FOLDER: &str = "low_tests_folder";
 
 const NAME: &str = "low_tests_folder/a";
+
+const REPLACED: &str = "low_tests_replaced";
 
 // What is in a file, or why it was not read.
 fn text_of<F: Files>(files: &mut F, alloc: Global, name: &str) -> Result<Vec<u8>, FileError> {
@@ -44,6 +47,18 @@ fn a_write_in_memory_fails(rt: HostRuntime) -> Result<(), Fail> {
     files.fail_at(1)?;
     assert_eq!(rt; files.append("a", b"12"), Err(WriteError::Failed));
     assert_eq!(rt; files.bytes("a").ok_or("it is there")?, b"kept1".as_slice());
+    Ok(())
+}
+
+#[test]
+fn a_file_in_memory_is_replaced(rt: HostRuntime) -> Result<(), Fail> {
+    let mut files = MemFiles::new(rt.alloc());
+    files.put("a", b"kept")?;
+    files.fail_at(1)?;
+    assert_eq!(rt; files.replace("a", b"12"), Err(WriteError::Failed));
+    assert_eq!(rt; files.bytes("a").ok_or("it is there")?, b"kept".as_slice());
+    files.replace("a", b"12")?;
+    assert_eq!(rt; files.bytes("a").ok_or("it is there")?, b"12".as_slice());
     Ok(())
 }
 
@@ -108,6 +123,32 @@ fn real_files(rt: HostRuntime) -> Result<(), Fail> {
     fs::remove_dir_all(&rt, FOLDER)?;
     made?;
     assert_eq!(rt; bytes?.as_slice(), b"abcde".as_slice());
+    Ok(())
+}
+
+// A file behind a link is replaced, and the link stays. Where nothing can be made beside a file, that file stands.
+#[test]
+fn real_files_are_replaced(rt: HostRuntime) -> Result<(), Fail> {
+    let _ = fs::remove_dir_all(&rt, REPLACED);
+    fs::create_dir(&rt, REPLACED)?;
+    fs::write(&rt, "low_tests_replaced/a", "old")?;
+    fs::write(&rt, "low_tests_replaced/b", "old")?;
+    symlink(&rt, "a", "low_tests_replaced/link")?;
+    fs::create_dir(&rt, "low_tests_replaced/b.friday-new")?;
+    let mut files = RealFiles::new(rt.alloc(), &rt);
+    let replaced = files.replace("low_tests_replaced/link", b"new");
+    let refused = files.replace("low_tests_replaced/b", b"new");
+    let first = text_of(&mut files, rt.alloc(), "low_tests_replaced/a");
+    let second = text_of(&mut files, rt.alloc(), "low_tests_replaced/b");
+    assert!(rt; !files.close().is_lost());
+    let link = fs::symlink_metadata(&rt, "low_tests_replaced/link")?;
+    let is_left = fs::exists(&rt, "low_tests_replaced/a.friday-new")?;
+    fs::remove_dir_all(&rt, REPLACED)?;
+    replaced?;
+    assert_eq!(rt; refused, Err(WriteError::Failed));
+    assert_eq!(rt; first?.as_slice(), b"new".as_slice());
+    assert_eq!(rt; second?.as_slice(), b"old".as_slice());
+    assert!(rt; link.is_symlink() && !is_left);
     Ok(())
 }
 

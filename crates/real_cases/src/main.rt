@@ -2,7 +2,7 @@
 //! the words, what the call printed, its status, and the files that it made.
 //!
 //! Its stored run is how the adapters of `fri_outside` over the runtime are tested: a recording that lies on a disk, files
-//! that are absent, too large or no files, and a device that takes no byte. They tell nothing of what they hold, so no clause
+//! that are absent, too large or no files, files that are replaced, and a device that takes no byte. They tell nothing of what they hold, so no clause
 //! here says what is printed.
 #![tactic(auto)]
 
@@ -128,6 +128,22 @@ fn refuse<R: Files + Print + AllocGlobal>(rt: &R) -> io::Result<()> {
     play(rt, "record longer", "")
 }
 
+// A log takes its own place, that of a file behind a link, and that of what is no regular file.
+fn rewrite<R: Files + Print + AllocGlobal>(rt: &R) -> io::Result<()> {
+    play(rt, "migrate ping.log ping.log", "")?;
+    show(rt, "ping.log")?;
+    fs::write(rt, "older", "old")?;
+    symlink(rt, "older", "link")?;
+    play(rt, "migrate ping.log link", "")?;
+    show(rt, "older")?;
+    show(rt, "older.friday-new")?;
+    let is_link = fs::symlink_metadata(rt, "link")?.is_symlink();
+    println!(rt; "link is a link: {is_link}")?;
+    play(rt, "migrate ping.log /dev/null", "")?;
+    play(rt, "migrate ping.log /dev/full", "")?;
+    play(rt, "migrate ping.log none/new.log", "")
+}
+
 fn fill<R: Files + Print + AllocGlobal>(rt: &R) -> io::Result<()> {
     play_unheard(rt, "replay ping.wasm ping.log")?;
     play_unheard(rt, "debug ping.wasm ping.log")?;
@@ -143,5 +159,6 @@ fn main(rt: HostRuntime) -> io::Result<()> {
     record_and_replay(&rt)?;
     play_on(&rt)?;
     refuse(&rt)?;
+    rewrite(&rt)?;
     fill(&rt)
 }
