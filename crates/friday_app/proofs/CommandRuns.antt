@@ -4,15 +4,17 @@ use Rattle.std.specs.Io.KnownBytes.{append_known}
 use Rattle.std.specs.Result.{IsOk}
 use Rattle.std.proofs.lemmas.Option.{same_Some}
 use Rattle.fri_outside.specs.Outside.{Folder, Counts, WhenTold}
-use Rattle.fri_outside.specs.Several.{with_files}
+use Rattle.fri_outside.specs.Laws.{KeepsFiles}
+use Rattle.fri_outside.specs.Several.{AreFirstMade, with_files}
 use Rattle.command_run.specs.declared.status.Status.{Status}
 use Rattle.command_run.specs.declared.status.Status.TheVariants as ends
 use Rattle.command_run.specs.declared.refusal.WorkText.{WorkText}
 use Rattle.command_run.specs.declared.refusal.WorkText.TheVariants as answered
 use Rattle.command_run.specs.declared.refusal.StopCause.{StopCause}
-use Rattle.command_run.specs.Call.{CountsFaults, DivergesOnlyIf, IsAnswerStatus, KeepsFolder, MakesWorkFiles, RaisesCount, TellsOutcome}
+use Rattle.command_run.specs.Call.{CountsFaults, DivergesOnlyIf, IsAnswerStatus, KeepsFolder, MakesWholeFiles, MakesWorkFiles, RaisesCount, TellsOutcome}
+use Rattle.command_run.specs.FileLaws.{whole_first, whole_makes}
 use Rattle.command_run.specs.Outcome.{CommandOutcome, NotACommand, outcome_text, writes_of}
-use Rattle.command_run.specs.Run.{CallEnds, FinishedCommand, LeavesInput, Outside, PerformedCommand, expected_by_folder, file_state}
+use Rattle.command_run.specs.Run.{CallEnds, FinishedCommand, LeavesInput, LeavesWholeFiles, Outside, PerformedCommand, expected_by_folder, file_state}
 use Rattle.record_command.specs.Agreement.{IsRecordable, LeavesMoment}
 use Rattle.record_command.specs.Expected.{record_outcome}
 use Rattle.record_command.specs.Laws.{RecordingsAgree, RecordingsRest}
@@ -20,6 +22,7 @@ use Rattle.log_pairs.specs.Pairs.{Pair}
 use Rattle.debug_command.specs.Run.{DebugRun}
 use Rattle.headline.specs.Headline.{LeftIsShown, ShowsRun}
 use Rattle.headline.specs.Promises.{RecordPromises}
+use Rattle.cut_command.specs.Cut.{cut_outcome}
 use Rattle.cut_command.specs.Laws.{CutsToPast}
 use Rattle.cut_command.specs.Promises.{CutPromises}
 use Rattle.schedule_command.specs.Schedule.{schedule_outcome}
@@ -53,6 +56,18 @@ performed f may_diverge before after counts counts_after ended tells makes keeps
   counted = counted;
   cause = cause;
 }
+
+-- the same of files that are made whole
+abbrev pub MakesWholeOf : (Folder → CommandOutcome) → Result WorkText StopCause → Option Folder → Option Folder → Type 0
+MakesWholeOf f ended before after = (o : CommandOutcome) → option_map f before ≡ Some o → MakesWholeFiles ended (writes_of o) before after
+
+pub performed_whole : KeepsFiles → (f : Folder → CommandOutcome) (may_diverge : Bool) (before after : Option Folder) (counts counts_after : Counts) (ended : Result WorkText StopCause)
+    → ((o : CommandOutcome) → option_map f before ≡ Some o → TellsOutcome o ended)
+    → MakesWholeOf f ended before after
+    → KeepsFolder ended before after → DivergesOnlyIf may_diverge ended → CountsFaults counts counts_after ended → IfErr ended (RaisesCount counts counts_after)
+    → PerformedCommand (expected_by_folder f before may_diverge) (file_state before counts) (file_state after counts_after) ended
+performed_whole files f may_diverge before after counts counts_after ended tells makes keeps diverges counted cause =
+    performed f may_diverge before after counts counts_after ended tells (λ o is. whole_makes files ended (writes_of o) before after (makes o is)) keeps diverges counted cause
 
 -- a replay may tell that a log diverged
 pub may_diverge : (ended : Result WorkText StopCause) → DivergesOnlyIf true ended
@@ -91,6 +106,14 @@ record_promises agree law images name ended answer old new f moment = record {
   shown = left_shown law images name answer old new (λ answers before told. (f.call.files (record_outcome images name before) (ap (option_map (record_outcome images name)) told)).whole answers) moment;
 }
 
+-- the first of the files were made
+first_made : (f : Folder → CommandOutcome) (ended : Result WorkText StopCause) (before after : Option Folder) → MakesWholeOf f ended before after → WhenTold before (λ folder. AreFirstMade (writes_of (f folder)) before after)
+first_made f ended before after makes folder told = whole_first ended (writes_of (f folder)) before after (makes (f folder) (ap (option_map f) told))
+
+pub whole_files : (f : Folder → CommandOutcome) (ended : Result WorkText StopCause) (answer : Status) (old new : Outside) → LeavesInput old new answer → MakesWholeOf f ended old.told new.told
+    → LeavesWholeFiles f old new answer
+whole_files f ended answer old new input makes = record { input = input; whole = first_made f ended old.told new.told makes }
+
 never_ok : false ≡ true → ⊥
 never_ok e = cc
 
@@ -122,10 +145,12 @@ kept_past process event pairs folder (Err e) ok cuts = absurd (never_ok ok)
 
 pub cut_promises : (process event : ℕ) (pairs : List Pair) (ended : Result WorkText StopCause) (answer : Status) (old new : Outside)
     → FinishedCommand (expected (Some (Cut process event pairs)) old.told old.hearing.left) ended old new answer
+    → MakesWholeOf (cut_outcome process event pairs) ended old.told new.told
     → WhenTold old.told (λ folder. IfOk ended (λ _. CutsToPast process event pairs folder))
     → CutPromises process event pairs old new answer
-cut_promises process event pairs ended answer old new f cuts = record {
+cut_promises process event pairs ended answer old new f makes cuts = record {
   input = f.input;
+  whole = first_made (cut_outcome process event pairs) ended old.told new.told makes;
   past = λ is folder told. kept_past process event pairs folder ended (f.done is) (cuts folder told);
 }
 
@@ -192,12 +217,12 @@ run_stopped agree rest law plays command o answer is call = subst (λ (a : Statu
     moment = untouched images name;
     shown = left_shown law images name ends.NoMemory o o (λ h. absurd h) (untouched images name);
   }
-  promised (Some (Replay images pairs)) = unread
+  promised (Some (Replay images pairs)) = record { input = unread; whole = λ folder told. (0, refl) }
   promised (Some (Debug pairs)) = record { input = inl (refl, not_done); answered = λ e. absurd cc; refused = λ e. absurd cc }
   promised (Some (Drill rounds)) = unread
-  promised (Some (Migrate log_name new_name)) = unread
+  promised (Some (Migrate log_name new_name)) = record { input = unread; whole = λ folder told. (0, refl) }
   promised (Some (Schedule pairs)) = record { input = unread; converse = λ e. absurd cc }
-  promised (Some (Cut process event pairs)) = record { input = unread; past = λ e. absurd cc }
+  promised (Some (Cut process event pairs)) = record { input = unread; whole = λ folder told. (0, refl); past = λ e. absurd cc }
   promised (Some (Streams pairs)) = unread
   promised (Some (Play schedule_name)) = record {
     session = record { input = inl (refl, not_done); answered = λ e. absurd cc; refused = λ e. absurd cc };

@@ -25,6 +25,7 @@ fn run<F: Files, T: Terminal>(alloc: Global, words: &[String], files: &mut F, io
         (outside (F.told files.new) (F.counts files.new) (T.hearing io.new) (T.taken io.new) (T.faults io.new))
         result }
 {
+    fri_outside::laws::keeps_files();
     record_command::laws::recordings_agree();
     record_command::laws::recordings_rest();
     headline::laws::left_is_shown();

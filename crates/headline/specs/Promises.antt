@@ -13,7 +13,7 @@ pub record RecordPromises (images : Bool) (schedule_name : List ℕ) (old new : 
   pub recorded : WhenTold old.told (AgreesWithRun schedule_name)
   -- wherever a recording was stopped, its logs are those of a moment of its run, but after one of them a first part
   -- of the next entry may stand; or the logs hold a first part of their heads, or are not made yet; or the whole logs
-  -- stand, and after them the first ones of the images, the last of which may be cut off
+  -- stand, and after them the first ones of the images, each of them whole
   pub moment : WhenTold old.told (λ before. LeavesMoment images schedule_name before new.told)
   -- those logs and the modules, and these alone, make `replay` and `debug` show the recorded calls, replies and memories: in
   -- every folder, under any names, for some or all of the processes, in any order. After an answer that is the whole run, and

@@ -8,7 +8,7 @@ use Rattle.cut_command.specs.Cut.{cut_outcome}
 use Rattle.migrate_command.specs.Migrate.{migrate_outcome}
 use Rattle.friday_app.specs.Command.{Cut, Debug, Drill, Migrate, Record, Replay, Schedule, Streams}
 use Rattle.friday_app.specs.inside.Meanings.{command_meaning}
-use Rattle.friday_app.proofs.CommandRuns.{cut_promises, may_diverge, performed, record_promises, run_debugged, run_finished, run_none, run_played, run_same, run_stopped, schedule_promises}
+use Rattle.friday_app.proofs.CommandRuns.{cut_promises, may_diverge, performed, performed_whole, record_promises, run_debugged, run_finished, run_none, run_played, run_same, run_stopped, schedule_promises, whole_files}
 use Rattle.friday_app.proofs.top.run.Goals as goal
 
 pub returns-in-Ok-None : goal.returns-in-Ok-None
@@ -39,9 +39,10 @@ returns-in-Ok-Some-Replay g c =
     let pairs = map pair_of c.deref.result.now in
     let old : Outside = outside (g.F.Files.told c.args.files.now) (g.F.Files.counts c.args.files.now) (g.T.Sink.hearing c.args.io.now) (g.T.Sink.taken c.args.io.now) (g.T.Sink.faults c.args.io.now) in
     let new : Outside = outside (g.F.Files.told c.replay-ended.new.files) (g.F.Files.counts c.replay-ended.new.files) (g.T.Sink.hearing c.finish-in-Ok-Some-Replay.new.out) (g.T.Sink.taken c.finish-in-Ok-Some-Replay.new.out) (g.T.Sink.faults c.finish-in-Ok-Some-Replay.new.out) in
-    let finished = c.finish-in-Ok-Some-Replay.ensures _ _ _ (performed (replay_outcome arm.images pairs) true old.told new.told old.counts new.counts c.replay-ended.result e.tells e.makes e.keeps (may_diverge c.replay-ended.result) e.counts e.cause) in
+    let finished = c.finish-in-Ok-Some-Replay.ensures _ _ _ (performed_whole c.keeps_files.ensures (replay_outcome arm.images pairs) true old.told new.told old.counts new.counts c.replay-ended.result e.tells e.makes e.keeps (may_diverge c.replay-ended.result) e.counts e.cause) in
     run_same (ap (λ (ps : List Pair). Some (Replay arm.images (map pair_of ps))) c.deref.ensures.value ∙ sym (ap (option_map command_meaning) (arm.field-0-is ∙ ap Some arm.field-0-0-is)) ∙ arm.ensures.names)
-    (run_finished (Replay arm.images pairs) c.replay-ended.result c.finish-in-Ok-Some-Replay.result old new finished finished.input)
+    (run_finished (Replay arm.images pairs) c.replay-ended.result c.finish-in-Ok-Some-Replay.result old new finished
+    (whole_files (replay_outcome arm.images pairs) c.replay-ended.result c.finish-in-Ok-Some-Replay.result old new finished.input e.makes))
 
 pub returns-in-Ok-Some-Debug : goal.returns-in-Ok-Some-Debug
 returns-in-Ok-Some-Debug g c =
@@ -67,9 +68,10 @@ returns-in-Ok-Some-Migrate g c =
     let finish = c.finish-in-Ok-Some-Migrate in
     let old : Outside = outside (g.F.Files.told c.args.files.now) (g.F.Files.counts c.args.files.now) (g.T.Sink.hearing c.args.io.now) (g.T.Sink.taken c.args.io.now) (g.T.Sink.faults c.args.io.now) in
     let new : Outside = outside (g.F.Files.told c.migrate-ended.new.files) (g.F.Files.counts c.migrate-ended.new.files) (g.T.Sink.hearing finish.new.out) (g.T.Sink.taken finish.new.out) (g.T.Sink.faults finish.new.out) in
-    let finished = finish.ensures _ _ _ (performed (migrate_outcome arm.log_file.now arm.new_file.now) false old.told new.told old.counts new.counts c.migrate-ended.result e.tells e.makes e.keeps e.done e.counts e.cause) in
+    let finished = finish.ensures _ _ _ (performed_whole c.keeps_files.ensures (migrate_outcome arm.log_file.now arm.new_file.now) false old.told new.told old.counts new.counts c.migrate-ended.result e.tells e.makes e.keeps e.done e.counts e.cause) in
     run_same (sym (ap (option_map command_meaning) (arm.field-0-is ∙ ap Some arm.field-0-0-is)) ∙ arm.ensures.names)
-    (run_finished (Migrate arm.log_file.now arm.new_file.now) c.migrate-ended.result finish.result old new finished finished.input)
+    (run_finished (Migrate arm.log_file.now arm.new_file.now) c.migrate-ended.result finish.result old new finished
+    (whole_files (migrate_outcome arm.log_file.now arm.new_file.now) c.migrate-ended.result finish.result old new finished.input e.makes))
 
 pub returns-in-Ok-Some-Schedule : goal.returns-in-Ok-Some-Schedule
 returns-in-Ok-Some-Schedule g c =
@@ -94,10 +96,10 @@ returns-in-Ok-Some-Cut g c =
     let finish = c.finish-in-Ok-Some-Cut in
     let old : Outside = outside (g.F.Files.told c.args.files.now) (g.F.Files.counts c.args.files.now) (g.T.Sink.hearing c.args.io.now) (g.T.Sink.taken c.args.io.now) (g.T.Sink.faults c.args.io.now) in
     let new : Outside = outside (g.F.Files.told c.cut-ended.new.files) (g.F.Files.counts c.cut-ended.new.files) (g.T.Sink.hearing finish.new.out) (g.T.Sink.taken finish.new.out) (g.T.Sink.faults finish.new.out) in
-    let finished = finish.ensures _ _ _ (performed (cut_outcome arm.process arm.event pairs) false old.told new.told old.counts new.counts c.cut-ended.result e.tells e.makes e.keeps e.done e.counts e.cause) in
+    let finished = finish.ensures _ _ _ (performed_whole c.keeps_files.ensures (cut_outcome arm.process arm.event pairs) false old.told new.told old.counts new.counts c.cut-ended.result e.tells e.makes e.keeps e.done e.counts e.cause) in
     run_same (ap (λ (ps : List Pair). Some (Cut arm.process arm.event (map pair_of ps))) deref.ensures.value ∙ sym (ap (option_map command_meaning) (arm.field-0-is ∙ ap Some arm.field-0-0-is)) ∙ arm.ensures.names)
     (run_finished (Cut arm.process arm.event pairs) c.cut-ended.result finish.result old new finished
-    (cut_promises arm.process arm.event pairs c.cut-ended.result finish.result old new finished e.least))
+    (cut_promises arm.process arm.event pairs c.cut-ended.result finish.result old new finished e.makes e.least))
 
 pub returns-in-Ok-Some-Streams : goal.returns-in-Ok-Some-Streams
 returns-in-Ok-Some-Streams g c =
