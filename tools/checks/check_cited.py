@@ -25,7 +25,7 @@ FORM = re.compile(r"x_\w+|\w+_[xX]")
 NAME = re.compile(r"[A-Za-z][A-Za-z0-9]*(?:_[A-Za-z0-9]+)+|[A-Z][a-z0-9]+(?:[A-Z][a-z0-9]*)+")
 # Of the language, its library and other programs.
 OTHERS = set(
-    "allow_holes by_rattle br_table call_indirect callgrind_annotate checked_add extend_from_slice fixed_time getrandom is_even "
+    "ReadConsumes WriteAppends allow_holes by_rattle br_table call_indirect callgrind_annotate checked_add extend_from_slice fixed_time getrandom is_even "
     "libFuzzer memory_grow memory_size native_tls push_str read_to_end saturating_add sched_autogroup_enabled sync_data to_le_bytes wat2wasm".split()
 )
 
