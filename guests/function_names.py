@@ -1,4 +1,6 @@
-"""The functions of a module by their numbers: as NAME.places tells them, or else the module by its own names and its exports."""
+"""The functions of a module by their numbers, as NAME.places tells them, or else the module by its own names and its exports; and those
+of a thread in one line."""
+import itertools
 import os
 
 from place_table import FunctionPlace, Refusal, read_table
@@ -6,6 +8,8 @@ from wasm_reader import read_module
 
 # No module is longer, and no file of places of one.
 MOST_MODULE, MOST_PLACES = 4_194_304, 16_777_216
+# So many different functions one after the other are told in a line.
+MOST_TOLD = 12
 
 
 def functions_of(module):
@@ -32,6 +36,17 @@ def of_module(path):
         return {}
     names = {number: name for name, (kind, number) in found.exports.items() if kind == 0}
     return {number: FunctionPlace(number, name) for number, name in {**names, **found.names}.items() if name}
+
+
+def in_a_line(first, names, more):
+    """What is said of the innermost function, and the names of those around it, of which `more` are not known; what comes more than
+    twice in turn is said once."""
+    runs = [(name, len(list(run))) for name, run in itertools.groupby(names)]
+    told = [first]
+    for name, count in runs[:MOST_TOLD]:
+        told += ["%s (%d times)" % (name, count)] if count > 2 else [name] * count
+    more += sum(count for _, count in runs[MOST_TOLD:])
+    return " < ".join(told) + (" and %d more" % more if more else "")
 
 
 def is_short(path, most):

@@ -16,8 +16,6 @@ THREADS = 64
 # More steps than there can be events.
 TO_THE_END = "step 9223372036854775807\n"
 FRAMES = re.compile(r"^\d+: (\d+(?: \d+)*)(?: and (\d+) more)?$", re.M)
-# So many functions are named.
-MOST_NAMED = 8
 
 
 def where_trapped(program, words, name, seconds):
@@ -44,10 +42,9 @@ def chain(numbers, more, module):
     """The innermost function with its lines, and the names of those around it."""
     # The kit's readers lie with it, and few calls need them.
     sys.path.append(GUESTS)
-    from function_names import functions_of
+    from function_names import functions_of, in_a_line
     from place_table import FunctionPlace
 
     functions = functions_of(module)
-    first, *rest = (functions.get(number) or FunctionPlace(number, "function %d" % number) for number in numbers[:MOST_NAMED])
-    more += max(0, len(numbers) - MOST_NAMED)
-    return " < ".join([first.words, *(function.name for function in rest)]) + (" and %d more" % more if more else "")
+    first, *rest = (functions.get(number) or FunctionPlace(number, "function %d" % number) for number in numbers)
+    return in_a_line(first.words, [function.name for function in rest], more)

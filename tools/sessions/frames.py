@@ -5,10 +5,10 @@ from __future__ import annotations
 import re
 from dataclasses import dataclass
 
+from function_names import in_a_line
 from place_table import CallPlace, FunctionPlace
 from sessions.names import Refusal
 from sessions.places import line_of
-from sessions.spelling import repeated
 
 TOLD = re.compile(r"\d+: (\d+(?: \d+)*)(?: and (\d+) more)?")
 # The frames of so many events of a thread are asked for at once, and of each further part so many times as many.
@@ -69,7 +69,7 @@ class Stack:
         first, names = self.frames[0], [frame.name for frame in self.frames]
         words = "%s, %s" % (first.call.function, line_of(first.call)) if first.call else first.words
         outside = names if first.call and first.call.function != first.name else names[1:]
-        return words + "".join(" < " + name for name in repeated(outside)) + (" and %d more" % self.more if self.more else "")
+        return in_a_line(words, outside, self.more)
 
 
 EMPTY = Stack([])
