@@ -13,7 +13,7 @@ from dataclasses import dataclass
 
 from tools_path import TOP  # before the modules of the tools, which it lets be found
 from asking.program import program_of
-from check_shown import called, owner, pairs_of, recorded
+from check_shown import called, owner, recorded
 
 assert TOP
 CALLS = ("begin", "send", "recv", "try_recv", "note", "now", "yield", "print", "sleep_until")
@@ -27,7 +27,7 @@ class Group:
     """A recorded group: the events of its order, and the values of expressions at each position, which are asked for once."""
 
     def __init__(self, program, folder, chosen):
-        self.program, self.folder, self.words = program, folder, ["debug", *pairs_of(chosen)]
+        self.program, self.folder, self.words = program, folder, ["debug", *(word for name, module in chosen for word in (module, name + ".log"))]
         self.names = sorted(name for name, _ in chosen)
         self.events = [line.partition(": ")[2] for line in self.session(["step 1000", "events 1000"])[2:]]
         self.owners = [None, *map(owner, self.events)]
