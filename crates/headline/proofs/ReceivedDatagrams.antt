@@ -3,7 +3,7 @@ use Rattle.std.proofs.Common.{◌≡◌, ◌∙◌, ◌≤◌, ◌^◌, ℕ, Boo
 use Rattle.std.specs.Prelude.{Contains, IsTrue, ◌==◌}
 use Rattle.std.proofs.Math.Seq.{get_or-append_seam}
 use Rattle.std.proofs.lemmas.Bool.{eqb-true}
-use Rattle.std.proofs.lemmas.List.{length-append, map-append}
+use Rattle.std.proofs.lemmas.List.{length-append}
 use Rattle.std.proofs.lemmas.Option.{slice_get-get_or}
 use Rattle.lamport_tag.specs.Tag.{read_datagram}
 use Rattle.lib_calls.specs.Traffic.{is_taken}
@@ -11,11 +11,11 @@ use Rattle.lib_calls.specs.declared.entry.Entry.{Entry}
 use Rattle.guest_process.specs.Live.{Event}
 use Rattle.group_order.specs.Order.{IsOrder, node_event}
 use Rattle.proc_replay.specs.Replaying.{Replaying}
-use Rattle.group_world.specs.History.{Act, Deliver, History, Inject}
+use Rattle.group_world.specs.History.{Act, Deliver, Inject}
 use Rattle.group_world.specs.History as world
 use Rattle.group_world.specs.Laws.{gives}
 use Rattle.group_record.specs.Laws.{TakesDatagram, TellsSend}
-use Rattle.group_record.specs.Run.{Had, RunStep, act_of, entries_of_steps, history_of_steps, processes_in_group}
+use Rattle.group_record.specs.Run.{Had, RunStep, entries_of_steps, history_of_steps, processes_in_group}
 use Rattle.group_record.specs.Standing.{IsRun}
 use Rattle.group_state.specs.Laws.{SendsFirst}
 use Rattle.group_state.specs.Place.{ReplaysFit, entry_clock, events_of_replays}
@@ -29,14 +29,6 @@ use Rattle.headline.proofs.ToldEntries.{nth_is_sent, was_had}
 seam : {A : Type 0} (xs : List A) (y : A) (ys whole : List A) → whole ≡ xs ++ y ∷ ys → Contains whole y
 seam xs y ys whole is =
     subst (λ (list : List _). Contains list y) (sym is) (length xs, omega (arith, length-append xs (y ∷ ys)), get_or-append_seam xs y ys y)
-
--- what stood in the history before an event is in that of all steps
-stays : (steps later early : List RunStep) (s : RunStep) (before after : History) (act : Act) → steps ≡ later ++ (s ∷ early) → history_of_steps early ≡ before ++ act ∷ after → Contains (history_of_steps steps) act
-stays steps later early s before after act split is =
-    let front = map act_of (later ++ (s ∷ [])) ++ before in
-    seam front act after (history_of_steps steps)
-    (ap history_of_steps (split ∙ sym (append_assoc later (s ∷ []) early)) ∙ map-append act_of (later ++ (s ∷ [])) early
-    ∙ ap (λ (h : History). map act_of (later ++ (s ∷ [])) ++ h) is ∙ sym (append_assoc (map act_of (later ++ (s ∷ []))) before (act ∷ after)))
 
 -- ---- one event
 
@@ -79,8 +71,8 @@ module _ (run : RecordedRun) (ps : List ℕ) (start : List Replaying) (is_run : 
     from_outside : (q : ℕ) (given : List ℕ) → t.giver.act ≡ Inject q given → Injects q p given t.bytes → ReceivedDatagram run ps (events_of_replays start) j (record { process = p; entry = e })
     from_outside q given act in_it =
         let there : t.giver.act ≡ Inject p t.bytes = act ∙ ap (λ (n : ℕ). Inject n given) in_it.to ∙ ap (Inject p) in_it.same in
-        FromOutside t.bytes
-        (stays run.steps later early (Had p event) t.giver.later t.giver.earlier (Inject p t.bytes) split (t.giver.split ∙ ap (λ (act : Act). t.giver.later ++ act ∷ t.giver.earlier) there))
+        FromOutside t.bytes early (record { later = later; event = event; split = split; is = is })
+        (seam t.giver.later (Inject p t.bytes) t.giver.earlier (history_of_steps early) (t.giver.split ∙ ap (λ (act : Act). t.giver.later ++ act ∷ t.giver.earlier) there))
         (subst (λ (e : Entry). e.tag ≡ (read_datagram (processes_in_group run.group) t.bytes).0) is t.tag)
         (subst (λ (e : Entry). e.incoming ≡ take e.call.a1 (read_datagram (processes_in_group run.group) t.bytes).1) is t.payload)
 

@@ -1,11 +1,12 @@
 -- What `replay` and `debug` show of a recording.
-use Rattle.std.specs.Prelude.{◌≡◌, ◌↔◌, ◌<◌, ◌≤◌, ℕ, suc, Bool, true, false, IsTrue, List, [], ◌∷◌, length, map, take, slice_get, Some, Contains, if◌then◌else◌}
+use Rattle.std.specs.Prelude.{◌≡◌, ◌↔◌, ◌<◌, ◌≤◌, ℕ, suc, Bool, true, false, IsTrue, List, [], ◌∷◌, ◌++◌, length, map, take, slice_get, Some, Contains, if◌then◌else◌}
 use Rattle.std.specs.List.{flat_map}
 use Rattle.lamport_tag.specs.Tag.{read_datagram}
 use Rattle.lamport_tag.specs.declared.Tag.{Tag}
 use Rattle.lib_calls.specs.Traffic.{is_sent, is_taken, prints}
 use Rattle.lib_calls.specs.declared.entry.Entry.{Entry}
 use Rattle.call_log.specs.Log.{entries_of, rest_of_log}
+use Rattle.guest_process.specs.Live.{Event}
 use Rattle.guest_process.specs.Replay.{left_over}
 use Rattle.guest_process.specs.State.{State}
 use Rattle.group_order.specs.Order.{IsOrder, NodeEvent, node_event}
@@ -14,7 +15,7 @@ use Rattle.group_record.specs.Answer.{end_after}
 use Rattle.group_record.specs.Images.{memory_of_process}
 use Rattle.process_files.specs.Images.{image_files}
 use Rattle.group_record.specs.Laws.{TellsSend}
-use Rattle.group_record.specs.Run.{GroupStart, RunStep, entries_of_steps, head_of_log, history_of_steps, name_of_process, process_after, recorded_states, processes_in_group}
+use Rattle.group_record.specs.Run.{GroupStart, Had, RunStep, entries_of_steps, head_of_log, history_of_steps, name_of_process, process_after, recorded_states, processes_in_group}
 use Rattle.proc_replay.specs.Course.{entries_ahead}
 use Rattle.proc_replay.specs.Replaying.{Replaying}
 use Rattle.group_state.specs.declared.report.ReportLine.{ReportLine}
@@ -103,11 +104,18 @@ abbrev pub StandsBefore : List ℕ → List (NodeEvent Entry) → ℕ → ℕ �
 StandsBefore ps order j q sent =
     (node : ℕ) → slice_get ps node ≡ Some q → (i : ℕ) × (i < j) × (slice_get order i ≡ Some (node_event node sent))
 
--- the datagram that an event took, at place j of the order, came from outside, or a process had sent it to that of the
--- event. Then the event names the send and tells a first part of what went out, and the send comes before it, unless the
--- send's clock is past those that a tag can bear
+-- in the run the event came right after these steps
+pub record ComesAfter (run : RecordedRun) (early : List RunStep) (taken : AcceptedEvent) : Type 0 where
+  pub later : List RunStep
+  pub event : Event
+  pub split : run.steps ≡ later ++ (Had taken.process event ∷ early)
+  pub is : event.entry ≡ taken.entry
+
+-- the datagram that an event took, at place j of the order, came from outside before the event, or a process had sent it to
+-- that of the event. Then the event names the send and tells a first part of what went out, and the send comes before it,
+-- unless the send's clock is past those that a tag can bear
 pub data ReceivedDatagram (run : RecordedRun) (ps : List ℕ) (order : List (NodeEvent Entry)) (j : ℕ) (taken : AcceptedEvent) : Type 0 where
-  FromOutside : (bytes : List ℕ) → Contains (history_of_steps run.steps) (Inject taken.process bytes)
+  FromOutside : (bytes : List ℕ) → (early : List RunStep) → ComesAfter run early taken → Contains (history_of_steps early) (Inject taken.process bytes)
       → taken.entry.tag ≡ (read_datagram (processes_in_group run.group) bytes).0
       → taken.entry.incoming ≡ take taken.entry.call.a1 (read_datagram (processes_in_group run.group) bytes).1
       → ReceivedDatagram run ps order j taken
