@@ -45,19 +45,18 @@ def kept(folder, name):
         return file.read(), os.path.getmtime(path)
 
 
-def section(found, chosen, told):
-    """A section with new figures, or as it is if it is not asked for or has none."""
+def figures(found, chosen):
+    """The section with what its command prints, or as it is if that is nothing."""
     name, command = found["name"], found["command"]
-    if chosen.names and name not in chosen.names:
-        return found[0]
     try:
         text, when = kept(chosen.printed, name) if chosen.printed else (printed(command, chosen.program), time.time())
     except subprocess.CalledProcessError as failed:
-        text, when = "", 0
         print("%s: status %d" % (command, failed.returncode), file=sys.stderr)
+        return found[0]
     if not text.strip():
         return found[0]
     print(name, flush=True)
+    told = "the %s %s" % ("proved program" if chosen.program == PROVED else "program", checksum(chosen.program))
     return "%s, %s, %s\n\n```text\n%s\n```%s" % (found["first"], day(when), told, text.rstrip(), found["last"])
 
 
@@ -69,13 +68,14 @@ def main():
     chosen = parser.parse_args()
     with open(PAGE, encoding="utf-8") as file:
         page = file.read()
-    unknown = set(chosen.names) - {found["name"] for found in SECTION.finditer(page)}
+    sections = {found["name"]: found for found in SECTION.finditer(page)}
+    unknown = set(chosen.names) - set(sections)
     if unknown:
         parser.error("no section has figures of %s" % ", ".join(sorted(unknown)))
-    told = "the %s %s" % ("proved program" if chosen.program == PROVED else "program", checksum(chosen.program))
-    page = SECTION.sub(lambda found: section(found, chosen, told), page)
-    with open(PAGE, "w", encoding="utf-8") as file:
-        file.write(page)
+    for name in chosen.names or sections:
+        page = page.replace(sections[name][0], figures(sections[name], chosen))
+        with open(PAGE, "w", encoding="utf-8") as file:
+            file.write(page)
 
 
 if __name__ == "__main__":
