@@ -1,5 +1,5 @@
 """Processor minutes of the gate, by part (proofs, tests, edits, programs) and by crate, and what is over the budget that
-docs/performance.md has; and the longest path of proofs that wait for each other, in minutes of the clock. The gate runs in a clone
+bench/BUDGET.md has; and the longest path of proofs that wait for each other, in minutes of the clock. The gate runs in a clone
 of the last commit. Where it is interrupted the table has what was done.
 """
 
@@ -88,9 +88,9 @@ def longest_path(spans):
 
 
 def budget():
-    with open(os.path.join(TOP, "docs", "performance.md")) as file:
+    with open(os.path.join(TOP, "bench", "BUDGET.md")) as file:
         text = file.read()
-    rows = text.split("### The budget", 1)[-1] if "### The budget" in text else ""
+    rows = text.split("## The budget", 1)[-1] if "## The budget" in text else ""
     return {name: float(most) for name, most in re.findall(r"^\| (\w+) \| ([\d.]+) \|", rows, re.M)}
 
 
