@@ -183,8 +183,11 @@ class Index:
         """The positions of the events of each thread, by the process's name and the thread's number."""
         found = {}
         for part in self.parts:
+            lists = {thread: array.array("Q") for thread in set(part.threads)}
+            appends = {thread: positions.append for thread, positions in lists.items()}
             for position, thread in zip(self.of_process[part.log.name], part.threads):
-                found.setdefault((part.log.name, thread), array.array("Q")).append(position)
+                appends[thread](position)
+            found.update(((part.log.name, thread), positions) for thread, positions in lists.items())
         return found
 
     @functools.cached_property
