@@ -1,6 +1,6 @@
 """`continue` over 16 processes that pass datagrams round in a ring, from position 0 to the end, with 0, 1, 10 and 60
 watchpoints that read what no event touches, in logs of 100,000 and 1,000,000 events; beside `goto` to the end, a walk with a
-break point whose program counts the sends, and `rcontinue` over the same positions from the end. The watchpoints read a
+breakpoint whose program counts the sends, and `rcontinue` over the same positions from the end. The watchpoints read a
 number of one process, or add up one of each process, or are 64 of 505 tokens, each over all processes. Prints the
 processor's time for each event, and that for each watchpoint at one event or run of the program, which is what the walk
 takes longer than without points; instructions by valgrind for the shorter logs; and the peak of memory. The guest is built

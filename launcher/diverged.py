@@ -9,7 +9,7 @@ from looking import MOST_LOG, bytes_of
 
 HERE = os.path.dirname(os.path.dirname(os.path.realpath(__file__)))
 TOOLS = os.path.join(HERE, "tools")
-GUIDE = os.path.join(HERE, "docs", "guide.md")
+TUTORIAL = os.path.join(HERE, "docs", "tutorial.md")
 # So many logs are explained.
 MOST_TOLD = 3
 WHY = {

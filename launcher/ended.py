@@ -11,7 +11,7 @@ import sys
 
 from again import Again
 from commands import COMMANDS, fault, files_of, is_command
-from diverged import GUIDE, why_diverged
+from diverged import TUTORIAL, why_diverged
 from looking import why_unreadable, why_unwritable
 from refused import why_refused
 from saying import say
@@ -65,7 +65,7 @@ def of_files(status, again):
     elif again.can_be_asked():
         told = [line for line in again.report() if line.entry]
         yield from why_diverged(again, told)
-        yield "a module was built anew since the recording, or is another process's: \"What a divergence means\" in %s" % GUIDE
+        yield "a module was built anew since the recording, or is another process's: \"What a divergence means\" in %s" % TUTORIAL
 
 
 # ---- a file that is absent

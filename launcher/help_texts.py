@@ -17,7 +17,7 @@ END = """\
 For a terminal:   tools/session MODULE LOG ..     the debugger with names, history, Ctrl-C
 Try it:           cd examples/lost_update; ../../tools/session ../bank/bank.wasm north.log \\
                   ../bank/bank.wasm south.log ../bank/bank.wasm east.log
-Start with docs/guide.md. Error messages are explained in docs/refusals.md.
+Start with docs/tutorial.md. Error messages are explained in docs/refusals.md.
 """
 
 

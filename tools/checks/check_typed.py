@@ -40,7 +40,7 @@ HUNTS = {"bank": ("north", "south", "east"), "election": "abc", "register": ("r0
 FILES.update({hunt: (["%s/%s.%s" % (hunt, hunt, kind) for kind in ("wasm", "places")], hunt + "/failing") for hunt in HUNTS})
 PAGES = (*HUNTS, "lost_update", "enet")
 PROMPT = re.compile(r"\(friday ?\d*\) ?(.*)")
-AT_PROMPT = re.compile(r"(?:^|\n)\(friday \d+\) \Z")
+AT_PROMPT = re.compile(r"(?:^|\n)\((?:friday|play) \d+\) \Z")
 # What changes with the tools' own texts.
 SIZE = re.compile(r"(?m)^\d+ bytes in ")
 COLUMNS, ROWS = 400, 50
