@@ -75,7 +75,7 @@ def man_page(has_launcher=True):
     for status, when in statuses():
         lines += [".TP", ".B %s" % status, roff(when[0].upper() + when[1:]) + "."]
     lines += KEPT if has_launcher else []
-    lines += [".SH SEE ALSO", "The pages tutorial.md, recipes.md, debugger.md, formats.md and refusals.md, which come with friday."]
+    lines += [".SH SEE ALSO", "The pages tutorial.md, recipes.md, debugger.md, formats.md, lines.md, limits.md and refusals.md, which come with friday."]
     return "\n".join(lines) + "\n"
 
 

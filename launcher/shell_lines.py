@@ -1,4 +1,4 @@
-"""Why the debugger refuses a line: "The debugger" of docs/formats.md, said of one line. A row of FORMS adds a line."""
+"""Why the debugger refuses a line: docs/lines.md, said of one line. A row of FORMS adds a line."""
 from __future__ import annotations
 
 import difflib

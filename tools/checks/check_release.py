@@ -16,7 +16,7 @@ from asking.program import program_of
 
 WANTED = {
     "bin/friday", "share/man/man1/friday.1", "share/bash-completion/completions/friday", "share/zsh/site-functions/_friday", "RELEASE.md", "VERSION",
-    "SHA256SUMS", *("share/doc/friday/%s.md" % name for name in ("tutorial", "recipes", "debugger", "formats", "refusals", "proved")),
+    "SHA256SUMS", *("share/doc/friday/%s.md" % name for name in ("tutorial", "recipes", "debugger", "formats", "lines", "limits", "refusals", "proved")),
 }
 
 
