@@ -1,8 +1,9 @@
-//! Tests of the lower crates through their public calls: bytes, the outside, tags and datagrams, the order of events, threads
-//! and signals, and memories. They lie in a crate of their own, since a crate with tests is proved twice.
+//! Tests of the lower crates through their public calls: bytes, the outside, tags, datagrams and streams, the order of events,
+//! threads and signals, and memories. They lie in a crate of their own, since a crate with tests is proved twice.
 //!
 //! Each file is about one of these: spellings of numbers with known values, objects of the outside with a call that fails,
-//! datagrams that are delivered twice, and a memory beside a plain list of bytes. Nothing else is in this crate.
+//! datagrams that are delivered twice, a stream that is read in part, and a memory beside a plain list of bytes. Nothing else
+//! is in this crate.
 #![tactic(auto)]
 
 #[cfg(test)]
@@ -19,3 +20,5 @@ mod order;
 mod outside;
 #[cfg(test)]
 mod states;
+#[cfg(test)]
+mod streams;
