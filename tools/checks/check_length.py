@@ -1,0 +1,52 @@
+#!/usr/bin/env python3
+"""Checks that no page has more words than it may, and that each page has a row here: what a page gains, it or another one loses.
+
+check_length.py
+"""
+
+import glob
+import os
+import sys
+
+from tools_path import TOP
+
+# The words that a reader is asked for, in the order in which readers come to the pages.
+MOST = {
+    "README.md": 500,
+    "docs/tutorial.md": 2100,
+    "docs/recipes.md": 2450,
+    "docs/debugger.md": 2850,
+    "docs/gdb.md": 700,
+    "docs/editor.md": 1200,
+    "docs/guests.md": 2750,
+    "docs/refusals.md": 1100,
+    "docs/limits.md": 700,
+    "docs/formats.md": 6150,
+    "docs/lines.md": 2900,
+    "docs/theorem.md": 950,
+    "docs/proved.md": 6500,
+    "docs/performance.md": 500,
+    "docs/architecture.md": 3500,
+    "docs/inside.md": 3000,
+    "docs/DECISIONS.md": 3600,
+    "docs/contributing.md": 2600,
+    "tools/README.md": 3900,
+}
+
+
+def words_of(page):
+    with open(os.path.join(TOP, page), encoding="utf-8") as file:
+        return len(file.read().split())
+
+
+def main():
+    pages = ["README.md", "tools/README.md", *(os.path.relpath(path, TOP) for path in glob.glob(os.path.join(TOP, "docs", "*.md")))]
+    wrong = ["%s has no row here" % page for page in sorted(pages) if page not in MOST]
+    wrong += ["%s is not there" % page for page in MOST if page not in pages]
+    wrong += ["%s has %d words and may have %d" % (page, words_of(page), MOST[page]) for page in MOST if page in pages and words_of(page) > MOST[page]]
+    print("\n".join(wrong + ["length: %s" % ("%d wrong" % len(wrong) if wrong else "as expected")]))
+    return 1 if wrong else 0
+
+
+if __name__ == "__main__":
+    sys.exit(main())
