@@ -6,7 +6,9 @@ from sessions.names import Refusal
 
 
 def save(session, rest, form):
-    """Keeps points, programs and variables in a file."""
+    """Keeps points, programs and variables in a file; gdb's words for it are `save breakpoints FILE`."""
+    kind, _, path = rest.partition(" ")
+    rest = path.strip() if kind == "breakpoints" and path.strip() else rest
     lines = [setting(line) for line in session.engine.debugger.ask("vars")]
     for point in session.engine.points:
         lines += lines_of(point)

@@ -47,7 +47,7 @@ gdb's words break, next, info break, info threads, reverse-step and so on are un
 
 # Words that the page tells in its text.
 IN_TEXT = ("finish", "reverse-finish", "step", "continue", "goto", "back", "rcontinue", "from_start", "run", "ptype", "whatis", "bytes", "undisplay", "cast", "tbreak", "enable",
-           "disable", "delete", "ignore", "list", "vars", "sent", "page", "picture", "schedule", "quit")
+           "disable", "delete", "ignore", "commands", "list", "vars", "sent", "page", "picture", "schedule", "quit")
 
 # What the words of gdb that are not done here are about, and what to type in their place.
 INSTEAD = {
