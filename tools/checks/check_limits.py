@@ -35,8 +35,8 @@ name ([when something is refused](refusals.md)), or answered as the last column 
 TAIL = """
 ## What is not bounded by a definition
 
-- **The stack.** The deepest module, of blocks that nest 1,000 deep, was recorded with a stack of 380 kB and not with 370 kB. The usual limit of the
-  system is 8 MB (`ulimit -s`). With too small a stack the system ends the program.
+- **The stack.** 256 kB are enough for each command, also for modules whose blocks nest 1,000 deep (`tools/checks/check_stack.py`); a program
+  without proofs takes up to 768 kB. The usual limit of the system is 8 MB (`ulimit -s`). With too small a stack the system ends the program.
 - **Memory.** Where there is none left, a call ends with status 7. [Performance](performance.md) has what calls took.
 - **Time.** A long expression that every event touches is evaluated after every event: one of 430 tokens takes 0.1 ms for each. A thread runs at
   most 10,000,000 instructions between two calls, so no guest keeps friday for ever.

@@ -10,8 +10,10 @@
 //! Its stored run is a recording that fills its log, so it ends with the status of a refusal after most of its work.
 #![tactic(auto)]
 
-ghost use Rattle.std.specs.Prelude.{◌≡◌, false, true};
+ghost use Rattle.std.specs.Prelude.{◌≡◌, false, map, string_bytes, true};
 ghost use Rattle.command_run.specs.Call.{IsAnswerStatus};
+ghost use Rattle.friday_app.specs.Command.{command_of};
+ghost use Rattle.friday_app.specs.Run.{IsExactUsage};
 
 use fri_outside::{Closed, Console, ReaderSource, RealFiles, WriterSink};
 use friday_app::{Status, friday};
@@ -49,7 +51,10 @@ fn status_once_closed(status: Status, closed: Closed) -> Status
 // The device that takes the place of a standard stream that is closed.
 const NULL: &str = "/dev/null";
 
-fn run<R: Files + Input + Print + AllocGlobal>(rt: &R, words: &[String]) -> Status {
+// Runs what all these words say: they name no command exactly if the status says so, but for a fault or want of memory.
+fn run<R: Files + Input + Print + AllocGlobal>(rt: &R, words: &[String]) -> Status
+    ensures usage { IsExactUsage (command_of (map string_bytes words.now)) result }
+{
     // The system gives a file the lowest free descriptor. Where standard input, output or error was closed, one of these
     // takes its descriptor, so that no log or image gets what is printed: a write to them fails, since they are for reading.
     let _input = fs::open(rt, NULL);

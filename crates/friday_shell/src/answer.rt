@@ -19,7 +19,7 @@ use fri_text::Text;
 use group_state::Group;
 use group_texts::{push_event_line, push_position};
 use shell_lines::{DebuggerCommand, LineRefusal, refused};
-use shell_points::Trigger;
+use shell_points::{Trigger, WalkEnd};
 use std::alloc::{AllocError, Global};
 use std::sync::ledger::Ledger;
 use watch_expr::Steps;
@@ -146,7 +146,7 @@ fn go_there<'m, 'a, L: Ledger>(
         DebuggerCommand::Step(count) => step(alloc, group, *count),
         DebuggerCommand::Back(count) => back(alloc, group, *count),
         DebuggerCommand::Events(count) => last_events(alloc, group, *count),
-        DebuggerCommand::Rcontinue => kept.points.walk_back(alloc, group, steps),
+        DebuggerCommand::Rcontinue => return_back(alloc, group, kept, steps),
         _ => unreachable!(),
     }
 }
@@ -235,17 +235,33 @@ fn go_on<'m, 'a, L: Ledger>(
         made,
         variables,
     } = kept;
-    let walked = points.walk(alloc, group, variables, most, steps)?;
+    let WalkEnd {
+        group,
+        variables,
+        mut text,
+    } = points.walk(alloc, group, variables, most, steps)?;
+    push_position(&mut text, &group)?;
     let kept = PointsAndVariables {
         points,
         made,
-        variables: walked.variables,
+        variables,
     };
-    let state = State {
-        group: walked.group,
-        kept,
-    };
-    Ok((state, walked.text))
+    Ok((State { group, kept }, text))
+}
+
+// Goes back to where a point fired last.
+fn return_back<'m, 'a, L: Ledger>(
+    alloc: Global,
+    group: Group<'m, 'a>,
+    kept: &PointsAndVariables,
+    steps: &mut Steps<L>,
+) -> Result<(Group<'m, 'a>, Text), AllocError>
+    ensures answer { IfOk result (λ went. PerformsCommand (command_answer (state_with group.entry kept.now) [] Rcontinue) (state_with went.0 kept.now) went.1) }
+    ensures ticks { OnOk result (steps.new ≡ steps.old + command_ticks (state_with group.entry kept.now) Rcontinue 0) }
+{
+    let (group, mut text) = kept.points.walk_back(alloc, group, steps)?;
+    push_position(&mut text, &group)?;
+    Ok((group, text))
 }
 
 // The last events up to the position, which are made once more.

@@ -1,5 +1,5 @@
 // Watches over the logs of two processes, and how often they load.
-ghost use Rattle.std.specs.Prelude.{◌≡◌, ◌<◌, ◌+◌, ◌-◌, IfOk, OnOk, List};
+ghost use Rattle.std.specs.Prelude.{◌≡◌, ◌<◌, ◌+◌, ◌-◌, All, IfOk, List};
 ghost use Rattle.group_state.specs.Nodes.{nodes_at};
 ghost use Rattle.log_pairs.specs.Pairs.{Loaded as LoadedOf};
 ghost use Rattle.log_pairs.specs.Meanings.{AreLoadedPairs, AreOneGroup};
@@ -11,7 +11,7 @@ use fri_text::Text;
 use friday_shell::Session;
 use group_state::Group;
 use log_pairs::{Loaded, Pair};
-use page_watch::Watch;
+use page_watch::Watches;
 use shared_module::SharedModule;
 use std::alloc::{AllocError, Global};
 use std::marker::Brand;
@@ -122,38 +122,38 @@ fn next<'m>(group: Group<'m, 'm>) -> Result<Group<'m, 'm>, Fail>
     }
 }
 
-// Adds whether the watch loads after the event that was made last.
+// The watches after the event that was made last. Whether they loaded is added.
 fn add_load<L: Ledger>(
     alloc: Global,
     group: &Group<'_, '_>,
-    watch: &mut Watch,
+    watches: Watches,
     steps: &mut Steps<L>,
     loads: &mut Vec<bool>,
-) -> Result<(), AllocError>
+) -> Result<Watches, AllocError>
     requires position { 0 < group.now.at }
-    requires stands { WatchStands watch.old (nodes_at (record { start = group.now.start; at = group.now.at - 1 })) }
-    ensures { OnOk result (WatchStands watch.new (nodes_at group.now)) }
+    requires stand { All (λ w. WatchStands w (nodes_at (record { start = group.now.start; at = group.now.at - 1 }))) watches }
+    ensures { IfOk result (λ watches. All (λ w. WatchStands w (nodes_at group.now)) watches) }
 {
     let before = group.work().loads;
-    watch.after_event(alloc, group, steps)?;
+    let (watches, _) = watches.after_event(alloc, group, steps)?;
     loads.push(group.work().loads != before)?;
-    Ok(())
+    Ok(watches)
 }
 
-// The group after its next event, over which the watch stands.
+// The group after its next event, over which the watches stand.
 fn step<'m, L: Ledger>(
     alloc: Global,
     group: Group<'m, 'm>,
-    watch: &mut Watch,
+    watches: Watches,
     steps: &mut Steps<L>,
     loads: &mut Vec<bool>,
-) -> Result<Group<'m, 'm>, Fail>
-    requires { WatchStands watch.old (nodes_at group) }
-    ensures { IfOk result (λ next. WatchStands watch.new (nodes_at next)) }
+) -> Result<(Group<'m, 'm>, Watches), Fail>
+    requires { All (λ w. WatchStands w (nodes_at group)) watches }
+    ensures { IfOk result (λ next. All (λ w. WatchStands w (nodes_at next.0)) next.1) }
 {
     let next = next(group)?;
-    add_load(alloc, &next, watch, steps, loads)?;
-    Ok(next)
+    let watches = add_load(alloc, &next, watches, steps, loads)?;
+    Ok((next, watches))
 }
 
 // Whether the watch loads at each position.
@@ -167,12 +167,20 @@ fn begin_watch<L: Ledger>(
     group: &Group<'_, '_>,
     steps: &mut Steps<L>,
     loads: &mut Vec<bool>,
-) -> Result<Watch, Fail>
-    ensures { IfOk result (λ watch. WatchStands watch (nodes_at group.now)) }
+) -> Result<Watches, Fail>
+    ensures { IfOk result (λ watches. All (λ w. WatchStands w (nodes_at group.now)) watches) }
 {
-    let watch = Watch::new(alloc, summed(alloc)?, group, steps)?;
+    let watches = Watches::new(alloc).with(alloc, summed(alloc)?, group, steps)?;
     loads.push(group.work().loads > 0)?;
-    Ok(watch)
+    Ok(watches)
+}
+
+// The value of the one watch.
+fn value_of(watches: &Watches) -> Result<Option<i64>, Fail> {
+    if watches.len() != 1 {
+        return Err("not one watch".into());
+    }
+    Ok(watches.value(0))
 }
 
 // The watch's last value, after as many positions as there are in `LOADS`.
@@ -182,12 +190,14 @@ fn walk<'m, L: Ledger>(
     steps: &mut Steps<L>,
     loads: &mut Vec<bool>,
 ) -> Result<Option<i64>, Fail> {
-    let mut watch = begin_watch(alloc, &group, steps, loads)?;
+    let mut watches = begin_watch(alloc, &group, steps, loads)?;
     let mut group = group;
     'events: for _ in 1..LOADS.len() {
-        group = step(alloc, group, &mut watch, steps, loads)?;
+        let (next, after) = step(alloc, group, watches, steps, loads)?;
+        group = next;
+        watches = after;
     }
-    Ok(watch.value())
+    value_of(&watches)
 }
 
 fn assert_touched<'m, L: Ledger>(

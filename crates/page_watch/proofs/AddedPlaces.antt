@@ -1,5 +1,5 @@
 -- One place more among those of several nodes.
-use Rattle.std.proofs.Common.{◌≡◌, ◌⊎◌, ℕ, zero, suc, ◌+◌, ◌<◌, Bool, true, false, List, [], ◌∷◌, ◌++◌, drop, get_or, length, set, take, Result, Ok, Err, Some, inl, inr, refl, sym, ap, ◌∙◌, add-one, arith}
+use Rattle.std.proofs.Common.{◌≡◌, ℕ, zero, suc, ◌+◌, ◌<◌, Bool, true, false, List, [], ◌∷◌, drop, get_or, length, set, take, Result, Ok, Err, Some, inl, inr, refl, sym, ap, ◌∙◌, add-one, arith}
 use Rattle.std.proofs.lemmas.Bool.Decides.{nat_tests}
 use Rattle.std.proofs.lemmas.List.Folds.{list_all-append, list_any-append, list_any_more}
 use Rattle.std.proofs.Math.Bool.{or_assoc}
@@ -8,7 +8,7 @@ use Rattle.std.specs.List.{list_all, list_any}
 use Rattle.watch_expr.specs.declared.reads.Place.{Place}
 use Rattle.watch_expr.specs.Reads.{is_low_place}
 use Rattle.page_watch.specs.declared.places.NodePlaces.{NodePlaces}
-use Rattle.page_watch.specs.inside.Places.{AddsPlace, AreUnion, CoversPlaces, is_in_order, places_in}
+use Rattle.page_watch.specs.inside.Places.{AddsPlace, AreUnion, is_in_order, places_in}
 use Rattle.page_watch.specs.Touch.{node_of}
 use Rattle.page_watch.proofs.OneNode.{and-true}
 

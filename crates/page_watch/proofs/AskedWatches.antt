@@ -176,9 +176,6 @@ expression_by : (w : Watched) (nodes : List Node) (b : Bool) → (cond b (evalua
 expression_by w nodes true = refl
 expression_by w nodes false = refl
 
-pub same_expression : (marks : Place → ℕ) (at : ℕ) (nodes : List Node) (w after : Watched) → after ≡ watch_after_event marks at nodes w → after.expression ≡ w.expression
-same_expression marks at nodes w after is = ap (λ (v : Watched). v.expression) is ∙ expression_by w nodes (meets marks at w.places)
-
 pub same_expressions : (marks : Place → ℕ) (at : ℕ) (nodes : List Node) (ws : List Watched) → map (λ (w : Watched). w.expression) (map (watch_after_event marks at nodes) ws) ≡ map (λ (w : Watched). w.expression) ws
 same_expressions marks at nodes [] = refl
 same_expressions marks at nodes (w ∷ ws) =

@@ -4,7 +4,7 @@ use Rattle.std.proofs.lemmas.Bool.Decides.{nat_tests}
 use Rattle.std.specs.Prelude.{nat_eq}
 use Rattle.std.specs.List.{AllByRecursion}
 use Rattle.watch_expr.specs.declared.reads.Place.{Place}
-use Rattle.watch_expr.specs.Reads.{ReadsTell, SameAtPlace, no_variables, reads_of_expression}
+use Rattle.watch_expr.specs.Reads.{ReadsTell, SameAtPlace, reads_of_expression}
 use Rattle.watch_expr.specs.View.{Node}
 use Rattle.page_watch.specs.Touch.{MarksTell, meets}
 use Rattle.page_watch.specs.Watched.{WatchStands, Watched}

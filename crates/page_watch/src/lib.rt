@@ -3,11 +3,11 @@
 //! A `TouchView` tells the state at its position, and the last position at which an event touched each place. Contracts
 //! see the states at all positions up to its own and the mark of each place, tied by `MarksTell` of `specs/Touch`: what the
 //! last event did not touch is as it was just before. Contracts see a `Watch` as its expression with a value and the places
-//! that it was read from (`specs/Watched`); it `WatchStands` for a state where both are those of the expression there.
+//! that it was read from (`specs/Watched`); it `WatchStands` for a state if both are those of the expression there.
 //!
-//! `Watch::after_event` is promised to leave the watch standing for the state at the view's position, to answer exactly
-//! where the value changed, and to evaluate, which ticks the counter, exactly where a place that was read has the position's
-//! mark. Whoever moves the view by more than one position makes a new watch.
+//! `Watches::after_event` is promised to leave each watch standing for the state at the view's position, and to evaluate,
+//! which ticks the counter, exactly those of which a place that was read has the position's mark. Whoever moves the view by
+//! more than one position makes new watches.
 //! Inside is how the places of watches are kept (`specs/inside/Places`).
 #![tactic(auto)]
 
@@ -18,5 +18,5 @@ mod watch;
 mod watches;
 
 pub use view::TouchView;
-pub use watch::{Change, Watch, is_same_value};
+pub use watch::is_same_value;
 pub use watches::Watches;

@@ -7,7 +7,6 @@ use Rattle.group_state.specs.declared.event.GroupEvent.{GroupEvent}
 use Rattle.group_state.specs.Moves.{IsAtPosition, GroupMoves}
 use Rattle.group_state.specs.Place.{GroupPlace, events_of_replays}
 use Rattle.proc_replay.specs.Replaying.{Replaying}
-use Rattle.group_texts.specs.Texts.{position_line}
 use Rattle.shell_points.specs.declared.point.Point.{Point as Held}
 use Rattle.shell_points.specs.declared.back.Said.{Said}
 use Rattle.shell_points.specs.Firing.{firing_line, firing_lines, has_due_point, is_due_point, place_at, point_said_at}
@@ -118,7 +117,7 @@ front_is start ps (suc k) count is =
     ap (λ (n : ℕ). return_from (place_at start (suc n)) ps) same
 
 pub returns_there : (first new : GroupPlace) (ps : List Point) (count : ℕ) (r : Return) (text : List ℕ) → count ≡ first.at - 1 → r ≡ return_from (place_at first.start (suc count)) ps
-    → new ≡ place_at first.start r.at → text ≡ r.text ++ position_line new → PointsReturn first ps new text
+    → new ≡ place_at first.start r.at → text ≡ r.text → PointsReturn first ps new text
 returns_there first new ps count r text front is came says =
     let whole : r ≡ return_from first ps = is ∙ front_is first.start ps first.at count front in
-    record { place = came ∙ ap (λ (w : Return). place_at first.start w.at) whole; text_is = says ∙ ap (λ (w : Return). w.text ++ position_line new) whole }
+    record { place = came ∙ ap (λ (w : Return). place_at first.start w.at) whole; text_is = says ∙ ap (λ (w : Return). w.text) whole }

@@ -1,9 +1,8 @@
 -- The trigger and the condition of a point of the code, and where the walks of the code end.
-use Rattle.std.specs.Prelude.{◌≡◌, ℕ, List, ◌++◌, Option, option_map}
+use Rattle.std.specs.Prelude.{◌≡◌, ℕ, List, Option, option_map}
 use Rattle.expression_text.specs.declared.expr.Expr.{Expr}
 use Rattle.watch_expr.specs.Expression.{Expression, expression_of}
 use Rattle.group_state.specs.Place.{GroupPlace}
-use Rattle.group_texts.specs.Texts.{position_line}
 use Rattle.embed_cmds.specs.Variables.{Variable}
 use Rattle.shell_points.specs.declared.point.Trigger.{Trigger as HeldTrigger}
 use Rattle.shell_points.specs.declared.point.Trigger.TheVariants as held
@@ -24,9 +23,9 @@ held_condition x = option_map expression_of x
 pub record PointsWalk (old : GroupPlace) (points : List Point) (before : List Variable) (most : Option ℕ) (done : WalkEnd) : Type 0 where
   pub place : done.group ≡ place_at old.start (walk_from old points before most).at
   pub variables : done.variables ≡ (walk_from old points before most).variables
-  pub text_is : done.text ≡ (walk_from old points before most).text ++ position_line done.group
+  pub text_is : done.text ≡ (walk_from old points before most).text
 
 -- a walk back from a place ended where it ends
 pub record PointsReturn (old : GroupPlace) (points : List Point) (new : GroupPlace) (text : List ℕ) : Type 0 where
   pub place : new ≡ place_at old.start (return_from old points).at
-  pub text_is : text ≡ (return_from old points).text ++ position_line new
+  pub text_is : text ≡ (return_from old points).text

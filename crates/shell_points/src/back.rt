@@ -17,12 +17,11 @@ use crate::watching::Watching;
 use embed_cmds::has_stop;
 use fri_text::Text;
 use group_state::Group;
-use group_texts::push_position;
 use std::alloc::{AllocError, Global};
 use std::sync::ledger::Ledger;
 use watch_expr::Steps;
 
-/// Where a walk back ends, and what it says before the line of the position.
+/// Where a walk back ends, and what points say there.
 #[derive(Drop)]
 pub(crate) struct Return {
     at: u64,
@@ -49,9 +48,8 @@ pub(crate) fn walk_back<'m, 'a, L: Ledger>(
     let count = group.position().saturating_sub(1);
     let (group, _) = group.goto(alloc, 0)?;
     let (group, last) = last_firing(alloc, group, points, count, steps)?;
-    let Return { at, mut text } = last;
+    let Return { at, text } = last;
     let (group, _) = group.goto(alloc, at)?;
-    push_position(&mut text, &group)?;
     Ok((group, text))
 }
 

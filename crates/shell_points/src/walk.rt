@@ -14,7 +14,6 @@ use crate::watching::Watching;
 use embed_cmds::Vars;
 use fri_text::Text;
 use group_state::Group;
-use group_texts::push_position;
 use std::alloc::{AllocError, Global};
 use std::sync::ledger::Ledger;
 use watch_expr::Steps;
@@ -22,7 +21,7 @@ use watch_expr::Steps;
 // A walk that has said so many lines pauses.
 const MOST_LINES: usize = 10_000;
 
-/// Where a walk ended, what it made of the variables, and what it said.
+/// Where a walk ended, what it made of the variables, and what points said on the way.
 #[derive(Drop)]
 pub struct WalkEnd<'m, 'a> {
     pub group: Group<'m, 'a>,
@@ -46,7 +45,6 @@ pub(crate) fn walk<'m, 'a, L: Ledger>(
     let mut variables = variables;
     let mut text = Text::new(alloc);
     let group = walk_there(alloc, group, points, &mut variables, &mut text, most, steps)?;
-    push_position(&mut text, &group)?;
     Ok(WalkEnd {
         group,
         variables,
@@ -54,7 +52,7 @@ pub(crate) fn walk<'m, 'a, L: Ledger>(
     })
 }
 
-// The group there, what programs made of the variables on the way, and what was said, but for the line of the position.
+// The group there, what programs made of the variables on the way, and what was said.
 fn walk_there<'m, 'a, L: Ledger>(
     alloc: Global,
     group: Group<'m, 'a>,

@@ -1,8 +1,8 @@
 -- Reading instructions one after the other, as a loop does, and the instructions that the program makes.
-use Rattle.std.proofs.Common.{◌≡◌, ℕ, zero, suc, ◌-◌, ◌<◌, true, false, nat_eq, List, [], ◌∷◌, ◌++◌, length, Option, Some, None, refl, sym, ap, ◌∙◌, arith, length-append}
+use Rattle.std.proofs.Common.{◌≡◌, ℕ, zero, suc, ◌-◌, ◌<◌, true, false, nat_eq, List, [], ◌∷◌, ◌++◌, length, Option, Some, None, Result, Ok, Err, refl, sym, ap, ◌∙◌, arith, length-append}
 use Rattle.std.specs.Global.{Vec}
 use Rattle.fri_bytes.specs.Laws.{ExactReaders}
-use Rattle.fri_bytes.specs.Reading.{byte_at}
+use Rattle.fri_bytes.specs.Reading.{CursorState, byte_at}
 use Rattle.wasm_types.specs.declared.code.ValType.{ValType}
 use Rattle.wasm_types.specs.declared.code.Instr.{Instr}
 use Rattle.wasm_types.specs.declared.code.Instr.TheVariants as instr
@@ -10,7 +10,7 @@ use Rattle.wasm_types.specs.Code.{Tree, Trees, Then, If, tree, trees, instructio
 use Rattle.wasm_types.specs.CodeLaws.{tree-block, tree-loop, tree-if, before-append}
 use Rattle.wasm_decode.specs.declared.error.DecodeError.{DecodeError}
 use Rattle.wasm_decode.specs.declared.error.DecodeError.TheVariants as errors
-use Rattle.wasm_decode.specs.inside.Decoding.{IsErrorOf}
+use Rattle.wasm_decode.specs.inside.Decoding.{IsErrorOf, DecodesOnto, Pushes}
 use Rattle.wasm_decode.specs.Values.{Reader, ◌>>=◌, result_type_at}
 use Rattle.wasm_decode.specs.Instrs.{EndedInstructions, whole_at, block_at, if_at, instr_at, is_end_opcode, sequence_at, levels_at}
 use Rattle.wasm_decode.proofs.ReaderSteps.{byte_takes}
@@ -41,6 +41,12 @@ pub if_made_two : (inner : Reader EndedInstructions) (opcode : ℕ) (bytes betwe
 unfolding instr_at if_at
 if_made_two inner opcode bytes between middle rest result a b last is type inside goes_on second =
     rw (is, type, inside, goes_on, second) (ap (λ (t : Tree). Some (t, rest)) (sym (tree-if result a b)))
+
+-- what was made stands behind the instructions before
+pub pushed : (before after : List Instr) (i : Instr) (result : Result (Unit {0}) DecodeError) (new : CursorState) (read : Option (Tree × List ℕ)) → Pushes before after i result → read ≡ Some (tree i, new.left) → DecodesOnto before after result new read
+pushed before after i (Ok x) new read there made = (i, there, made)
+pushed before after i (Err errors.NoMemory) new read none made = tt
+pushed before after i (Err errors.Malformed) new read none made = absurd cc
 
 -- ---- the loop
 

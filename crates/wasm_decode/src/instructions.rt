@@ -1,7 +1,8 @@
 // Instructions and expressions (WebAssembly 1.0, section 5.4).
-ghost use Rattle.std.specs.Prelude.{◌≡◌};
+ghost use Rattle.std.specs.Prelude.{◌≡◌, []};
+ghost use Rattle.wasm_types.specs.declared.code.Instr.TheVariants as instr;
 ghost use Rattle.wasm_types.specs.Code.{tree, trees};
-ghost use Rattle.wasm_decode.specs.inside.Decoding.{DecodesTo};
+ghost use Rattle.wasm_decode.specs.inside.Decoding.{DecodesTo, DecodesOnto, Pushes};
 ghost use Rattle.wasm_decode.specs.Instrs.{EndedInstructions, whole_at, control_at, variable_instr_at, memory_at, numeric_at, plain_at, instr_at, levels_at, expression_at};
 
 use crate::error::DecodeError;
@@ -12,7 +13,7 @@ use crate::types::result_type;
 use crate::vectors::{IndexEntry, vector};
 use fri_bytes::Cursor;
 use std::alloc::Global;
-use wasm_types::Instr;
+use wasm_types::{Instr, ValType};
 
 /// The levels of an expression, in which blocks nest at most 1,000 deep. This bounds the recursion too.
 const MOST_LEVELS: u32 = 1001;
@@ -27,75 +28,146 @@ const END: u8 = 0x0b;
 pub(crate) fn expression(alloc: Global, cursor: &mut Cursor) -> Result<Vec<Instr>, DecodeError>
     ensures { DecodesTo (λ v. trees v.items) result cursor.new (expression_at cursor.old.left) }
 {
-    whole(alloc, cursor, MOST_LEVELS)
+    let mut instrs = Vec::new(alloc);
+    whole(alloc, cursor, MOST_LEVELS, &mut instrs)?;
+    Ok(instrs)
 }
+
+// What reads levels puts its instructions behind those that its caller holds, and makes none itself: a level of
+// blocks then takes little of the stack.
 
 /// Instructions in less than so many levels that `END` ends.
 #[cycle(instrs)]
 #[tactic(auto, unfolding(crate::specs::Instrs::whole_at))]
-fn whole(alloc: Global, cursor: &mut Cursor, levels: u32) -> Result<Vec<Instr>, DecodeError>
-    ensures { DecodesTo (λ v. trees v.items) result cursor.new (whole_at (levels_at levels) cursor.old.left) }
+fn whole(
+    alloc: Global,
+    cursor: &mut Cursor,
+    levels: u32,
+    instrs: &mut Vec<Instr>,
+) -> Result<(), DecodeError>
+    requires { instrs.now.items ≡ [] }
+    ensures { DecodesTo (λ _. trees instrs.new.items) result cursor.new (whole_at (levels_at levels) cursor.old.left) }
 {
-    let (instrs, end) = sequence(alloc, cursor, levels)?;
+    let end = sequence(alloc, cursor, levels, instrs)?;
     if end != END {
         return Err(DecodeError::Malformed);
     }
-    Ok(instrs)
+    Ok(())
 }
 
-/// Instructions in less than so many levels, and the byte that ends them.
+/// Instructions in less than so many levels; the byte that ends them is returned.
 #[cycle(instrs)]
 fn sequence(
     alloc: Global,
     cursor: &mut Cursor,
     levels: u32,
-) -> Result<(Vec<Instr>, u8), DecodeError>
-    ensures { DecodesTo (λ x. (trees x.0.items, x.1)) result cursor.new (levels_at levels cursor.old.left) }
+    instrs: &mut Vec<Instr>,
+) -> Result<u8, DecodeError>
+    requires { instrs.now.items ≡ [] }
+    ensures { DecodesTo (λ end. (trees instrs.new.items, end)) result cursor.new (levels_at levels cursor.old.left) }
 {
     if levels == 0 {
         return Err(DecodeError::Malformed);
     }
     // An instruction takes a byte at least, since the readers are exact.
     fri_bytes::laws::exact_readers();
-    let mut instrs = Vec::new(alloc);
     loop {
         let opcode = byte(cursor)?;
         if opcode == END || opcode == ELSE {
-            return Ok((instrs, opcode));
+            return Ok(opcode);
         }
-        let next = instr(alloc, cursor, levels - 1, opcode)?;
-        instrs.push(next)?;
+        instr(alloc, cursor, levels - 1, opcode, instrs)?;
     }
 }
 
 /// An instruction after its first byte, with those inside it in less than so many levels.
 #[cycle(instrs)]
 #[tactic(auto, unfolding(crate::specs::Instrs::instr_at, crate::specs::Instrs::block_at, crate::specs::Instrs::if_at))]
-fn instr(alloc: Global, cursor: &mut Cursor, levels: u32, opcode: u8) -> Result<Instr, DecodeError>
-    ensures { DecodesTo tree result cursor.new (instr_at (levels_at levels) opcode cursor.old.left) }
+fn instr(
+    alloc: Global,
+    cursor: &mut Cursor,
+    levels: u32,
+    opcode: u8,
+    instrs: &mut Vec<Instr>,
+) -> Result<(), DecodeError>
+    ensures { DecodesOnto instrs.old.items instrs.new.items result cursor.new (instr_at (levels_at levels) opcode cursor.old.left) }
 {
     match opcode {
         0x02 => {
-            let result = result_type(cursor)?;
-            let body = whole(alloc, cursor, levels)?;
-            Ok(Instr::Block(result, body))
+            let label = result_type(cursor)?;
+            let mut body = Vec::new(alloc);
+            whole(alloc, cursor, levels, &mut body)?;
+            push_block(instrs, label, body)
         }
         0x03 => {
-            let result = result_type(cursor)?;
-            let body = whole(alloc, cursor, levels)?;
-            Ok(Instr::Loop(result, body))
+            let label = result_type(cursor)?;
+            let mut body = Vec::new(alloc);
+            whole(alloc, cursor, levels, &mut body)?;
+            push_loop(instrs, label, body)
         }
         0x04 => {
-            let result = result_type(cursor)?;
-            let (on_true, end) = sequence(alloc, cursor, levels)?;
-            if end == END {
-                return Ok(Instr::If(result, on_true, Vec::new(alloc)));
+            let label = result_type(cursor)?;
+            let mut on_true = Vec::new(alloc);
+            let end = sequence(alloc, cursor, levels, &mut on_true)?;
+            let mut on_false = Vec::new(alloc);
+            if end != END {
+                whole(alloc, cursor, levels, &mut on_false)?;
             }
-            let on_false = whole(alloc, cursor, levels)?;
-            Ok(Instr::If(result, on_true, on_false))
+            push_if(instrs, label, on_true, on_false)
         }
-        _ => plain(alloc, cursor, opcode),
+        _ => push_plain(alloc, cursor, opcode, instrs),
     }
+}
+
+#[inline(never)]
+fn push_block(
+    instrs: &mut Vec<Instr>,
+    label: Option<ValType>,
+    body: Vec<Instr>,
+) -> Result<(), DecodeError>
+    ensures { Pushes instrs.old.items instrs.new.items (instr.Block label body) result }
+{
+    instrs.push(Instr::Block(label, body))?;
+    Ok(())
+}
+
+#[inline(never)]
+fn push_loop(
+    instrs: &mut Vec<Instr>,
+    label: Option<ValType>,
+    body: Vec<Instr>,
+) -> Result<(), DecodeError>
+    ensures { Pushes instrs.old.items instrs.new.items (instr.Loop label body) result }
+{
+    instrs.push(Instr::Loop(label, body))?;
+    Ok(())
+}
+
+#[inline(never)]
+fn push_if(
+    instrs: &mut Vec<Instr>,
+    label: Option<ValType>,
+    on_true: Vec<Instr>,
+    on_false: Vec<Instr>,
+) -> Result<(), DecodeError>
+    ensures { Pushes instrs.old.items instrs.new.items (instr.If label on_true on_false) result }
+{
+    instrs.push(Instr::If(label, on_true, on_false))?;
+    Ok(())
+}
+
+#[inline(never)]
+fn push_plain(
+    alloc: Global,
+    cursor: &mut Cursor,
+    opcode: u8,
+    instrs: &mut Vec<Instr>,
+) -> Result<(), DecodeError>
+    ensures { DecodesOnto instrs.old.items instrs.new.items result cursor.new (plain_at opcode cursor.old.left) }
+{
+    let next = plain(alloc, cursor, opcode)?;
+    instrs.push(next)?;
+    Ok(())
 }
 
 /// An instruction with none inside it, after its first byte.

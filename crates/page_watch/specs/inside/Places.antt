@@ -1,5 +1,5 @@
 -- Places of several watches, by node.
-use Rattle.std.specs.Prelude.{◌≡◌, ◌==◌, ◌&&◌, ◌||◌, ◌⊎◌, Bool, true, false, List, [], ◌∷◌, ◌++◌}
+use Rattle.std.specs.Prelude.{◌≡◌, ◌==◌, ◌&&◌, ◌||◌, ◌⊎◌, Bool, false, List, [], ◌∷◌, ◌++◌}
 use Rattle.std.specs.List.{flat_map, list_all, list_any}
 use Rattle.watch_expr.specs.declared.reads.Place.{Place}
 use Rattle.watch_expr.specs.Reads.{is_low_place}

@@ -1,6 +1,5 @@
-use Rattle.std.proofs.Common.{◌-◌, ◌<◌, List, length, sym, ap, arith}
+use Rattle.std.proofs.Common.{◌-◌, ◌<◌, length, sym, arith}
 use Rattle.page_watch.specs.Touch.{meets}
-use Rattle.page_watch.specs.Watched.{Watched}
 use Rattle.page_watch.specs.inside.Watching.{watch_after_event}
 use Rattle.page_watch.proofs.AskedWatches.{one_more, stands_here}
 use Rattle.page_watch.proofs.watches.ask_all.Goals as goal

@@ -1,4 +1,4 @@
-use Rattle.std.proofs.Common.{◌≡◌, ◌∙◌, ◌-◌, ◌≤◌, ℕ, List, length, map, suc, ap, arith}
+use Rattle.std.proofs.Common.{◌≡◌, ◌∙◌, ◌-◌, ◌≤◌, ℕ, List, length, map, suc, refl, ap, arith}
 use Rattle.proc_replay.specs.Replaying.{Replaying}
 use Rattle.group_state.specs.Place.{GroupPlace, events_of_replays}
 use Rattle.shell_points.specs.declared.point.Point.{Point as Held}
@@ -24,4 +24,4 @@ returns-clause-returns g c =
     omega (arith, last_within first.start ps count (length (events_of_replays first.start)) r within last, ap (λ (s : List Replaying). length (events_of_replays s)) walked) in
     let came : c.in_ok-group-3.group ≡ place_at first.start r.at =
     gone_to c.in_ok-group-2.group c.in_ok-group-3.group r.at c.in_ok-group-3.field-0-1 below c.in_ok-group-3.ensures ∙ ap (λ (s : List Replaying). place_at s r.at) walked in
-    returns_there first c.in_ok-group-3.group ps count r c.push_position.new.text front last came c.in_ok-push_position.ensures
+    returns_there first c.in_ok-group-3.group ps count r c.in_ok-group-2.last.text front last came refl
