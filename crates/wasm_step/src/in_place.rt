@@ -51,6 +51,11 @@ pub(crate) fn try_in_place<'m>(
         Instr::Store { opcode, offset, .. } => return Ok(done_if(write_in_place(
             thread, store, *opcode, *offset,
         )?)),
+        Instr::MemorySize => {
+            let pages = Slot::narrow(store.memory().size());
+            return Ok(done_if(thread.push_within(pages)));
+        }
+        Instr::Nop => return Ok(Some(Way::Goes)),
         Instr::Block(_, body) | Instr::Loop(_, body) => {
             if !thread.open_within(instr, body, *todo) {
                 return Ok(None);
