@@ -1,4 +1,5 @@
 -- What no public contract cites.
+pub mod Accesses
 pub mod Paused
 pub mod Standing
 pub mod Wanted

@@ -1,11 +1,14 @@
 // Instructions on globals and on the memory.
 ghost use Rattle.std.specs.Prelude.{◌≡◌, ◌+◌, IfOk, IfSome, IsTrue, OnOk, Some, false, if◌then◌else◌};
+ghost use Rattle.wasm_values.specs.Access.{load_width, store_width};
+ghost use Rattle.wasm_step.specs.inside.Accesses.{Loads, Stores};
 ghost use Rattle.guest_memory.specs.LittleEndian.{IsWidth};
 ghost use Rattle.wasm_stack.specs.Answer.{after_of};
 ghost use Rattle.wasm_stack.specs.Limits.{ThreadWithin};
 ghost use Rattle.wasm_stack.specs.After.{Goes, Sticks, Stops};
 ghost use Rattle.wasm_step.specs.Reduce.{global_get, global_set, grow_answer, store_stays, load, memory_grow, memory_size, write, write_at};
 
+use guest_memory::Memory;
 use std::alloc::AllocError;
 use wasm_stack::{Next, Stack};
 use wasm_store::Store;
@@ -72,16 +75,44 @@ pub(crate) fn load_in_place(thread: &mut Stack<'_>, store: &Store<'_>, op: u8, o
     let Some(Value::I32(base)) = thread.top() else {
         return false;
     };
-    let Some(width) = load_width(op) else {
-        return false;
-    };
-    let Some(n) = store.memory().load(address(base, offset), width) else {
-        return false;
-    };
-    match load_value(op, n) {
+    match loaded(store.memory(), op, address(base, offset)) {
         Some(v) => thread.put_one(v),
         None => false,
     }
+}
+
+// The operand that a load reads. The width stands in each arm, so that the opcode is looked at once.
+#[tactic(auto, using(crate::proofs::Accesses::loads_as), unfolding(wasm_values::specs::Access::load_width))]
+#[inline(always)]
+fn loaded(memory: &Memory, op: u8, addr: u64) -> Option<Slot>
+    ensures { IfSome result (λ v. Loads op addr memory.now v) }
+{
+    match op {
+        0x28 => loaded_by(memory, 0x28, addr, 4),
+        0x29 => loaded_by(memory, 0x29, addr, 8),
+        0x2C => loaded_by(memory, 0x2C, addr, 1),
+        0x2D => loaded_by(memory, 0x2D, addr, 1),
+        0x2E => loaded_by(memory, 0x2E, addr, 2),
+        0x2F => loaded_by(memory, 0x2F, addr, 2),
+        0x30 => loaded_by(memory, 0x30, addr, 1),
+        0x31 => loaded_by(memory, 0x31, addr, 1),
+        0x32 => loaded_by(memory, 0x32, addr, 2),
+        0x33 => loaded_by(memory, 0x33, addr, 2),
+        0x34 => loaded_by(memory, 0x34, addr, 4),
+        0x35 => loaded_by(memory, 0x35, addr, 4),
+        _ => None,
+    }
+}
+
+// The operand of a load of so many bytes.
+#[inline(always)]
+fn loaded_by(memory: &Memory, op: u8, addr: u64, width: u32) -> Option<Slot>
+    requires width { IsWidth width }
+    requires reads { load_width op ≡ Some width }
+    ensures { IfSome result (λ v. Loads op addr memory.now v) }
+{
+    let n = memory.load(addr, width)?;
+    load_value(op, n)
 }
 
 #[inline(always)]
@@ -100,14 +131,47 @@ pub(crate) fn write_in_place(
     let Some((Value::I32(base), v)) = thread.two() else {
         return Ok(false);
     };
-    let Some(width) = store_width(op, v) else {
-        return Ok(false);
-    };
-    if !store.write(address(base, offset), width, bits(Some(v)))? {
+    if !stored(store, op, address(base, offset), v)? {
         return Ok(false);
     }
     thread.drop_last(2);
     Ok(true)
+}
+
+// Whether a store wrote its operand. The width stands in each arm, as a load's does.
+#[tactic(auto, using(crate::proofs::Accesses::stores_as), unfolding(wasm_values::specs::Access::store_width))]
+#[inline(always)]
+fn stored(store: &mut Store<'_>, op: u8, addr: u64, v: Value) -> Result<bool, AllocError>
+    ensures goes { IfOk result (λ went. IsTrue went → Stores op addr v store.old store.new) }
+    ensures same { IfOk result (λ went. went ≡ false → store.new ≡ store.old) }
+{
+    match (op, v) {
+        (0x36, Value::I32(_)) => stored_by(store, 0x36, addr, v, 4),
+        (0x37, Value::I64(_)) => stored_by(store, 0x37, addr, v, 8),
+        (0x3A, Value::I32(_)) => stored_by(store, 0x3A, addr, v, 1),
+        (0x3B, Value::I32(_)) => stored_by(store, 0x3B, addr, v, 2),
+        (0x3C, Value::I64(_)) => stored_by(store, 0x3C, addr, v, 1),
+        (0x3D, Value::I64(_)) => stored_by(store, 0x3D, addr, v, 2),
+        (0x3E, Value::I64(_)) => stored_by(store, 0x3E, addr, v, 4),
+        _ => Ok(false),
+    }
+}
+
+// The same, by a store of so many bytes.
+#[inline(always)]
+fn stored_by(
+    store: &mut Store<'_>,
+    op: u8,
+    addr: u64,
+    v: Value,
+    width: u32,
+) -> Result<bool, AllocError>
+    requires width { IsWidth width }
+    requires writes { store_width op v ≡ Some width }
+    ensures goes { IfOk result (λ went. IsTrue went → Stores op addr v store.old store.new) }
+    ensures same { IfOk result (λ went. went ≡ false → store.new ≡ store.old) }
+{
+    store.write(addr, width, bits(Some(v)))
 }
 
 fn write_at(
