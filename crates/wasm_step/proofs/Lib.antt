@@ -7,6 +7,7 @@ pub mod EndsWithinLimits
 pub mod ThreadsFit
 pub mod InPlace
 pub mod LevelEnds
+pub mod LibraryCalls
 pub mod InstructionMarks
 pub mod Opcodes
 pub mod PlainRowsFit

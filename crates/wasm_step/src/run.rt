@@ -6,6 +6,7 @@ ghost use Rattle.wasm_step.specs.inside.Paused.{halt_of, stopped_of, settled_of,
 ghost use Rattle.wasm_step.specs.Burst.{after_step, burst, settle, spent_burst, most_instructions};
 ghost use Rattle.wasm_stack.specs.Limits.{ThreadWithin};
 
+use crate::calls::library_call;
 use crate::in_place::try_in_place;
 use crate::step::step;
 use std::alloc::AllocError;
@@ -118,6 +119,9 @@ fn burst<'m>(
             }
         }
         thread.go_to(todo);
+        if let Some(halted) = library_call(module, instr) {
+            return Ok(halted);
+        }
         match step(thread, module, store, instr)? {
             Next::Going => {}
             halted => return Ok(halted),
