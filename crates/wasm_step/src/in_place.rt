@@ -1,12 +1,14 @@
 // Instructions in place, on a thread within its limits. Where one wants memory, may pass a limit, traps or ends the
 // thread, nothing is done.
-ghost use Rattle.std.specs.Prelude.{◌≡◌, IfNone, IfOk, IfSome, None, Some, if◌then◌else◌};
+ghost use Rattle.std.specs.Prelude.{◌≡◌, ◌<◌, IfNone, IfOk, IfSome, IsTrue, None, Some, false, if◌then◌else◌, length};
 ghost use Rattle.wasm_types.specs.Code.{tree, trees};
 ghost use Rattle.wasm_types.specs.Modules.{module_of};
 ghost use Rattle.wasm_stack.specs.Answer.{way_of};
 ghost use Rattle.wasm_stack.specs.Limits.{ThreadWithin};
 ghost use Rattle.wasm_stack.specs.After.{Goes};
 ghost use Rattle.wasm_stack.specs.Thread.{with_todo};
+ghost use Rattle.wasm_stack.specs.Rows.{local_get};
+ghost use Rattle.wasm_step.specs.inside.Rules.{HasRule};
 ghost use Rattle.wasm_step.specs.Reduce.{instr_row, store_stays};
 
 use crate::calls::{call_in_place, call_indirect_in_place};
@@ -28,6 +30,7 @@ pub(crate) fn try_in_place<'m>(
 ) -> Result<Option<Way>, AllocError>
     requires same_module { module_of «module».now ≡ store.old.«module» }
     requires within { ThreadWithin thread.old }
+    requires rule { HasRule (tree instr.now) (with_todo thread.old (trees todo.old.now)) store.old }
     ensures done { IfOk result (λ row. IfSome row (λ way. instr_row (tree instr.now) (with_todo thread.old (trees todo.old.now)) store.old
         ≡ store_stays store.new (way_of way (with_todo thread.new (trees todo.new.now))))) }
     ensures within { IfOk result (λ row. row ≡ Some Way.Goes → ThreadWithin thread.new) }
@@ -35,13 +38,16 @@ pub(crate) fn try_in_place<'m>(
     ensures store { IfOk result (λ row. IfNone row (store.new ≡ store.old)) }
 {
     let way = match instr {
-        Instr::LocalGet(x) => return Ok(done_if(thread.local_get_in_place(*x as usize))),
+        Instr::LocalGet(x) => return Ok(done_if(local_get(thread, *x as usize))),
         Instr::LocalSet(x) => return Ok(done_if(thread.local_set(*x))),
         Instr::LocalTee(x) => return Ok(done_if(thread.local_tee(*x))),
         Instr::ConstI32(bits) => return Ok(done_if(thread.push_within(Slot::narrow(*bits)))),
         Instr::ConstI64(bits) => return Ok(done_if(thread.push_within(Slot::long(*bits)))),
         Instr::Op(op) => return Ok(done_if(thread.numeric_in_place(*op))),
-        Instr::DropTop => return Ok(done_if(thread.drop_top())),
+        Instr::DropTop => {
+            thread.drop_one();
+            return Ok(Some(Way::Goes));
+        }
         Instr::Select => return Ok(done_if(thread.select())),
         Instr::GlobalGet(x) => return Ok(done_if(thread.got_in_place(store.global(*x)))),
         Instr::GlobalSet(x) => return Ok(done_if(global_set(thread, store, *x))),
@@ -98,6 +104,19 @@ pub(crate) fn try_in_place<'m>(
     };
     *todo = thread.todo();
     Ok(way)
+}
+
+// A local of the frame, which has it.
+#[inline(always)]
+fn local_get(thread: &mut Stack<'_>, x: usize) -> bool
+    requires within { ThreadWithin thread.old }
+    requires has { x < length thread.old.locals }
+    ensures goes { IsTrue result → Goes thread.new ≡ local_get x thread.old }
+    ensures within { ThreadWithin thread.new }
+    ensures same { result ≡ false → thread.new ≡ thread.old }
+{
+    let v = thread.local_at(x);
+    thread.push_within(v)
 }
 
 // Going, where it was done in place.

@@ -1,6 +1,7 @@
 // Instructions on globals and on the memory.
 ghost use Rattle.std.specs.Prelude.{◌≡◌, ◌+◌, IfOk, IfSome, IsTrue, OnOk, Some, false, if◌then◌else◌};
 ghost use Rattle.wasm_values.specs.Access.{load_width, store_width};
+ghost use Rattle.wasm_step.specs.inside.Rules.{HasAddress};
 ghost use Rattle.wasm_step.specs.inside.Accesses.{Loads, Stores};
 ghost use Rattle.guest_memory.specs.LittleEndian.{IsWidth};
 ghost use Rattle.wasm_stack.specs.Answer.{after_of};
@@ -67,13 +68,14 @@ pub(crate) fn load(thread: &mut Stack<'_>, store: &Store<'_>, op: u8, offset: u3
 #[tactic(auto, using(crate::proofs::Accesses::load_by, crate::proofs::InPlace::within_one))]
 #[inline(always)]
 pub(crate) fn load_in_place(thread: &mut Stack<'_>, store: &Store<'_>, op: u8, offset: u32) -> bool
-    requires { ThreadWithin thread.old }
+    requires within { ThreadWithin thread.old }
+    requires address { HasAddress thread.old }
     ensures goes { IsTrue result → Goes thread.new ≡ load op offset store.now.memory thread.old }
     ensures within { ThreadWithin thread.new }
     ensures same { result ≡ false → thread.new ≡ thread.old }
 {
-    let Some(Value::I32(base)) = thread.top() else {
-        return false;
+    let Value::I32(base) = thread.last().value() else {
+        unreachable!()
     };
     match loaded(store.memory(), op, address(base, offset)) {
         Some(v) => thread.put_one(v),

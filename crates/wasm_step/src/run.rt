@@ -4,6 +4,7 @@ ghost use Rattle.wasm_types.specs.Modules.{module_of};
 ghost use Rattle.wasm_stack.specs.Answer.{after_of};
 ghost use Rattle.wasm_step.specs.inside.Paused.{halt_of, stopped_of, settled_of, stopped_result};
 ghost use Rattle.wasm_step.specs.Burst.{after_step, burst, settle, spent_burst, most_instructions};
+ghost use Rattle.wasm_step.specs.inside.Rules.{NeverSticks};
 ghost use Rattle.wasm_stack.specs.Limits.{ThreadWithin};
 
 use crate::calls::library_call;
@@ -84,7 +85,8 @@ fn burst<'m>(
     module: &'m ValidModule,
     store: &mut Store<'m>,
 ) -> Result<Next, AllocError>
-    requires { module_of «module».now ≡ store.old.«module» }
+    requires same_module { module_of «module».now ≡ store.old.«module» }
+    requires never_sticks { NeverSticks thread.old store.old }
     ensures { IfOk result (λ n. record { stop = halt_of (after_of n thread.new); store = store.new } ≡ burst most_instructions thread.old store.old) }
 {
     let mut left = MOST_INSTRUCTIONS;
@@ -153,7 +155,8 @@ pub(crate) fn run<'m>(
     module: &'m ValidModule,
     store: &mut Store<'m>,
 ) -> Result<Stopped, AllocError>
-    requires { module_of «module».now ≡ store.old.«module» }
+    requires same_module { module_of «module».now ≡ store.old.«module» }
+    requires never_sticks { NeverSticks thread.old store.old }
     ensures { IfOk result (λ stopped. stopped_result stopped thread.new store.new ≡ burst most_instructions thread.old store.old) }
 {
     let halted = burst(thread, module, store)?;

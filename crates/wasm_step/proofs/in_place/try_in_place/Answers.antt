@@ -14,7 +14,9 @@ use Rattle.wasm_step.specs.Reduce.{call, instr_row, store_stays}
 use Rattle.wasm_stack.specs.Thread.{Thread}
 use Rattle.wasm_step.proofs.EndsWithinLimits.{StaysWithin, branch_within, branch_if_within, branch_table_within, return_within}
 use Rattle.wasm_step.proofs.LevelEnds.{row_enters, row_chooses}
+use Rattle.wasm_step.specs.inside.Rules.{HasRule}
 use Rattle.wasm_step.proofs.BurstTodo.{todo_within}
+use Rattle.wasm_step.proofs.RuledThreads.{has_address, has_local, has_operand}
 use Rattle.wasm_step.proofs.in_place.try_in_place.Goals as goal
 use Rattle.wasm_step.proofs.in_place.try_in_place.Goals.{in-Br, in-BrIf, in-BrTable, in-Return, in-CallFunc, in-CallIndirect}
 
@@ -23,6 +25,21 @@ way_within : (o : Option Way) (w : Way) (u v : Thread) (a : AfterStep) → o ≡
 way_within o way.Goes u v a is same e stays goes = subst (λ (t : Thread). ThreadWithin t) (sym same) (stays v (sym e))
 way_within o way.Ends u v a is same e stays goes = cc
 way_within o way.Sticks u v a is same e stays goes = cc
+
+pub local_get-requires-clause-has : goal.local_get-requires-clause-has
+local_get-requires-clause-has c =
+    let t = record c.args.thread.now { todo = trees c.args.todo.now.now } in
+    has_local c.in-LocalGet.x t c.args.store.now (subst (λ i. HasRule (tree i) t c.args.store.now) c.in-LocalGet.is c.requires.rule)
+
+pub drop_one-requires : goal.drop_one-requires
+drop_one-requires c =
+    let t = record c.args.thread.now { todo = trees c.args.todo.now.now } in
+    has_operand t c.args.store.now (subst (λ i. HasRule (tree i) t c.args.store.now) c.in-DropTop.is c.requires.rule)
+
+pub load_in_place-requires-clause-address : goal.load_in_place-requires-clause-address
+load_in_place-requires-clause-address c =
+    let t = record c.args.thread.now { todo = trees c.args.todo.now.now } in
+    has_address c.in-Load.opcode c.in-Load.offset t c.args.store.now.memory (subst (λ i. HasRule (tree i) t c.args.store.now) c.in-Load.is c.requires.rule)
 
 module _ (c : goal.After-todo-2) where
   abbrev i : Instr

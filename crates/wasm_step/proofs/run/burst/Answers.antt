@@ -13,7 +13,7 @@ use Rattle.wasm_step.proofs.LevelEnds.{depth_within, fewer_left}
 use Rattle.wasm_step.proofs.InPlace.{limited_within}
 use Rattle.wasm_step.proofs.LevelRuns.{burst_spent, way_halts}
 use Rattle.wasm_stack.specs.declared.halt.Way.{Way}
-use Rattle.wasm_step.proofs.BurstTodo.{calls_library, closing, ends, ends_here, full_goes, full_stops, returning, row_goes, row_stops}
+use Rattle.wasm_step.proofs.BurstTodo.{calls_library, closing, ends, ends_here, full_goes, full_stops, has_rule, returning, row_goes, row_stops}
 use Rattle.wasm_step.proofs.run.burst.Goals as goal
 
 pub steps-preserved-then-close : goal.steps-preserved-then-close
@@ -43,6 +43,10 @@ returns-in_default-return_from c =
     let goes = returning t (way_of c.return_from.result u) c.if-close.ensures.closed (c.return_from.ensures ∙ ap leave_frame (c.if-close.ensures.same refl)) in
     let stops = sym goes ∙ way_halts c.return_from.result c.next.result u u (c.next.ensures u) c.in_default-return_from.not-Goes in
     sym (ends_here c.steps.todo.now t c.in_default-todo.len_below c.steps.left c.steps.store _ stops) ∙ c.steps.invariant.same
+
+pub try_in_place-requires-clause-rule : goal.try_in_place-requires-clause-rule
+try_in_place-requires-clause-rule c =
+    has_rule c.steps.todo.now c.instr-item.result c.steps.thread c.in-len1-up.len_at_least c.instr-item.is c.steps.left c.steps-test.true c.steps.store c.args.thread.now c.args.store.now c.steps.invariant.same c.requires.never_sticks
 
 pub steps-smaller-in-Goes-way : goal.steps-smaller-in-Goes-way
 steps-smaller-in-Goes-way c =
