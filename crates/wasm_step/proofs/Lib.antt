@@ -11,6 +11,7 @@ pub mod LibraryCalls
 pub mod InstructionMarks
 pub mod Opcodes
 pub mod PlainRowsFit
+pub mod RuledNumbers
 pub mod RuledThreads
 pub mod LevelRuns
 pub mod SameModule

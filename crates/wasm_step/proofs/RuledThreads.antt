@@ -11,7 +11,7 @@ use Rattle.wasm_stack.specs.After.{Goes, Sticks, Stops, on_i32, on_top}
 use Rattle.wasm_stack.specs.Rows.{drop_top, got}
 use Rattle.wasm_stack.specs.Thread.{Thread, without_operands}
 use Rattle.wasm_step.specs.Reduce.{load, load_at}
-use Rattle.wasm_step.specs.inside.Rules.{HasAddress, HasRule}
+use Rattle.wasm_step.specs.inside.Rules.{HasI32, HasRule}
 use Rattle.wasm_values.specs.Access.{load_width}
 
 pub has_local : (x : ℕ) (t : Thread) (g : Store) → HasRule (LocalGet x) t g → x < length t.locals
@@ -35,10 +35,10 @@ dropped t some = by_stack t.stack refl some
     by_stack [] e some = absurd (omega (arith, some))
     by_stack (v ∷ rest) e some = refl
 
-pub has_address : (op offset : ℕ) (t : Thread) (memory : Memory) → (load op offset memory t ≡ Stops Sticks → ⊥) → HasAddress t
+pub has_address : (op offset : ℕ) (t : Thread) (memory : Memory) → (load op offset memory t ≡ Stops Sticks → ⊥) → HasI32 t
 has_address op offset t memory rule = by_stack t.stack refl
   where
-    by_stack : (s : List Value) → t.stack ≡ s → HasAddress t
+    by_stack : (s : List Value) → t.stack ≡ s → HasI32 t
     by_stack [] e = absurd (rule (ap (λ s. on_top s t (λ v u. on_i32 v (λ base. load_at (load_width op) op (base + offset) memory u))) e))
     by_stack (I64 x ∷ rest) e = absurd (rule (ap (λ s. on_top s t (λ v u. on_i32 v (λ base. load_at (load_width op) op (base + offset) memory u))) e))
     by_stack (I32 x ∷ rest) e = (x, e ∙ ap (λ rest. I32 x ∷ rest) (sym (ap (drop 1) e)))

@@ -13,6 +13,7 @@ ghost use Rattle.wasm_step.specs.Reduce.{instr_row, store_stays};
 
 use crate::calls::{call_in_place, call_indirect_in_place};
 use crate::memory::{global_set, load_in_place, write_in_place};
+use crate::numbers::numeric_in_place;
 use std::alloc::AllocError;
 use wasm_stack::{Stack, Way};
 use wasm_store::Store;
@@ -43,7 +44,7 @@ pub(crate) fn try_in_place<'m>(
         Instr::LocalTee(x) => return Ok(done_if(thread.local_tee(*x))),
         Instr::ConstI32(bits) => return Ok(done_if(thread.push_within(Slot::narrow(*bits)))),
         Instr::ConstI64(bits) => return Ok(done_if(thread.push_within(Slot::long(*bits)))),
-        Instr::Op(op) => return Ok(done_if(thread.numeric_in_place(*op))),
+        Instr::Op(op) => return Ok(done_if(numeric_in_place(thread, *op))),
         Instr::DropTop => {
             thread.drop_one();
             return Ok(Some(Way::Goes));

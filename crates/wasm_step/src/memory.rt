@@ -1,7 +1,7 @@
 // Instructions on globals and on the memory.
 ghost use Rattle.std.specs.Prelude.{◌≡◌, ◌+◌, IfOk, IfSome, IsTrue, OnOk, Some, false, if◌then◌else◌};
 ghost use Rattle.wasm_values.specs.Access.{load_width, store_width};
-ghost use Rattle.wasm_step.specs.inside.Rules.{HasAddress};
+ghost use Rattle.wasm_step.specs.inside.Rules.{HasI32};
 ghost use Rattle.wasm_step.specs.inside.Accesses.{Loads, Stores};
 ghost use Rattle.guest_memory.specs.LittleEndian.{IsWidth};
 ghost use Rattle.wasm_stack.specs.Answer.{after_of};
@@ -9,6 +9,7 @@ ghost use Rattle.wasm_stack.specs.Limits.{ThreadWithin};
 ghost use Rattle.wasm_stack.specs.After.{Goes, Sticks, Stops};
 ghost use Rattle.wasm_step.specs.Reduce.{global_get, global_set, grow_answer, store_stays, load, memory_grow, memory_size, write, write_at};
 
+use crate::numbers::narrow;
 use guest_memory::Memory;
 use std::alloc::AllocError;
 use wasm_stack::{Next, Stack};
@@ -69,14 +70,12 @@ pub(crate) fn load(thread: &mut Stack<'_>, store: &Store<'_>, op: u8, offset: u3
 #[inline(always)]
 pub(crate) fn load_in_place(thread: &mut Stack<'_>, store: &Store<'_>, op: u8, offset: u32) -> bool
     requires within { ThreadWithin thread.old }
-    requires address { HasAddress thread.old }
+    requires address { HasI32 thread.old }
     ensures goes { IsTrue result → Goes thread.new ≡ load op offset store.now.memory thread.old }
     ensures within { ThreadWithin thread.new }
     ensures same { result ≡ false → thread.new ≡ thread.old }
 {
-    let Value::I32(base) = thread.last().value() else {
-        unreachable!()
-    };
+    let base = narrow(thread.last().value());
     match loaded(store.memory(), op, address(base, offset)) {
         Some(v) => thread.put_one(v),
         None => false,

@@ -1,7 +1,9 @@
 -- That there is a rule for what comes next.
 use Rattle.std.specs.Prelude.{◌≡◌, ℕ, ◌∷◌, drop}
-use Rattle.wasm_types.specs.declared.code.Value.TheVariants.{I32}
+use Rattle.wasm_types.specs.declared.code.Value.{Value}
+use Rattle.wasm_types.specs.declared.code.Value.TheVariants.{I32, I64}
 use Rattle.wasm_types.specs.Code.{Tree}
+use Rattle.wasm_values.specs.Numeric.{IsNone, binary_32, binary_64, unary_32, unary_64}
 use Rattle.wasm_store.specs.Store.{Store}
 use Rattle.wasm_stack.specs.After.{Sticks, Stops}
 use Rattle.wasm_stack.specs.Thread.{Thread}
@@ -16,6 +18,37 @@ NeverSticks t g = (burst most_instructions t g).stop ≡ Sticks → ⊥
 abbrev pub HasRule : Tree → Thread → Store → Type 0
 HasRule i t g = (instr_row i t g).after ≡ Stops Sticks → ⊥
 
--- the topmost operand can be an address
-abbrev pub HasAddress : Thread → Type 0
-HasAddress t = (base : ℕ) × (t.stack ≡ I32 base ∷ drop 1 t.stack)
+-- ---- values of a type
+
+abbrev pub IsI32 : Value → Type 0
+IsI32 v = (x : ℕ) × (v ≡ I32 x)
+
+abbrev pub IsI64 : Value → Type 0
+IsI64 v = (x : ℕ) × (v ≡ I64 x)
+
+-- the topmost operand, and the two topmost
+abbrev pub HasI32 : Thread → Type 0
+HasI32 t = (x : ℕ) × (t.stack ≡ I32 x ∷ drop 1 t.stack)
+
+abbrev pub HasI64 : Thread → Type 0
+HasI64 t = (x : ℕ) × (t.stack ≡ I64 x ∷ drop 1 t.stack)
+
+abbrev pub HasTwoI32 : Thread → Type 0
+HasTwoI32 t = (x : ℕ) × ((y : ℕ) × (t.stack ≡ I32 y ∷ (I32 x ∷ drop 2 t.stack)))
+
+abbrev pub HasTwoI64 : Thread → Type 0
+HasTwoI64 t = (x : ℕ) × ((y : ℕ) × (t.stack ≡ I64 y ∷ (I64 x ∷ drop 2 t.stack)))
+
+-- ---- opcodes of instructions that have no rule for operands of the other type
+
+abbrev pub OneIsI32 : ℕ → Type 0
+OneIsI32 op = (x : ℕ) → unary_64 op x ≡ IsNone
+
+abbrev pub OneIsI64 : ℕ → Type 0
+OneIsI64 op = (x : ℕ) → unary_32 op x ≡ IsNone
+
+abbrev pub TwoAreI32 : ℕ → Type 0
+TwoAreI32 op = (x y : ℕ) → binary_64 op x y ≡ IsNone
+
+abbrev pub TwoAreI64 : ℕ → Type 0
+TwoAreI64 op = (x y : ℕ) → binary_32 op x y ≡ IsNone

@@ -16,6 +16,7 @@ use Rattle.wasm_step.proofs.EndsWithinLimits.{StaysWithin, branch_within, branch
 use Rattle.wasm_step.proofs.LevelEnds.{row_enters, row_chooses}
 use Rattle.wasm_step.specs.inside.Rules.{HasRule}
 use Rattle.wasm_step.proofs.BurstTodo.{todo_within}
+use Rattle.wasm_step.proofs.RuledNumbers.{sticks_anywhere}
 use Rattle.wasm_step.proofs.RuledThreads.{has_address, has_local, has_operand}
 use Rattle.wasm_step.proofs.in_place.try_in_place.Goals as goal
 use Rattle.wasm_step.proofs.in_place.try_in_place.Goals.{in-Br, in-BrIf, in-BrTable, in-Return, in-CallFunc, in-CallIndirect}
@@ -40,6 +41,12 @@ pub load_in_place-requires-clause-address : goal.load_in_place-requires-clause-a
 load_in_place-requires-clause-address c =
     let t = record c.args.thread.now { todo = trees c.args.todo.now.now } in
     has_address c.in-Load.opcode c.in-Load.offset t c.args.store.now.memory (subst (λ i. HasRule (tree i) t c.args.store.now) c.in-Load.is c.requires.rule)
+
+pub numeric_in_place-requires-clause-rule : goal.numeric_in_place-requires-clause-rule
+numeric_in_place-requires-clause-rule c =
+    let t = record c.args.thread.now { todo = trees c.args.todo.now.now } in
+    let rule = subst (λ i. HasRule (tree i) t c.args.store.now) c.in-Op.is c.requires.rule in
+    λ sticks. rule (sticks_anywhere c.in-Op.op c.args.thread.now (trees c.args.todo.now.now) sticks)
 
 module _ (c : goal.After-todo-2) where
   abbrev i : Instr
