@@ -1,13 +1,13 @@
 // Instructions in place, on a thread within its limits. Where one wants memory, may pass a limit, traps or ends the
 // thread, nothing is done.
-ghost use Rattle.std.specs.Prelude.{◌≡◌, ◌<◌, IfNone, IfOk, IfSome, IsTrue, None, Some, false, if◌then◌else◌, length};
+ghost use Rattle.std.specs.Prelude.{◌≡◌, ◌<◌, ◌≤◌, IfNone, IfOk, IfSome, IsTrue, None, Some, false, if◌then◌else◌, length};
 ghost use Rattle.wasm_types.specs.Code.{tree, trees};
 ghost use Rattle.wasm_types.specs.Modules.{module_of};
 ghost use Rattle.wasm_stack.specs.Answer.{way_of};
 ghost use Rattle.wasm_stack.specs.Limits.{ThreadWithin};
 ghost use Rattle.wasm_stack.specs.After.{Goes};
 ghost use Rattle.wasm_stack.specs.Thread.{with_todo};
-ghost use Rattle.wasm_stack.specs.Rows.{local_get};
+ghost use Rattle.wasm_stack.specs.Rows.{local_get, local_set, local_tee};
 ghost use Rattle.wasm_step.specs.inside.Rules.{HasRule};
 ghost use Rattle.wasm_step.specs.Reduce.{instr_row, store_stays};
 
@@ -40,8 +40,14 @@ pub(crate) fn try_in_place<'m>(
 {
     let way = match instr {
         Instr::LocalGet(x) => return Ok(done_if(local_get(thread, *x as usize))),
-        Instr::LocalSet(x) => return Ok(done_if(thread.local_set(*x))),
-        Instr::LocalTee(x) => return Ok(done_if(thread.local_tee(*x))),
+        Instr::LocalSet(x) => {
+            local_set(thread, *x as usize);
+            return Ok(Some(Way::Goes));
+        }
+        Instr::LocalTee(x) => {
+            local_tee(thread, *x as usize);
+            return Ok(Some(Way::Goes));
+        }
         Instr::ConstI32(bits) => return Ok(done_if(thread.push_within(Slot::narrow(*bits)))),
         Instr::ConstI64(bits) => return Ok(done_if(thread.push_within(Slot::long(*bits)))),
         Instr::Op(op) => return Ok(done_if(numeric_in_place(thread, *op))),
@@ -118,6 +124,34 @@ fn local_get(thread: &mut Stack<'_>, x: usize) -> bool
 {
     let v = thread.local_at(x);
     thread.push_within(v)
+}
+
+// A local of the frame is set, which has it and an operand.
+#[tactic(auto, using(crate::proofs::RuledThreads::set_after_tee, crate::proofs::Accesses::within_without))]
+#[inline(always)]
+fn local_set(thread: &mut Stack<'_>, x: usize)
+    requires has { x < length thread.old.locals }
+    requires some { 1 ≤ length thread.old.stack }
+    ensures goes { Goes thread.new ≡ local_set x thread.old }
+    ensures within { ThreadWithin thread.old → ThreadWithin thread.new }
+{
+    local_tee(thread, x);
+    thread.drop_one();
+}
+
+// The same, and the operand stays.
+#[tactic(auto, using(crate::proofs::RuledThreads::teed))]
+#[inline(always)]
+fn local_tee(thread: &mut Stack<'_>, x: usize)
+    requires has { x < length thread.old.locals }
+    requires some { 1 ≤ length thread.old.stack }
+    ensures goes { Goes thread.new ≡ local_tee x thread.old }
+    ensures within { ThreadWithin thread.old → ThreadWithin thread.new }
+    ensures stack { thread.new.stack ≡ thread.old.stack }
+{
+    let v = thread.last();
+    let is_set = thread.set_local(x, v);
+    prove!(is_set);
 }
 
 // Going, where it was done in place.

@@ -17,7 +17,7 @@ use Rattle.wasm_step.proofs.LevelEnds.{row_enters, row_chooses}
 use Rattle.wasm_step.specs.inside.Rules.{HasRule}
 use Rattle.wasm_step.proofs.BurstTodo.{todo_within}
 use Rattle.wasm_step.proofs.RuledNumbers.{sticks_anywhere}
-use Rattle.wasm_step.proofs.RuledThreads.{has_address, has_local, has_operand}
+use Rattle.wasm_step.proofs.RuledThreads.{has_address, has_local, has_operand, sets, tees}
 use Rattle.wasm_step.proofs.in_place.try_in_place.Goals as goal
 use Rattle.wasm_step.proofs.in_place.try_in_place.Goals.{in-Br, in-BrIf, in-BrTable, in-Return, in-CallFunc, in-CallIndirect}
 
@@ -31,6 +31,26 @@ pub local_get-requires-clause-has : goal.local_get-requires-clause-has
 local_get-requires-clause-has c =
     let t = record c.args.thread.now { todo = trees c.args.todo.now.now } in
     has_local c.in-LocalGet.x t c.args.store.now (subst (λ i. HasRule (tree i) t c.args.store.now) c.in-LocalGet.is c.requires.rule)
+
+pub local_set-requires-clause-has : goal.local_set-requires-clause-has
+local_set-requires-clause-has c =
+    let t = record c.args.thread.now { todo = trees c.args.todo.now.now } in
+    (sets c.in-LocalSet.x t (subst (λ i. HasRule (tree i) t c.args.store.now) c.in-LocalSet.is c.requires.rule)).local
+
+pub local_set-requires-clause-some : goal.local_set-requires-clause-some
+local_set-requires-clause-some c =
+    let t = record c.args.thread.now { todo = trees c.args.todo.now.now } in
+    (sets c.in-LocalSet.x t (subst (λ i. HasRule (tree i) t c.args.store.now) c.in-LocalSet.is c.requires.rule)).operand
+
+pub local_tee-requires-clause-has : goal.local_tee-requires-clause-has
+local_tee-requires-clause-has c =
+    let t = record c.args.thread.now { todo = trees c.args.todo.now.now } in
+    (tees c.in-LocalTee.x t (subst (λ i. HasRule (tree i) t c.args.store.now) c.in-LocalTee.is c.requires.rule)).local
+
+pub local_tee-requires-clause-some : goal.local_tee-requires-clause-some
+local_tee-requires-clause-some c =
+    let t = record c.args.thread.now { todo = trees c.args.todo.now.now } in
+    (tees c.in-LocalTee.x t (subst (λ i. HasRule (tree i) t c.args.store.now) c.in-LocalTee.is c.requires.rule)).operand
 
 pub drop_one-requires : goal.drop_one-requires
 drop_one-requires c =
