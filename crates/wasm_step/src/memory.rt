@@ -1,5 +1,6 @@
 // Instructions on globals and on the memory.
-ghost use Rattle.std.specs.Prelude.{◌≡◌, ◌+◌, IfOk, IfSome, IsTrue, OnOk, Some, false, if◌then◌else◌};
+ghost use Rattle.std.specs.Prelude.{◌≡◌, ℕ, ◌+◌, IfOk, IfSome, IsTrue, None, OnOk, Some, false, if◌then◌else◌};
+ghost use Rattle.wasm_types.specs.declared.code.Value.TheVariants.{I32, I64};
 ghost use Rattle.wasm_values.specs.Access.{load_width, store_width};
 ghost use Rattle.wasm_step.specs.inside.Rules.{HasI32};
 ghost use Rattle.wasm_step.specs.inside.Accesses.{Loads, Stores};
@@ -9,7 +10,7 @@ ghost use Rattle.wasm_stack.specs.Limits.{ThreadWithin};
 ghost use Rattle.wasm_stack.specs.After.{Goes, Sticks, Stops};
 ghost use Rattle.wasm_step.specs.Reduce.{global_get, global_set, grow_answer, store_stays, load, memory_grow, memory_size, write, write_at};
 
-use crate::numbers::narrow;
+use crate::numbers::{long, narrow};
 use guest_memory::Memory;
 use std::alloc::AllocError;
 use wasm_stack::{Next, Stack};
@@ -123,16 +124,17 @@ pub(crate) fn write_in_place(
     op: u8,
     offset: u32,
 ) -> Result<bool, AllocError>
-    requires { ThreadWithin thread.old }
+    requires within { ThreadWithin thread.old }
+    requires rule { (write op offset store.old thread.old).after ≡ Stops Sticks → ⊥ }
     ensures goes { IfOk result (λ went. IsTrue went → write op offset store.old thread.old ≡ store_stays store.new (Goes thread.new)) }
     ensures within { OnOk result (ThreadWithin thread.new) }
     ensures same { IfOk result (λ went. went ≡ false → thread.new ≡ thread.old) }
     ensures store { IfOk result (λ went. went ≡ false → store.new ≡ store.old) }
 {
-    let Some((Value::I32(base), v)) = thread.two() else {
-        return Ok(false);
+    let Some((base, v)) = thread.two() else {
+        unreachable!()
     };
-    if !stored(store, op, address(base, offset), v)? {
+    if !stored(store, op, address(narrow(base), offset), v)? {
         return Ok(false);
     }
     thread.drop_last(2);
@@ -140,39 +142,69 @@ pub(crate) fn write_in_place(
 }
 
 // Whether a store wrote its operand. The width stands in each arm, as a load's does.
-#[tactic(auto, using(crate::proofs::Accesses::stores_as), unfolding(wasm_values::specs::Access::store_width))]
+#[tactic(auto, unfolding(wasm_values::specs::Access::store_width))]
 #[inline(always)]
 fn stored(store: &mut Store<'_>, op: u8, addr: u64, v: Value) -> Result<bool, AllocError>
+    requires { store_width op v ≡ None → ⊥ }
     ensures goes { IfOk result (λ went. IsTrue went → Stores op addr v store.old store.new) }
     ensures same { IfOk result (λ went. went ≡ false → store.new ≡ store.old) }
 {
-    match (op, v) {
-        (0x36, Value::I32(_)) => stored_by(store, 0x36, addr, v, 4),
-        (0x37, Value::I64(_)) => stored_by(store, 0x37, addr, v, 8),
-        (0x3A, Value::I32(_)) => stored_by(store, 0x3A, addr, v, 1),
-        (0x3B, Value::I32(_)) => stored_by(store, 0x3B, addr, v, 2),
-        (0x3C, Value::I64(_)) => stored_by(store, 0x3C, addr, v, 1),
-        (0x3D, Value::I64(_)) => stored_by(store, 0x3D, addr, v, 2),
-        (0x3E, Value::I64(_)) => stored_by(store, 0x3E, addr, v, 4),
+    match op {
+        0x36 => stored_i32(store, op, 0x36, addr, v, 4),
+        0x37 => stored_i64(store, op, 0x37, addr, v, 8),
+        0x3A => stored_i32(store, op, 0x3A, addr, v, 1),
+        0x3B => stored_i32(store, op, 0x3B, addr, v, 2),
+        0x3C => stored_i64(store, op, 0x3C, addr, v, 1),
+        0x3D => stored_i64(store, op, 0x3D, addr, v, 2),
+        0x3E => stored_i64(store, op, 0x3E, addr, v, 4),
         _ => Ok(false),
     }
 }
 
-// The same, by a store of so many bytes.
+// The same of 32 bits, of which so many bytes are written. `k` is the opcode as a literal.
+#[tactic(auto, using(crate::proofs::Accesses::stored_i32, crate::proofs::Accesses::stores_by))]
 #[inline(always)]
-fn stored_by(
+fn stored_i32(
     store: &mut Store<'_>,
     op: u8,
+    k: u8,
     addr: u64,
     v: Value,
     width: u32,
 ) -> Result<bool, AllocError>
     requires width { IsWidth width }
-    requires writes { store_width op v ≡ Some width }
+    requires same { op ≡ k }
+    requires rule { store_width op v ≡ None → ⊥ }
+    requires writes { (x : ℕ) → store_width k (I32 x) ≡ Some width }
+    requires only { (x : ℕ) → store_width k (I64 x) ≡ None }
     ensures goes { IfOk result (λ went. IsTrue went → Stores op addr v store.old store.new) }
     ensures same { IfOk result (λ went. went ≡ false → store.new ≡ store.old) }
 {
-    store.write(addr, width, bits(Some(v)))
+    let x = narrow(v);
+    store.write(addr, width, u64::from(x))
+}
+
+// The same of 64 bits.
+#[tactic(auto, using(crate::proofs::Accesses::stored_i64, crate::proofs::Accesses::stores_by))]
+#[inline(always)]
+fn stored_i64(
+    store: &mut Store<'_>,
+    op: u8,
+    k: u8,
+    addr: u64,
+    v: Value,
+    width: u32,
+) -> Result<bool, AllocError>
+    requires width { IsWidth width }
+    requires same { op ≡ k }
+    requires rule { store_width op v ≡ None → ⊥ }
+    requires writes { (x : ℕ) → store_width k (I64 x) ≡ Some width }
+    requires only { (x : ℕ) → store_width k (I32 x) ≡ None }
+    ensures goes { IfOk result (λ went. IsTrue went → Stores op addr v store.old store.new) }
+    ensures same { IfOk result (λ went. went ≡ false → store.new ≡ store.old) }
+{
+    let x = long(v);
+    store.write(addr, width, x)
 }
 
 fn write_at(

@@ -236,9 +236,9 @@ pub(crate) fn narrow(v: Value) -> u32
     }
 }
 
-// The same of 64 bits.
+/// The same of 64 bits.
 #[inline(always)]
-fn long(v: Value) -> u64
+pub(crate) fn long(v: Value) -> u64
     requires { IsI64 v }
     ensures { v ≡ I64 result }
 {

@@ -16,6 +16,7 @@ use Rattle.wasm_step.proofs.EndsWithinLimits.{StaysWithin, branch_within, branch
 use Rattle.wasm_step.proofs.LevelEnds.{row_enters, row_chooses}
 use Rattle.wasm_step.specs.inside.Rules.{HasRule}
 use Rattle.wasm_step.proofs.BurstTodo.{todo_within}
+use Rattle.wasm_step.proofs.Accesses.{write_sticks_anywhere}
 use Rattle.wasm_step.proofs.RuledNumbers.{sticks_anywhere}
 use Rattle.wasm_step.proofs.RuledThreads.{has_address, has_local, has_operand, sets, tees}
 use Rattle.wasm_step.proofs.in_place.try_in_place.Goals as goal
@@ -61,6 +62,13 @@ pub load_in_place-requires-clause-address : goal.load_in_place-requires-clause-a
 load_in_place-requires-clause-address c =
     let t = record c.args.thread.now { todo = trees c.args.todo.now.now } in
     has_address c.in-Load.opcode c.in-Load.offset t c.args.store.now.memory (subst (λ i. HasRule (tree i) t c.args.store.now) c.in-Load.is c.requires.rule)
+
+pub write_in_place-requires-clause-rule : goal.write_in_place-requires-clause-rule
+write_in_place-requires-clause-rule c =
+    let t = record c.args.thread.now { todo = trees c.args.todo.now.now } in
+    let g = c.args.store.now in
+    let rule = subst (λ i. HasRule (tree i) t g) c.in-Store.is c.requires.rule in
+    λ sticks. rule (write_sticks_anywhere c.in-Store.opcode c.in-Store.offset c.args.thread.now g (trees c.args.todo.now.now) sticks)
 
 pub numeric_in_place-requires-clause-rule : goal.numeric_in_place-requires-clause-rule
 numeric_in_place-requires-clause-rule c =
