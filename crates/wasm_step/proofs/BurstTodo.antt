@@ -12,7 +12,7 @@ use Rattle.wasm_stack.specs.declared.halt.Next.{Next}
 use Rattle.wasm_stack.specs.declared.halt.Next.TheVariants.{Going}
 use Rattle.wasm_stack.specs.Answer.{after_of, way_of}
 use Rattle.wasm_step.specs.inside.Paused.{halt_of}
-use Rattle.wasm_step.specs.inside.Rules.{HasRule, NeverSticks}
+use Rattle.wasm_step.specs.inside.Rules.{HasRule, RunsByRules}
 use Rattle.wasm_step.specs.Burst.{At, BurstResult, burst, settle}
 use Rattle.wasm_stack.specs.Limits.{ThreadWithin}
 use Rattle.wasm_step.specs.Reduce.{ThreadAndStore, instr_row, store_stays, reduce_instruction}
@@ -92,7 +92,7 @@ module _ (xs : List Instr) (x : Instr) (s : Thread) (some : 1 ≤ length xs) (fi
   one_more = let e : n ≡ suc (n - 1) = omega (arith, more) in ap (λ k. burst k standing g) e
 
   -- which has a rule, where the burst that this is the end of has one for each
-  pub has_rule : (t : Thread) (h : Store) → burst n standing g ≡ burst 10000000 t h → NeverSticks t h → HasRule (tree x) past_it g
+  pub has_rule : (t : Thread) (h : Store) → burst n standing g ≡ burst 10000000 t h → RunsByRules t h → HasRule (tree x) past_it g
   has_rule t h same never sticks =
       let stops = burst_stop (n - 1) standing past_it g (reduce_instruction (tree x) past_it g).store (tree x) Sticks at (ap limited_thread sticks) refl in
       never (ap (λ (r : BurstResult). r.stop) (sym same ∙ one_more ∙ stops))

@@ -6,7 +6,7 @@ ghost use Rattle.wasm_values.specs.Numeric.{is_unary};
 ghost use Rattle.wasm_stack.specs.After.{Goes, Sticks, Stops};
 ghost use Rattle.wasm_stack.specs.Limits.{ThreadWithin};
 ghost use Rattle.wasm_stack.specs.Rows.{numeric};
-ghost use Rattle.wasm_step.specs.inside.Rules.{IsI32, IsI64, OneIsI32, OneIsI64, TwoAreI32, TwoAreI64};
+ghost use Rattle.wasm_step.specs.inside.Rules.{IsNarrow, IsLong, OneIsI32, OneIsI64, TwoAreI32, TwoAreI64};
 
 use wasm_stack::Stack;
 use wasm_types::Value;
@@ -227,7 +227,7 @@ fn two_i64(thread: &mut Stack<'_>, op: u8, k: u8) -> bool
 /// The number that a value of 32 bits is.
 #[inline(always)]
 pub(crate) fn narrow(v: Value) -> u32
-    requires { IsI32 v }
+    requires { IsNarrow v }
     ensures { v ≡ I32 result }
 {
     match v {
@@ -239,7 +239,7 @@ pub(crate) fn narrow(v: Value) -> u32
 /// The same of 64 bits.
 #[inline(always)]
 pub(crate) fn long(v: Value) -> u64
-    requires { IsI64 v }
+    requires { IsLong v }
     ensures { v ≡ I64 result }
 {
     match v {

@@ -4,7 +4,7 @@ ghost use Rattle.wasm_types.specs.Modules.{module_of};
 ghost use Rattle.wasm_stack.specs.Answer.{after_of};
 ghost use Rattle.wasm_step.specs.inside.Paused.{halt_of, stopped_of, settled_of, stopped_result};
 ghost use Rattle.wasm_step.specs.Burst.{after_step, burst, settle, spent_burst, most_instructions};
-ghost use Rattle.wasm_step.specs.inside.Rules.{NeverSticks};
+ghost use Rattle.wasm_step.specs.inside.Rules.{RunsByRules};
 ghost use Rattle.wasm_stack.specs.Limits.{ThreadWithin};
 
 use crate::calls::library_call;
@@ -86,7 +86,7 @@ fn burst<'m>(
     store: &mut Store<'m>,
 ) -> Result<Next, AllocError>
     requires same_module { module_of «module».now ≡ store.old.«module» }
-    requires never_sticks { NeverSticks thread.old store.old }
+    requires never_sticks { RunsByRules thread.old store.old }
     ensures { IfOk result (λ n. record { stop = halt_of (after_of n thread.new); store = store.new } ≡ burst most_instructions thread.old store.old) }
 {
     let mut left = MOST_INSTRUCTIONS;
@@ -156,7 +156,7 @@ pub(crate) fn run<'m>(
     store: &mut Store<'m>,
 ) -> Result<Stopped, AllocError>
     requires same_module { module_of «module».now ≡ store.old.«module» }
-    requires never_sticks { NeverSticks thread.old store.old }
+    requires never_sticks { RunsByRules thread.old store.old }
     ensures { IfOk result (λ stopped. stopped_result stopped thread.new store.new ≡ burst most_instructions thread.old store.old) }
 {
     let halted = burst(thread, module, store)?;

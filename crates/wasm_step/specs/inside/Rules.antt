@@ -11,8 +11,8 @@ use Rattle.wasm_step.specs.Burst.{burst, most_instructions}
 use Rattle.wasm_step.specs.Reduce.{instr_row}
 
 -- a burst of the thread comes to no place without one
-abbrev pub NeverSticks : Thread → Store → Type 0
-NeverSticks t g = (burst most_instructions t g).stop ≡ Sticks → ⊥
+abbrev pub RunsByRules : Thread → Store → Type 0
+RunsByRules t g = (burst most_instructions t g).stop ≡ Sticks → ⊥
 
 -- the instruction has one, so the thread has the operands and locals that it names
 abbrev pub HasRule : Tree → Thread → Store → Type 0
@@ -20,11 +20,11 @@ HasRule i t g = (instr_row i t g).after ≡ Stops Sticks → ⊥
 
 -- ---- values of a type
 
-abbrev pub IsI32 : Value → Type 0
-IsI32 v = (x : ℕ) × (v ≡ I32 x)
+abbrev pub IsNarrow : Value → Type 0
+IsNarrow v = (x : ℕ) × (v ≡ I32 x)
 
-abbrev pub IsI64 : Value → Type 0
-IsI64 v = (x : ℕ) × (v ≡ I64 x)
+abbrev pub IsLong : Value → Type 0
+IsLong v = (x : ℕ) × (v ≡ I64 x)
 
 -- the topmost operand, and the two topmost
 abbrev pub HasI32 : Thread → Type 0
