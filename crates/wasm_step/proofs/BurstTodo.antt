@@ -4,6 +4,7 @@ use Rattle.std.proofs.lemmas.List.{take_rest}
 use Rattle.wasm_types.specs.declared.code.Value.{Value}
 use Rattle.wasm_types.specs.declared.code.Instr.{Instr}
 use Rattle.wasm_types.specs.Code.{Trees, End, Then, tree, trees}
+use Rattle.wasm_types.specs.Modules.{Module}
 use Rattle.wasm_store.specs.Store.{Store}
 use Rattle.wasm_stack.specs.declared.halt.Way.{Way}
 use Rattle.wasm_stack.specs.declared.halt.Way.TheVariants as way
@@ -11,10 +12,11 @@ use Rattle.wasm_stack.specs.declared.halt.Next.{Next}
 use Rattle.wasm_stack.specs.declared.halt.Next.TheVariants.{Going}
 use Rattle.wasm_stack.specs.Answer.{after_of, way_of}
 use Rattle.wasm_step.specs.inside.Paused.{halt_of}
-use Rattle.wasm_step.specs.Burst.{At, burst, settle}
+use Rattle.wasm_step.specs.inside.Rules.{HasRule, RunsByRules}
+use Rattle.wasm_step.specs.Burst.{At, BurstResult, burst, settle}
 use Rattle.wasm_stack.specs.Limits.{ThreadWithin}
 use Rattle.wasm_step.specs.Reduce.{ThreadAndStore, instr_row, store_stays, reduce_instruction}
-use Rattle.wasm_stack.specs.After.{Halt, AfterStep, Goes, Stops, limited_thread}
+use Rattle.wasm_stack.specs.After.{Halt, AfterStep, Goes, Sticks, Stops, limited_thread}
 use Rattle.wasm_stack.specs.Control.{at_end_of_level, carried_operand, ended_level, resumed_caller, leave_frame, with_carried}
 use Rattle.wasm_stack.specs.Thread.{Level, Thread, closed_level, closed_to, is_end, left_frame}
 use Rattle.wasm_step.proofs.LevelEnds.{end_same, within_elsewhere}
@@ -89,6 +91,12 @@ module _ (xs : List Instr) (x : Instr) (s : Thread) (some : 1 ≤ length xs) (fi
   one_more : burst n standing g ≡ burst (suc (n - 1)) standing g
   one_more = let e : n ≡ suc (n - 1) = omega (arith, more) in ap (λ k. burst k standing g) e
 
+  -- which has a rule, where the burst that this is the end of has one for each
+  pub has_rule : (t : Thread) (h : Store) → burst n standing g ≡ burst 10000000 t h → RunsByRules t h → HasRule (tree x) past_it g
+  has_rule t h same never sticks =
+      let stops = burst_stop (n - 1) standing past_it g (reduce_instruction (tree x) past_it g).store (tree x) Sticks at (ap limited_thread sticks) refl in
+      never (ap (λ (r : BurstResult). r.stop) (sym same ∙ one_more ∙ stops))
+
   -- which is done in place
   module _ (o : Option Way) (w : Way) (u : Thread) (T : Trees) (g' : Store) (is : o ≡ Some w) (done : IfSome o (λ w. instr_row (tree x) past_it g ≡ store_stays g' (way_of w (record u { todo = T })))) where
     does : instr_row (tree x) past_it g ≡ store_stays g' (way_of w (record u { todo = T }))
@@ -106,21 +114,29 @@ module _ (xs : List Instr) (x : Instr) (s : Thread) (some : 1 ≤ length xs) (fi
         let stops = does ∙ ap (store_stays g') (way_halts w m u (record u { todo = T }) e halts) in
         one_more ∙ burst_stop (n - 1) standing past_it g g' (tree x) _ at (ap (λ (b : ThreadAndStore). limited_thread b.after) stops) (ap (λ (b : ThreadAndStore). b.store) stops)
 
-  -- or by its full case, where it was not, with what is left put back
-  module _ (o : Option Way) (r v u : Thread) (T : Trees) (h g' : Store) (none : o ≡ None) (same : IfNone o (record r { todo = T } ≡ past_it)) (kept : IfNone o (h ≡ g)) (put : v ≡ record r { todo = T }) (store : g' ≡ (reduce_instruction (tree x) v h).store) where
+  -- or not, with what is left put back
+  module _ (o : Option Way) (r v : Thread) (T : Trees) (h : Store) (none : o ≡ None) (same : IfNone o (record r { todo = T } ≡ past_it)) (kept : IfNone o (h ≡ g)) (put : v ≡ record r { todo = T }) where
     as_it_was : v ≡ past_it
     as_it_was = put ∙ subst (λ (o : Option Way). IfNone o (record r { todo = T } ≡ past_it)) none same
 
     is_kept : h ≡ g
     is_kept = subst (λ (o : Option Way). IfNone o (h ≡ g)) none kept
 
-    pub full_goes : (T' : Trees) → T' ≡ u.todo → Goes u ≡ (reduce_instruction (tree x) v h).after → (burst n standing g ≡ burst (n - 1) (record u { todo = T' }) g') × (g.«module» ≡ g'.«module»)
-    full_goes T' own e = (
-      one_more
-          ∙ step_on standing past_it v u g h g' (tree x) here as_it_was is_kept store (n - 1) e
-          ∙ ap (λ T. burst (n - 1) (record u { todo = T }) g') (sym own),
-      ap (λ (g : Store). g.«module») (sym is_kept) ∙ sym (keeps_module (tree x) v h) ∙ ap (λ (g : Store). g.«module») (sym store),
-    )
+    -- where it calls the library
+    pub calls_library : (m : Module) (a : Next) → ((t : Thread) (g : Store) → ThreadWithin t → m ≡ g.«module» → reduce_instruction (tree x) t g ≡ store_stays g (after_of a t)) → ThreadWithin s → m ≡ g.«module» → (a ≡ Going → ⊥) → burst n standing g ≡ record { stop = halt_of (after_of a v); store = h }
+    calls_library m a calls within same_module halts =
+        let does = calls v h (todo_within s v past_it.todo as_it_was within) (same_module ∙ ap (λ (g : Store). g.«module») (sym is_kept)) in
+        one_more ∙ step_stop standing past_it v v g h h (tree x) here as_it_was is_kept (sym (ap (λ (b : ThreadAndStore). b.store) does)) (n - 1) a (sym (ap (λ (b : ThreadAndStore). b.after) does)) halts
 
-    pub full_stops : (m : Next) → after_of m u ≡ (reduce_instruction (tree x) v h).after → (m ≡ Going → ⊥) → burst n standing g ≡ record { stop = halt_of (after_of m u); store = g' }
-    full_stops m e halts = one_more ∙ step_stop standing past_it v u g h g' (tree x) here as_it_was is_kept store (n - 1) m e halts
+    -- or by its full case
+    module _ (u : Thread) (g' : Store) (store : g' ≡ (reduce_instruction (tree x) v h).store) where
+      pub full_goes : (T' : Trees) → T' ≡ u.todo → Goes u ≡ (reduce_instruction (tree x) v h).after → (burst n standing g ≡ burst (n - 1) (record u { todo = T' }) g') × (g.«module» ≡ g'.«module»)
+      full_goes T' own e = (
+        one_more
+            ∙ step_on standing past_it v u g h g' (tree x) here as_it_was is_kept store (n - 1) e
+            ∙ ap (λ T. burst (n - 1) (record u { todo = T }) g') (sym own),
+        ap (λ (g : Store). g.«module») (sym is_kept) ∙ sym (keeps_module (tree x) v h) ∙ ap (λ (g : Store). g.«module») (sym store),
+      )
+
+      pub full_stops : (m : Next) → after_of m u ≡ (reduce_instruction (tree x) v h).after → (m ≡ Going → ⊥) → burst n standing g ≡ record { stop = halt_of (after_of m u); store = g' }
+      full_stops m e halts = one_more ∙ step_stop standing past_it v u g h g' (tree x) here as_it_was is_kept store (n - 1) m e halts

@@ -14,9 +14,10 @@ use Rattle.wasm_step.specs.Burst.{SettledThread, At, Done, BurstResult, at_next_
 use Rattle.wasm_values.specs.Values.{types_of_values}
 use Rattle.wasm_store.specs.Suits.{SuitsModule}
 use Rattle.wasm_step.specs.Fits.{CodeLeaves, ThreadFits, HaltFits, BurstFits}
+use Rattle.wasm_step.specs.inside.Rules.{RunsByRules}
 use Rattle.wasm_step.specs.inside.Standing.{AfterFits, StandsFit}
 use Rattle.wasm_step.specs.Reduce.{ThreadAndStore, instr_row}
-use Rattle.wasm_stack.specs.After.{AfterStep, Goes, Stops, limited_thread, at_trap}
+use Rattle.wasm_stack.specs.After.{AfterStep, Goes, Halt, Stops, limited_thread, at_trap}
 use Rattle.wasm_stack.specs.Control.{ended_level}
 use Rattle.wasm_store.specs.Store.{Store}
 use Rattle.wasm_stack.specs.Thread.{Thread, with_operand, fits_limits, levels_left}
@@ -151,3 +152,9 @@ leaving agree m t u g g' stopped call e v same s stands runs =
     let fits = subst (λ (call : Option ℕ). StandsFit m t call) runs stands in
     let r = result_fits agree m 10000000 t g (stopped_result stopped u g') e v (sym same) s fits in
     record { stop = r.0; suits = r.1; same_module = result_module 10000000 t g (stopped_result stopped u g') e ∙ sym same }
+
+-- so a burst of the module has a rule wherever it comes
+pub never_sticks : TypesAgree → (m : Module) (t : Thread) (g : Store) (call : Option ℕ) → IsValid m → m ≡ g.«module» → SuitsModule g → StandsFit m t call → call ≡ None → RunsByRules t g
+never_sticks agree m t g call v same s stands runs sticks =
+    let fits = subst (λ (call : Option ℕ). StandsFit m t call) runs stands in
+    subst (λ (h : Halt). HaltFits m h) sticks (burst_fits agree m 10000000 t g v (sym same) s fits).0

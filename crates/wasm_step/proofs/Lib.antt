@@ -7,9 +7,12 @@ pub mod EndsWithinLimits
 pub mod ThreadsFit
 pub mod InPlace
 pub mod LevelEnds
+pub mod LibraryCalls
 pub mod InstructionMarks
 pub mod Opcodes
 pub mod PlainRowsFit
+pub mod RuledNumbers
+pub mod RuledThreads
 pub mod LevelRuns
 pub mod SameModule
 pub mod StoreRowsFit

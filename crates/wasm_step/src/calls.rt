@@ -1,5 +1,6 @@
 // Calls: of the library, of the module's own functions, and through the table.
 ghost use Rattle.std.specs.Prelude.{◌≡◌, ℕ, ◌+◌, ◌≤◌, [], ◌∷◌, IfOk, IfSome, IsTrue, OnOk, Some, false, length, slice_get};
+ghost use Rattle.wasm_types.specs.Code.{tree};
 ghost use Rattle.wasm_types.specs.Functions.{type_of};
 ghost use Rattle.wasm_types.specs.Locals.{zeros};
 ghost use Rattle.wasm_types.specs.Modules.{func_type, module_of};
@@ -7,15 +8,16 @@ ghost use Rattle.wasm_stack.specs.Answer.{after_of};
 ghost use Rattle.wasm_stack.specs.Limits.{ThreadWithin};
 ghost use Rattle.wasm_stack.specs.After.{Goes, frame_goes_on, limited_thread};
 ghost use Rattle.wasm_step.specs.inside.Wanted.{CallsAsWanted};
-ghost use Rattle.wasm_step.specs.Reduce.{call, call_element, call_indirect, call_library, call_own};
+ghost use Rattle.wasm_step.specs.Reduce.{call, call_element, call_indirect, call_library, call_own, reduce_instruction, store_stays};
 ghost use Rattle.wasm_step.specs.Strand.{started_above};
+ghost use Rattle.wasm_store.specs.Store.{Store};
 ghost use Rattle.wasm_stack.specs.Thread.{Thread, called_function, has_frame_room, waiting_frame, without_operands};
 
 use std::alloc::AllocError;
 use wasm_stack::{Next, Stack};
 use wasm_store::Store;
 use wasm_types::{
-    Callee, Declared, FuncType, Module, Trap, ValidModule, Value, callee_at, imported_type,
+    Callee, Declared, FuncType, Instr, Module, Trap, ValidModule, Value, callee_at, imported_type,
     is_same_type, result_of, type_at, type_of,
 };
 
@@ -56,6 +58,25 @@ fn call_typed<'m>(
     } else {
         Ok(Next::Stuck)
     }
+}
+
+/// What comes after a call of the library by a thread within its limits. With no more results than arguments it keeps to them,
+/// so these are not tested.
+#[inline(never)]
+pub(crate) fn library_call(module: &ValidModule, instr: &Instr) -> Option<Next>
+    ensures halts { IfSome result (λ n. n ≡ Next.Going → ⊥) }
+    ensures calls { IfSome result (λ n. (t : Thread) (g : Store) → ThreadWithin t → module_of «module».now ≡ g.«module»
+        → reduce_instruction (tree instr.now) t g ≡ store_stays g (after_of n t)) }
+{
+    let Instr::CallFunc(index) = instr else {
+        return None;
+    };
+    let typing = imported_type(module.module(), *index as usize)?;
+    let n = typing.params.len();
+    if typing.results.len() > n {
+        return None;
+    }
+    Some(Next::Calling(*index, n))
 }
 
 /// A call of the module's own function in place, where memory and the limits allow its frame. It is kept out of the

@@ -15,6 +15,7 @@ mod first;
 mod in_place;
 pub mod laws;
 mod memory;
+mod numbers;
 mod run;
 mod step;
 mod strand;

@@ -1,11 +1,17 @@
 // Instructions on globals and on the memory.
-ghost use Rattle.std.specs.Prelude.{◌≡◌, ◌+◌, IfOk, IfSome, IsTrue, OnOk, Some, false, if◌then◌else◌};
+ghost use Rattle.std.specs.Prelude.{◌≡◌, ℕ, ◌+◌, IfOk, IfSome, IsTrue, None, OnOk, Some, false, if◌then◌else◌};
+ghost use Rattle.wasm_types.specs.declared.code.Value.TheVariants.{I32, I64};
+ghost use Rattle.wasm_values.specs.Access.{load_width, store_width};
+ghost use Rattle.wasm_step.specs.inside.Rules.{HasI32};
+ghost use Rattle.wasm_step.specs.inside.Accesses.{Loads, Stores};
 ghost use Rattle.guest_memory.specs.LittleEndian.{IsWidth};
 ghost use Rattle.wasm_stack.specs.Answer.{after_of};
 ghost use Rattle.wasm_stack.specs.Limits.{ThreadWithin};
 ghost use Rattle.wasm_stack.specs.After.{Goes, Sticks, Stops};
 ghost use Rattle.wasm_step.specs.Reduce.{global_get, global_set, grow_answer, store_stays, load, memory_grow, memory_size, write, write_at};
 
+use crate::numbers::{long, narrow};
+use guest_memory::Memory;
 use std::alloc::AllocError;
 use wasm_stack::{Next, Stack};
 use wasm_store::Store;
@@ -64,24 +70,51 @@ pub(crate) fn load(thread: &mut Stack<'_>, store: &Store<'_>, op: u8, offset: u3
 #[tactic(auto, using(crate::proofs::Accesses::load_by, crate::proofs::InPlace::within_one))]
 #[inline(always)]
 pub(crate) fn load_in_place(thread: &mut Stack<'_>, store: &Store<'_>, op: u8, offset: u32) -> bool
-    requires { ThreadWithin thread.old }
+    requires within { ThreadWithin thread.old }
+    requires address { HasI32 thread.old }
     ensures goes { IsTrue result → Goes thread.new ≡ load op offset store.now.memory thread.old }
     ensures within { ThreadWithin thread.new }
     ensures same { result ≡ false → thread.new ≡ thread.old }
 {
-    let Some(Value::I32(base)) = thread.top() else {
-        return false;
-    };
-    let Some(width) = load_width(op) else {
-        return false;
-    };
-    let Some(n) = store.memory().load(address(base, offset), width) else {
-        return false;
-    };
-    match load_value(op, n) {
+    let base = narrow(thread.last().value());
+    match loaded(store.memory(), op, address(base, offset)) {
         Some(v) => thread.put_one(v),
         None => false,
     }
+}
+
+// The operand that a load reads. The width stands in each arm, so that the opcode is looked at once.
+#[tactic(auto, using(crate::proofs::Accesses::loads_as), unfolding(wasm_values::specs::Access::load_width))]
+#[inline(always)]
+fn loaded(memory: &Memory, op: u8, addr: u64) -> Option<Slot>
+    ensures { IfSome result (λ v. Loads op addr memory.now v) }
+{
+    match op {
+        0x28 => loaded_by(memory, 0x28, addr, 4),
+        0x29 => loaded_by(memory, 0x29, addr, 8),
+        0x2C => loaded_by(memory, 0x2C, addr, 1),
+        0x2D => loaded_by(memory, 0x2D, addr, 1),
+        0x2E => loaded_by(memory, 0x2E, addr, 2),
+        0x2F => loaded_by(memory, 0x2F, addr, 2),
+        0x30 => loaded_by(memory, 0x30, addr, 1),
+        0x31 => loaded_by(memory, 0x31, addr, 1),
+        0x32 => loaded_by(memory, 0x32, addr, 2),
+        0x33 => loaded_by(memory, 0x33, addr, 2),
+        0x34 => loaded_by(memory, 0x34, addr, 4),
+        0x35 => loaded_by(memory, 0x35, addr, 4),
+        _ => None,
+    }
+}
+
+// The operand of a load of so many bytes.
+#[inline(always)]
+fn loaded_by(memory: &Memory, op: u8, addr: u64, width: u32) -> Option<Slot>
+    requires width { IsWidth width }
+    requires reads { load_width op ≡ Some width }
+    ensures { IfSome result (λ v. Loads op addr memory.now v) }
+{
+    let n = memory.load(addr, width)?;
+    load_value(op, n)
 }
 
 #[inline(always)]
@@ -91,23 +124,87 @@ pub(crate) fn write_in_place(
     op: u8,
     offset: u32,
 ) -> Result<bool, AllocError>
-    requires { ThreadWithin thread.old }
+    requires within { ThreadWithin thread.old }
+    requires rule { (write op offset store.old thread.old).after ≡ Stops Sticks → ⊥ }
     ensures goes { IfOk result (λ went. IsTrue went → write op offset store.old thread.old ≡ store_stays store.new (Goes thread.new)) }
     ensures within { OnOk result (ThreadWithin thread.new) }
     ensures same { IfOk result (λ went. went ≡ false → thread.new ≡ thread.old) }
     ensures store { IfOk result (λ went. went ≡ false → store.new ≡ store.old) }
 {
-    let Some((Value::I32(base), v)) = thread.two() else {
-        return Ok(false);
+    let Some((base, v)) = thread.two() else {
+        unreachable!()
     };
-    let Some(width) = store_width(op, v) else {
-        return Ok(false);
-    };
-    if !store.write(address(base, offset), width, bits(Some(v)))? {
+    if !stored(store, op, address(narrow(base), offset), v)? {
         return Ok(false);
     }
     thread.drop_last(2);
     Ok(true)
+}
+
+// Whether a store wrote its operand. The width stands in each arm, as a load's does.
+#[tactic(auto, unfolding(wasm_values::specs::Access::store_width))]
+#[inline(always)]
+fn stored(store: &mut Store<'_>, op: u8, addr: u64, v: Value) -> Result<bool, AllocError>
+    requires { store_width op v ≡ None → ⊥ }
+    ensures goes { IfOk result (λ went. IsTrue went → Stores op addr v store.old store.new) }
+    ensures same { IfOk result (λ went. went ≡ false → store.new ≡ store.old) }
+{
+    match op {
+        0x36 => stored_i32(store, op, 0x36, addr, v, 4),
+        0x37 => stored_i64(store, op, 0x37, addr, v, 8),
+        0x3A => stored_i32(store, op, 0x3A, addr, v, 1),
+        0x3B => stored_i32(store, op, 0x3B, addr, v, 2),
+        0x3C => stored_i64(store, op, 0x3C, addr, v, 1),
+        0x3D => stored_i64(store, op, 0x3D, addr, v, 2),
+        0x3E => stored_i64(store, op, 0x3E, addr, v, 4),
+        _ => Ok(false),
+    }
+}
+
+// The same of 32 bits, of which so many bytes are written. `k` is the opcode as a literal.
+#[tactic(auto, using(crate::proofs::Accesses::stored_i32, crate::proofs::Accesses::stores_by))]
+#[inline(always)]
+fn stored_i32(
+    store: &mut Store<'_>,
+    op: u8,
+    k: u8,
+    addr: u64,
+    v: Value,
+    width: u32,
+) -> Result<bool, AllocError>
+    requires width { IsWidth width }
+    requires same { op ≡ k }
+    requires rule { store_width op v ≡ None → ⊥ }
+    requires writes { (x : ℕ) → store_width k (I32 x) ≡ Some width }
+    requires only { (x : ℕ) → store_width k (I64 x) ≡ None }
+    ensures goes { IfOk result (λ went. IsTrue went → Stores op addr v store.old store.new) }
+    ensures same { IfOk result (λ went. went ≡ false → store.new ≡ store.old) }
+{
+    let x = narrow(v);
+    store.write(addr, width, u64::from(x))
+}
+
+// The same of 64 bits.
+#[tactic(auto, using(crate::proofs::Accesses::stored_i64, crate::proofs::Accesses::stores_by))]
+#[inline(always)]
+fn stored_i64(
+    store: &mut Store<'_>,
+    op: u8,
+    k: u8,
+    addr: u64,
+    v: Value,
+    width: u32,
+) -> Result<bool, AllocError>
+    requires width { IsWidth width }
+    requires same { op ≡ k }
+    requires rule { store_width op v ≡ None → ⊥ }
+    requires writes { (x : ℕ) → store_width k (I64 x) ≡ Some width }
+    requires only { (x : ℕ) → store_width k (I32 x) ≡ None }
+    ensures goes { IfOk result (λ went. IsTrue went → Stores op addr v store.old store.new) }
+    ensures same { IfOk result (λ went. went ≡ false → store.new ≡ store.old) }
+{
+    let x = long(v);
+    store.write(addr, width, x)
 }
 
 fn write_at(

@@ -4,8 +4,10 @@ ghost use Rattle.wasm_types.specs.Modules.{module_of};
 ghost use Rattle.wasm_stack.specs.Answer.{after_of};
 ghost use Rattle.wasm_step.specs.inside.Paused.{halt_of, stopped_of, settled_of, stopped_result};
 ghost use Rattle.wasm_step.specs.Burst.{after_step, burst, settle, spent_burst, most_instructions};
+ghost use Rattle.wasm_step.specs.inside.Rules.{RunsByRules};
 ghost use Rattle.wasm_stack.specs.Limits.{ThreadWithin};
 
+use crate::calls::library_call;
 use crate::in_place::try_in_place;
 use crate::step::step;
 use std::alloc::AllocError;
@@ -83,7 +85,8 @@ fn burst<'m>(
     module: &'m ValidModule,
     store: &mut Store<'m>,
 ) -> Result<Next, AllocError>
-    requires { module_of «module».now ≡ store.old.«module» }
+    requires same_module { module_of «module».now ≡ store.old.«module» }
+    requires never_sticks { RunsByRules thread.old store.old }
     ensures { IfOk result (λ n. record { stop = halt_of (after_of n thread.new); store = store.new } ≡ burst most_instructions thread.old store.old) }
 {
     let mut left = MOST_INSTRUCTIONS;
@@ -118,6 +121,9 @@ fn burst<'m>(
             }
         }
         thread.go_to(todo);
+        if let Some(halted) = library_call(module, instr) {
+            return Ok(halted);
+        }
         match step(thread, module, store, instr)? {
             Next::Going => {}
             halted => return Ok(halted),
@@ -149,7 +155,8 @@ pub(crate) fn run<'m>(
     module: &'m ValidModule,
     store: &mut Store<'m>,
 ) -> Result<Stopped, AllocError>
-    requires { module_of «module».now ≡ store.old.«module» }
+    requires same_module { module_of «module».now ≡ store.old.«module» }
+    requires never_sticks { RunsByRules thread.old store.old }
     ensures { IfOk result (λ stopped. stopped_result stopped thread.new store.new ≡ burst most_instructions thread.old store.old) }
 {
     let halted = burst(thread, module, store)?;

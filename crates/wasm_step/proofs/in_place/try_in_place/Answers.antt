@@ -14,7 +14,11 @@ use Rattle.wasm_step.specs.Reduce.{call, instr_row, store_stays}
 use Rattle.wasm_stack.specs.Thread.{Thread}
 use Rattle.wasm_step.proofs.EndsWithinLimits.{StaysWithin, branch_within, branch_if_within, branch_table_within, return_within}
 use Rattle.wasm_step.proofs.LevelEnds.{row_enters, row_chooses}
+use Rattle.wasm_step.specs.inside.Rules.{HasRule}
 use Rattle.wasm_step.proofs.BurstTodo.{todo_within}
+use Rattle.wasm_step.proofs.Accesses.{write_sticks_anywhere}
+use Rattle.wasm_step.proofs.RuledNumbers.{sticks_anywhere}
+use Rattle.wasm_step.proofs.RuledThreads.{has_address, has_local, has_operand, sets, tees}
 use Rattle.wasm_step.proofs.in_place.try_in_place.Goals as goal
 use Rattle.wasm_step.proofs.in_place.try_in_place.Goals.{in-Br, in-BrIf, in-BrTable, in-Return, in-CallFunc, in-CallIndirect}
 
@@ -23,6 +27,54 @@ way_within : (o : Option Way) (w : Way) (u v : Thread) (a : AfterStep) → o ≡
 way_within o way.Goes u v a is same e stays goes = subst (λ (t : Thread). ThreadWithin t) (sym same) (stays v (sym e))
 way_within o way.Ends u v a is same e stays goes = cc
 way_within o way.Sticks u v a is same e stays goes = cc
+
+pub local_get-requires-clause-has : goal.local_get-requires-clause-has
+local_get-requires-clause-has c =
+    let t = record c.args.thread.now { todo = trees c.args.todo.now.now } in
+    has_local c.in-LocalGet.x t c.args.store.now (subst (λ i. HasRule (tree i) t c.args.store.now) c.in-LocalGet.is c.requires.rule)
+
+pub local_set-requires-clause-has : goal.local_set-requires-clause-has
+local_set-requires-clause-has c =
+    let t = record c.args.thread.now { todo = trees c.args.todo.now.now } in
+    (sets c.in-LocalSet.x t (subst (λ i. HasRule (tree i) t c.args.store.now) c.in-LocalSet.is c.requires.rule)).local
+
+pub local_set-requires-clause-some : goal.local_set-requires-clause-some
+local_set-requires-clause-some c =
+    let t = record c.args.thread.now { todo = trees c.args.todo.now.now } in
+    (sets c.in-LocalSet.x t (subst (λ i. HasRule (tree i) t c.args.store.now) c.in-LocalSet.is c.requires.rule)).operand
+
+pub local_tee-requires-clause-has : goal.local_tee-requires-clause-has
+local_tee-requires-clause-has c =
+    let t = record c.args.thread.now { todo = trees c.args.todo.now.now } in
+    (tees c.in-LocalTee.x t (subst (λ i. HasRule (tree i) t c.args.store.now) c.in-LocalTee.is c.requires.rule)).local
+
+pub local_tee-requires-clause-some : goal.local_tee-requires-clause-some
+local_tee-requires-clause-some c =
+    let t = record c.args.thread.now { todo = trees c.args.todo.now.now } in
+    (tees c.in-LocalTee.x t (subst (λ i. HasRule (tree i) t c.args.store.now) c.in-LocalTee.is c.requires.rule)).operand
+
+pub drop_one-requires : goal.drop_one-requires
+drop_one-requires c =
+    let t = record c.args.thread.now { todo = trees c.args.todo.now.now } in
+    has_operand t c.args.store.now (subst (λ i. HasRule (tree i) t c.args.store.now) c.in-DropTop.is c.requires.rule)
+
+pub load_in_place-requires-clause-address : goal.load_in_place-requires-clause-address
+load_in_place-requires-clause-address c =
+    let t = record c.args.thread.now { todo = trees c.args.todo.now.now } in
+    has_address c.in-Load.opcode c.in-Load.offset t c.args.store.now.memory (subst (λ i. HasRule (tree i) t c.args.store.now) c.in-Load.is c.requires.rule)
+
+pub write_in_place-requires-clause-rule : goal.write_in_place-requires-clause-rule
+write_in_place-requires-clause-rule c =
+    let t = record c.args.thread.now { todo = trees c.args.todo.now.now } in
+    let g = c.args.store.now in
+    let rule = subst (λ i. HasRule (tree i) t g) c.in-Store.is c.requires.rule in
+    λ sticks. rule (write_sticks_anywhere c.in-Store.opcode c.in-Store.offset c.args.thread.now g (trees c.args.todo.now.now) sticks)
+
+pub numeric_in_place-requires-clause-rule : goal.numeric_in_place-requires-clause-rule
+numeric_in_place-requires-clause-rule c =
+    let t = record c.args.thread.now { todo = trees c.args.todo.now.now } in
+    let rule = subst (λ i. HasRule (tree i) t c.args.store.now) c.in-Op.is c.requires.rule in
+    λ sticks. rule (sticks_anywhere c.in-Op.op c.args.thread.now (trees c.args.todo.now.now) sticks)
 
 module _ (c : goal.After-todo-2) where
   abbrev i : Instr

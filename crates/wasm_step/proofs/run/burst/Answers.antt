@@ -13,7 +13,7 @@ use Rattle.wasm_step.proofs.LevelEnds.{depth_within, fewer_left}
 use Rattle.wasm_step.proofs.InPlace.{limited_within}
 use Rattle.wasm_step.proofs.LevelRuns.{burst_spent, way_halts}
 use Rattle.wasm_stack.specs.declared.halt.Way.{Way}
-use Rattle.wasm_step.proofs.BurstTodo.{closing, ends, ends_here, full_goes, full_stops, returning, row_goes, row_stops}
+use Rattle.wasm_step.proofs.BurstTodo.{calls_library, closing, ends, ends_here, full_goes, full_stops, has_rule, returning, row_goes, row_stops}
 use Rattle.wasm_step.proofs.run.burst.Goals as goal
 
 pub steps-preserved-then-close : goal.steps-preserved-then-close
@@ -44,6 +44,10 @@ returns-in_default-return_from c =
     let stops = sym goes ∙ way_halts c.return_from.result c.next.result u u (c.next.ensures u) c.in_default-return_from.not-Goes in
     sym (ends_here c.steps.todo.now t c.in_default-todo.len_below c.steps.left c.steps.store _ stops) ∙ c.steps.invariant.same
 
+pub try_in_place-requires-clause-rule : goal.try_in_place-requires-clause-rule
+try_in_place-requires-clause-rule c =
+    has_rule c.steps.todo.now c.instr-item.result c.steps.thread c.in-len1-up.len_at_least c.instr-item.is c.steps.left c.steps-test.true c.steps.store c.args.thread.now c.args.store.now c.steps.invariant.same c.requires.never_sticks
+
 pub steps-smaller-in-Goes-way : goal.steps-smaller-in-Goes-way
 steps-smaller-in-Goes-way c =
     let within = c.in_ok-way.ensures.within (c.in-Some.is ∙ ap (λ (w : Way). Some w) c.in-Goes-way.is) in
@@ -64,9 +68,14 @@ returns-in_default-way c =
     sym (row_stops c.steps.todo.now c.instr-item.result c.steps.thread c.in-len1-up.len_at_least c.instr-item.is c.steps.left c.steps-test.true c.steps.store c.in_ok-way.field-0 c.in-Some.way c.try_in_place.new.thread (trees c.try_in_place.new.todo.now) c.try_in_place.new.store c.in-Some.is c.in_ok-way.ensures.done next.result (next.ensures c.try_in_place.new.thread) c.in_default-way.not-Goes)
     ∙ c.steps.invariant.same
 
+pub returns-in-Some-library_call : goal.returns-in-Some-library_call
+returns-in-Some-library_call c =
+    sym (calls_library c.steps.todo.now c.instr-item.result c.steps.thread c.in-len1-up.len_at_least c.instr-item.is c.steps.left c.steps-test.true c.steps.store c.in_ok-way.field-0 c.try_in_place.new.thread c.go_to.new.self (trees c.try_in_place.new.todo.now) c.try_in_place.new.store c.in_default-2.is c.in_ok-way.ensures.same c.in_ok-way.ensures.store c.go_to.ensures _ c.in-Some-library_call.halted c.in-Some-library_call.ensures.calls c.steps.invariant.within c.steps.invariant.same_module c.in-Some-library_call.ensures.halts)
+    ∙ c.steps.invariant.same
+
 pub returns-in_default-3 : goal.returns-in_default-3
 returns-in_default-3 c =
-    sym (full_stops c.steps.todo.now c.instr-item.result c.steps.thread c.in-len1-up.len_at_least c.instr-item.is c.steps.left c.steps-test.true c.steps.store c.in_ok-way.field-0 c.try_in_place.new.thread c.go_to.new.self c.step.new.thread (trees c.try_in_place.new.todo.now) c.try_in_place.new.store c.step.new.store c.in_default-2.is c.in_ok-way.ensures.same c.in_ok-way.ensures.store c.go_to.ensures c.in_ok-halted-2.ensures.store c.in_ok-halted-2.halted c.in_ok-halted-2.ensures.after c.in_default-3.not-Going)
+    sym (full_stops c.steps.todo.now c.instr-item.result c.steps.thread c.in-len1-up.len_at_least c.instr-item.is c.steps.left c.steps-test.true c.steps.store c.in_ok-way.field-0 c.try_in_place.new.thread c.go_to.new.self (trees c.try_in_place.new.todo.now) c.try_in_place.new.store c.in_default-2.is c.in_ok-way.ensures.same c.in_ok-way.ensures.store c.go_to.ensures c.step.new.thread c.step.new.store c.in_ok-halted-2.ensures.store c.in_ok-halted-2.halted c.in_ok-halted-2.ensures.after c.in_default-3.not-Going)
     ∙ c.steps.invariant.same
 
 module _ (c : goal.After-todo-todo-in-steps) where
@@ -83,7 +92,7 @@ steps-smaller c =
 pub steps-preserved : goal.steps-preserved
 steps-preserved c =
     let todo = c.todo-todo-in-steps in
-    let on = full_goes c.steps.todo.now c.instr-item.result c.steps.thread c.in-len1-up.len_at_least c.instr-item.is c.steps.left c.steps-test.true c.steps.store c.in_ok-way.field-0 c.try_in_place.new.thread c.go_to.new.self c.step.new.thread (trees c.try_in_place.new.todo.now) c.try_in_place.new.store c.step.new.store c.in_default-2.is c.in_ok-way.ensures.same c.in_ok-way.ensures.store c.go_to.ensures c.in_ok-halted-2.ensures.store (trees todo.result.now) todo.ensures (goes c) in record {
+    let on = full_goes c.steps.todo.now c.instr-item.result c.steps.thread c.in-len1-up.len_at_least c.instr-item.is c.steps.left c.steps-test.true c.steps.store c.in_ok-way.field-0 c.try_in_place.new.thread c.go_to.new.self (trees c.try_in_place.new.todo.now) c.try_in_place.new.store c.in_default-2.is c.in_ok-way.ensures.same c.in_ok-way.ensures.store c.go_to.ensures c.step.new.thread c.step.new.store c.in_ok-halted-2.ensures.store (trees todo.result.now) todo.ensures (goes c) in record {
       same = sym on.0 ∙ c.steps.invariant.same;
       within = within c;
       same_module = c.steps.invariant.same_module ∙ on.1;

@@ -8,8 +8,13 @@ use Rattle.wasm_step.specs.Fits.{HaltFits}
 use Rattle.wasm_step.specs.inside.Standing.{StandsFit}
 use Rattle.wasm_step.specs.Strand.{Strand}
 use Rattle.wasm_stack.specs.Thread.{Thread}
-use Rattle.wasm_step.proofs.BurstsFit.{leaving}
+use Rattle.wasm_step.proofs.BurstsFit.{leaving, never_sticks}
 use Rattle.wasm_step.proofs.strand.Strand.run.Goals as goal
+
+pub run-requires-clause-never_sticks : goal.run-requires-clause-never_sticks
+run-requires-clause-never_sticks c =
+    let fits = subst (λ (t : Thread). StandsFit (module_of c.self.inside.«module».now) t c.self.inside.call) (sym c.deref_mut.ensures.value) c.self.invariant in
+    never_sticks c.types_agree.ensures (module_of c.self.inside.«module».now) c.deref_mut.result.now c.args.store.now c.self.inside.call (subst (λ (m : RustModule). IsValid (module_of m)) c.module.ensures.same c.module.ensures.valid) (ap (λ (s : Strand). s.«module») c.self.view_is ∙ c.requires.same_module) c.requires.suits fits (ap (λ (s : Strand). s.call) c.self.view_is ∙ c.requires.runs)
 
 pub unreachable-requires : goal.unreachable-requires
 unreachable-requires c =
