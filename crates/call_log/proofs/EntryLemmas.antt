@@ -16,7 +16,7 @@ use Rattle.lib_calls.specs.Entry.{IsShaped}
 use Rattle.call_log.specs.declared.version.Version.{Version}
 use Rattle.call_log.specs.Version.{clock_at, clock_bytes, number_at, number_bytes}
 use Rattle.call_log.specs.Entry.{BeginsNoEntry, body_bytes, encoding, argument_bytes, string_if, tag_if}
-use Rattle.call_log.specs.Reading.{read_entry, body_at, kind_at, call_at, string_if_at, tag_if_at}
+use Rattle.call_log.specs.Reading.{read_entry, body_at, kind_byte_at, call_at, string_if_at, tag_if_at}
 use Rattle.call_log.specs.Log.{Unread, entry_at, entry_in, unread_after_entry}
 use Rattle.call_log.proofs.EntrySizes.{length-body_lt}
 use Rattle.call_log.proofs.ShapeTests.{and_true, both_true, is_shaped-from, shaped_from_test}
@@ -38,7 +38,7 @@ record Steps (v : Version) (last : ℕ) (kind : Kind) (bytes : List ℕ) (e : En
   after_incoming : List ℕ
   clock : clock_at v last bytes ≡ Some (e.clock, after_clock)
   thread : number_at v w16 after_clock ≡ Some (e.thread, after_thread)
-  number : kind_at after_thread ≡ Some (kind, after_kind)
+  number : kind_byte_at after_thread ≡ Some (kind, after_kind)
   signal : byte_at after_kind ≡ Some (e.signal, after_signal)
   call : call_at v kind after_signal ≡ Some (e.call, after_call)
   reply : number_at v w64 after_call ≡ Some (e.reply, after_reply)

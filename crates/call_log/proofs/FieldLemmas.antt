@@ -19,7 +19,7 @@ use Rattle.call_log.specs.declared.version.Version.{Version}
 use Rattle.call_log.specs.declared.version.Version.TheVariants.{One, Two}
 use Rattle.call_log.specs.Version.{if_below, clock_above, clock_at, clock_bytes, clock_gap, number_at, number_bytes}
 use Rattle.call_log.specs.Entry.{number_if, string_if, flagged_tag, tag_if, argument_bytes}
-use Rattle.call_log.specs.Reading.{number_if_at, kind_at, call_at, string_at, string_if_at, tag_fields_at, flagged_tag_at, tag_if_at}
+use Rattle.call_log.specs.Reading.{number_if_at, kind_byte_at, call_at, string_at, string_if_at, tag_fields_at, flagged_tag_at, tag_if_at}
 
 -- bytes in front of others are in range where all are
 pub front_in_range : (front rest : List ℕ) → AreBytes (front ++ rest) → AreBytes front
@@ -107,19 +107,19 @@ number_of number kind e =
     let at : slice_get numbers number ≡ Some (row kind).number = slice_get-map (λ k. (row k).number) kinds number ∙ ap (option_map (λ k. (row k).number)) e in
     omega (arith, get_or_from_slice_get numbers number (row kind).number 0 at, get_or-range_with_len 0 18 number 0 (number_within number kind e))
 
-kind_again : (kind : Kind) (rest : List ℕ) → kind_at ((row kind).number ∷ rest) ≡ Some (kind, rest)
-unfolding kind_at
+kind_again : (kind : Kind) (rest : List ℕ) → kind_byte_at ((row kind).number ∷ rest) ≡ Some (kind, rest)
+unfolding kind_byte_at
 kind_again kind rest = next _ _ kind _ (numbered kind) refl
 
-kind_found : (bytes : List ℕ) (kind : Kind) (rest : List ℕ) → kind_at bytes ≡ Some (kind, rest) → bytes ≡ (row kind).number ∷ rest
-unfolding kind_at
+kind_found : (bytes : List ℕ) (kind : Kind) (rest : List ℕ) → kind_byte_at bytes ≡ Some (kind, rest) → bytes ≡ (row kind).number ∷ rest
+unfolding kind_byte_at
 kind_found [] kind rest e = cc
 kind_found (number ∷ bytes) kind rest e =
     let read = bind_some _ _ _ e in
     let parts = some_pair_parts read.0 kind bytes rest read.2 in
     ap (λ (t : List ℕ). number ∷ t) parts.1 ∙ ap (λ (n : ℕ). n ∷ rest) (sym (number_of number read.0 read.1) ∙ ap (λ k. (row k).number) parts.0)
 
-pub kind_field : ReadsBack (λ _. Unit {0}) (λ kind. (row kind).number ∷ []) kind_at
+pub kind_field : ReadsBack (λ _. Unit {0}) (λ kind. (row kind).number ∷ []) kind_byte_at
 kind_field = record {
   again = λ kind rest _. kind_again kind rest;
   found = λ bytes kind rest are e. (tt, kind_found bytes kind rest e);

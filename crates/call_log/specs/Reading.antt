@@ -22,9 +22,9 @@ o >>= f = option_and_then f o
 
 -- ---- an entry
 
--- the kind of a call, which has the number in one byte
-unfoldable pub kind_at : List ℕ → Option (Kind × List ℕ)
-kind_at bytes = do
+-- the kind of a call, which one byte has by its number
+unfoldable pub kind_byte_at : List ℕ → Option (Kind × List ℕ)
+kind_byte_at bytes = do
   number ← byte_at bytes
   kind ← kind_numbered number.0
   Some (kind, number.1)
@@ -74,7 +74,7 @@ unfoldable pub body_at : Version → ℕ → List ℕ → Option Entry
 body_at v last bytes = do
   clock ← clock_at v last bytes
   thread ← number_at v w16 clock.1
-  kind ← kind_at thread.1
+  kind ← kind_byte_at thread.1
   signal ← byte_at kind.1
   call ← call_at v kind.0 signal.1
   reply ← number_at v w64 call.1

@@ -1,7 +1,7 @@
 // Reading the kind of an entry, and the fields that not every kind has.
 ghost use Rattle.std.specs.Prelude.{◌≡◌, option_map};
 ghost use Rattle.call_log.specs.inside.Parts.{GivesField};
-ghost use Rattle.call_log.specs.Reading.{call_at, flagged_tag_at, kind_at, number_if_at, string_at, string_if_at, tag_fields_at, tag_if_at};
+ghost use Rattle.call_log.specs.Reading.{call_at, flagged_tag_at, kind_byte_at, number_if_at, string_at, string_if_at, tag_fields_at, tag_if_at};
 
 use crate::number::{read_u32, read_u64};
 use crate::version::Version;
@@ -9,11 +9,11 @@ use fri_bytes::Cursor;
 use lamport_tag::Tag;
 use lib_calls::{Call, Kind};
 
-// The kind of a call, which has the number in one byte.
-#[tactic(auto, unfolding(crate::specs::Reading::kind_at))]
+// The kind of a call, which one byte has by its number.
+#[tactic(auto, unfolding(crate::specs::Reading::kind_byte_at))]
 #[inline(always)]
 pub(crate) fn read_kind(cursor: &mut Cursor<'_>) -> Option<Kind>
-    ensures { GivesField result cursor.new (kind_at cursor.old.left) }
+    ensures { GivesField result cursor.new (kind_byte_at cursor.old.left) }
 {
     Kind::from_number(cursor.byte()?)
 }

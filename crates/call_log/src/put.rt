@@ -159,7 +159,12 @@ fn put_short_front(out: &mut Vec<u8>, last: u64, entry: &EntryView<'_>) -> Resul
     let gap = entry.clock.wrapping_sub(last);
     put_bytes(
         out,
-        &[gap as u8, entry.thread as u8, entry.call.kind.number(), entry.signal],
+        &[
+            gap as u8,
+            entry.thread as u8,
+            entry.call.kind.number(),
+            entry.signal,
+        ],
     )
 }
 
