@@ -1,5 +1,5 @@
 // Reading the kind of an entry, and the fields that not every kind has.
-ghost use Rattle.std.specs.Prelude.{◌≡◌, option_map};
+ghost use Rattle.std.specs.Prelude.{option_map};
 ghost use Rattle.call_log.specs.inside.Parts.{GivesField};
 ghost use Rattle.call_log.specs.Reading.{call_at, flagged_tag_at, kind_byte_at, number_if_at, string_at, string_if_at, tag_fields_at, tag_if_at};
 

@@ -1,6 +1,6 @@
 -- The event of a try, from what is asked of a process and of the world around it.
 use Rattle.std.proofs.Common.{◌≡◌, ℕ, ◌<◌, ◌≤◌, ◌^◌, Bool, true, false, ◌&&◌, not, eqb, cond, List, [], ◌∷◌, length, take, Option, Some, None, refl, ap, sym, subst, ◌∙◌, arith}
-use Rattle.std.specs.Prelude.{option_and_then, option_map, nat_le, unwrap_or}
+use Rattle.std.specs.Prelude.{option_map, nat_le, unwrap_or}
 use Rattle.std.proofs.lemmas.Bool.Decides.{nat_tests}
 use Rattle.std.proofs.lemmas.List.{length-take}
 use Rattle.std.proofs.lemmas.Option.{same_Some}
@@ -16,7 +16,7 @@ use Rattle.lib_calls.specs.Entry.{IsShaped}
 use Rattle.guest_process.specs.declared.need.Need.{Need as PlainNeed}
 use Rattle.guest_process.specs.declared.waiting.Waiting.{Waiting}
 use Rattle.guest_process.specs.Answers.{Need, Fixed, Blocked, World, need, replies_with}
-use Rattle.guest_process.specs.Fits.{EnvFits, StateFits, WaitingFits, live_has}
+use Rattle.guest_process.specs.Fits.{EnvFits, StateFits}
 use Rattle.guest_process.specs.Live.{AnsweredCall, Env, Event, answered_now, as_given, chosen_signal, drawn_of, event, event_of_waiting, from_world, live, taken_of, world_answer}
 use Rattle.guest_process.specs.OneEvent.{IsKeptByEvents, OneEvent, Rises}
 use Rattle.guest_process.specs.Meanings.{able, plain_need}

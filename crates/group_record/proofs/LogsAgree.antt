@@ -20,7 +20,7 @@ use Rattle.guest_process.specs.declared.divergence.Divergence.{Divergence}
 use Rattle.guest_process.specs.declared.waiting.Waiting.{Waiting}
 use Rattle.guest_process.specs.Answers.{need}
 use Rattle.guest_process.specs.EventCount as count
-use Rattle.guest_process.specs.Fits.{StateFits, WaitingFits, live_has}
+use Rattle.guest_process.specs.Fits.{StateFits}
 use Rattle.guest_process.specs.Legal.{reason}
 use Rattle.guest_process.specs.Live.{AnsweredCall, Env, Event, answered_now, event, event_of_waiting, from_world, live}
 use Rattle.guest_process.specs.Next.{next}

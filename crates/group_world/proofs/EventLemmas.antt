@@ -1,6 +1,6 @@
 -- What an event's entry tells of the network: it sends or takes or does neither, and what it sends is for a
 -- process of the group.
-use Rattle.std.proofs.Common.{◌≡◌, ℕ, List, Bool, true, false, ◌&&◌, Option, Some, refl}
+use Rattle.std.proofs.Common.{◌≡◌, ℕ, List, Bool, true, false, ◌&&◌, refl}
 use Rattle.std.specs.Prelude.{◌==◌, nat_lt, not}
 use Rattle.std.proofs.lemmas.Bool.{false≢true, true≢false}
 use Rattle.call_table.specs.declared.kind.Kind.{Kind}

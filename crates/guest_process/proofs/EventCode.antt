@@ -1,6 +1,6 @@
 -- What the code of an event rests on.
 use Rattle.std.proofs.Common.{◌≡◌, ℕ, zero, suc, true, false, cond, List, [], ◌∷◌, ◌++◌, Option, Some, None, refl, ap, sym, subst, ◌∙◌}
-use Rattle.std.specs.Prelude.{◌%◌, ◌^◌, slice_get, slice_set, option_and_then, option_map}
+use Rattle.std.specs.Prelude.{◌%◌, ◌^◌, slice_get, slice_set, option_and_then}
 use Rattle.std.specs.Int.{w32, cast_signed}
 use Rattle.coop_threads.specs.Crew.{Crew, IsTaken, live_at, status_of, value_of as value_in, with_slot}
 use Rattle.coop_threads.specs.declared.slot.Slot.{Slot}
@@ -41,7 +41,7 @@ use Rattle.guest_process.proofs.EventMarks.{MarkLaws}
 use Rattle.guest_process.proofs.KeptFits.{state_kept}
 use Rattle.guest_process.proofs.KeptSound.{next_module, sound_kept}
 use Rattle.guest_process.proofs.FirstFailure.{unless_none}
-use Rattle.guest_process.proofs.LegalEntries.{call_told, fits_at, legal_at}
+use Rattle.guest_process.proofs.LegalEntries.{call_told, legal_at}
 use Rattle.guest_process.proofs.AnswerWrites.{effects_acted, exit_written}
 use Rattle.guest_process.proofs.CallEffects.{acted_has}
 use Rattle.guest_process.proofs.HandlerCalls.{AreHandlers, given_is, set_sound}
@@ -167,17 +167,17 @@ acted_handlers S e sound =
     sound sound
 
 -- the event of a thread that calls `exit`
-pub exits : (S : State) (e : Entry) (w : Waiting) → StateFits S → reason S e ≡ None → thread_at S e.thread ≡ Some w → ends_process w.call.kind ≡ true
+pub exits : (S : State) (e : Entry) (w : Waiting) → reason S e ≡ None → thread_at S e.thread ≡ Some w → ends_process w.call.kind ≡ true
     → awaits_event (exited_process (with_event_counted (with_thread (acted_on_answer e.call.kind S e.thread e.call (answer_of e)) e.thread Lent) e.thread e.clock) e.thread w.call.a0) ≡ next S e
-exits S e w s legal at h =
+exits S e w legal at h =
     ap awaits_event (ap (λ call. exited_process (with_event_counted (with_thread (acted_on_answer call.kind S e.thread call (answer_of e)) e.thread Lent) e.thread e.clock) e.thread w.call.a0) (call_told S e w (legal_at S e w legal at))
     ∙ exits_by w.call.kind S e.thread w (answer_of e) e.signal e.clock refl h)
     ∙ ap (next_at_thread S e) (sym at)
 
 -- the event of another
-pub goes : (S : State) (e : Entry) (w : Waiting) → StateFits S → reason S e ≡ None → thread_at S e.thread ≡ Some w → ends_process w.call.kind ≡ false
+pub goes : (S : State) (e : Entry) (w : Waiting) → reason S e ≡ None → thread_at S e.thread ≡ Some w → ends_process w.call.kind ≡ false
     → awaits_event (goes_out w.call.kind (acted_on_answer e.call.kind S e.thread e.call (answer_of e)) e.thread w.strand e.reply e.signal e.clock) ≡ next S e
-goes S e w s legal at h =
+goes S e w legal at h =
     let effect = effects_acted w.call.kind S e.thread w.call (answer_of e) refl h in
     ap awaits_event (ap (λ call. goes_out w.call.kind (acted_on_answer call.kind S e.thread call (answer_of e)) e.thread w.strand e.reply e.signal e.clock) (call_told S e w (legal_at S e w legal at))
     ∙ ap (λ S'. goes_out w.call.kind S' e.thread w.strand e.reply e.signal e.clock) (sym effect)

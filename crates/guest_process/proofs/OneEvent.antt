@@ -1,5 +1,5 @@
 -- A recorded event agrees with its replay.
-use Rattle.std.proofs.Common.{◌≡◌, ℕ, zero, suc, ◌+◌, ◌<◌, ◌≤◌, ◌^◌, Bool, true, false, ◌&&◌, ◌||◌, not, cond, List, [], ◌∷◌, length, Option, Some, None, refl, ap, sym, subst, arith, inl, inr, ⊎_elim}
+use Rattle.std.proofs.Common.{◌≡◌, ℕ, zero, suc, ◌+◌, ◌<◌, ◌≤◌, ◌^◌, Bool, true, false, ◌&&◌, ◌||◌, not, cond, List, [], ◌∷◌, length, Option, Some, None, refl, ap, subst, arith, inl, inr, ⊎_elim}
 use Rattle.std.specs.Prelude.{◌==◌, nat_le, is_some, slice_get, option_and_then}
 use Rattle.std.proofs.lemmas.Bool.{and_parts, and_from, or_right, le-leb as le-leb', eqb-true, leb-true, or_cases}
 use Rattle.std.proofs.lemmas.Option.{same_Some}

@@ -26,7 +26,7 @@ use Rattle.guest_process.specs.OneEvent.{WorldBrings, IsThereToTake, Possible, S
 use Rattle.guest_process.specs.State.{State, is_running, thread_at}
 use Rattle.guest_process.specs.Fits.{StateFits}
 use Rattle.guest_process.proofs.FirstFailure.{all_hold, unless_none}
-use Rattle.guest_process.proofs.LegalEntries.{call_told, fits_at}
+use Rattle.guest_process.proofs.LegalEntries.{call_told}
 use Rattle.guest_process.proofs.AnswerWrites.{asked_good, given_written, not_minus_two, random_short, recv_short, taken_counted, try_recv_short}
 
 not_minus_one : (reply : ℕ) → reply ≤ 60000 → (reply == minus_one) ≡ false

@@ -11,7 +11,6 @@ use Rattle.lib_calls.specs.Effects.{is_good, minus_one, minus_two, takes_counted
 use Rattle.lib_calls.specs.Traffic.{drawn, draws_as, is_sent, is_taken, sends_as, takes_as}
 use Rattle.guest_process.specs.declared.waiting.Waiting.{Waiting}
 use Rattle.guest_process.specs.Answers.{Fixed, World, need_of_world, brings_nothing, is_drawn, is_empty, is_payload, is_possible, need, replied, takes_datagram}
-use Rattle.guest_process.specs.Fits.{StateFits}
 use Rattle.guest_process.specs.Legal.{entry_checks, need_gives_answer, reason_at}
 use Rattle.guest_process.specs.Numbers.{CallsWell, HasTraffic, LegalTraffic}
 use Rattle.guest_process.specs.State.{State, is_running, thread_at}
@@ -161,17 +160,17 @@ traffic k S e is h = record {
   draws_none = λ bad. ap (λ k. draws_as k e) is ∙ undrawn_as k S e is h bad;
 }
 
-traffic_at : (S : State) (e : Entry) → StateFits S → (w : Waiting) → thread_at S e.thread ≡ Some w → reason_at S e (Some w) ≡ None → HasTraffic S e
-traffic_at S e s w at h =
+traffic_at : (S : State) (e : Entry) (w : Waiting) → reason_at S e (Some w) ≡ None → HasTraffic S e
+traffic_at S e w h =
     let holds = all_hold (entry_checks S e w) h in
     let told = call_told S e w holds in
     let given : IsGiven w.call.kind S e =
     subst (λ (c : Call). need_gives_answer (need w.call.kind S e.thread c) (answer_of e) (is_possible w.call.kind S c (answer_of e)) ≡ true) (sym told) holds.reply in
     traffic w.call.kind S e (ap (λ (c : Call). c.kind) told) given
 
-traffic_of : (S : State) (e : Entry) → StateFits S → (o : Option Waiting) → thread_at S e.thread ≡ o → reason_at S e o ≡ None → HasTraffic S e
-traffic_of S e s None at h = cc
-traffic_of S e s (Some w) at h = traffic_at S e s w at h
+traffic_of : (S : State) (e : Entry) (o : Option Waiting) → reason_at S e o ≡ None → HasTraffic S e
+traffic_of S e None h = cc
+traffic_of S e (Some w) h = traffic_at S e w h
 
 pub legal_traffic : LegalTraffic
-legal_traffic S e s h = traffic_of S e s (thread_at S e.thread) refl (unless_none (is_running S) _ _ h).1
+legal_traffic S e s h = traffic_of S e (thread_at S e.thread) (unless_none (is_running S) _ _ h).1

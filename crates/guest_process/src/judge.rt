@@ -136,7 +136,12 @@ impl<'m> Body<'m> {
         ensures { result ≡ (entry_checks (state_of self.now) (entry_of entry.now) waiting.now).handler }
     {
         // At nearly all events there is none, and the handlers need not be put together.
-        entry.signal == 0 || is_handled(waiting.call.kind, &self.handlers_after(waiting), entry.signal)
+        entry.signal == 0
+            || is_handled(
+                waiting.call.kind,
+                &self.handlers_after(waiting),
+                entry.signal,
+            )
     }
 }
 

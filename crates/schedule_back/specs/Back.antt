@@ -1,6 +1,6 @@
 -- The schedule that records to the logs of a group: for each event, in the order of all, what brings about its answer and
 -- its signal, and then one try of its thread.
-use Rattle.std.specs.Prelude.{ℕ, ◌==◌, if◌then◌else◌, List, [], ◌∷◌, ◌++◌, Option, Some, flat_map}
+use Rattle.std.specs.Prelude.{ℕ, ◌==◌, if◌then◌else◌, List, [], ◌∷◌, ◌++◌, flat_map}
 use Rattle.std.specs.Int.{w64, cast_signed}
 use Rattle.call_table.specs.declared.kind.Kind.{Kind}
 use Rattle.call_table.specs.declared.kind.Kind.TheVariants.{Now, SleepUntil, Random as RandomCall, Recv, TryRecv}

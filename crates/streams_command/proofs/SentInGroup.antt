@@ -1,5 +1,5 @@
 -- What is sent into a group is for one of its processes.
-use Rattle.std.proofs.Common.{◌≡◌, ◌<◌, ℕ, true, Option, Some, arith}
+use Rattle.std.proofs.Common.{◌≡◌, ◌<◌, ℕ, true, arith}
 use Rattle.std.proofs.lemmas.Bool.Decides.{nat_tests}
 use Rattle.call_table.specs.declared.kind.Kind.{Kind}
 use Rattle.call_table.specs.declared.kind.Kind.TheVariants.{Send}

@@ -48,7 +48,7 @@ returns-then-ends_process-clause-state c =
     ap awaits_event (c.exit.ensures.state
     ∙ ap (λ crew. exited_process (with_event_counted (record S' { crew = crew }) e.thread e.clock) e.thread w.call.a0) c.in-Some.ensures.some
     ∙ ap (λ S'. exited_process (with_event_counted (with_thread S' e.thread Lent) e.thread e.clock) e.thread w.call.a0) after)
-    ∙ exits S e w c.requires.process.fits c.requires.legal at ends
+    ∙ exits S e w c.requires.legal at ends
 
 pub go_on-requires-clause-taken : goal.go_on-requires-clause-taken
 go_on-requires-clause-taken c =
@@ -104,4 +104,4 @@ returns-clause-state c =
     ap awaits_event (c.in_ok-go_on.ensures.state
     ∙ ap (λ crew. runs_handled (with_event_counted (record S' { crew = crew }) e.thread e.clock) e.thread (answered_strand w.strand (reply_value w.call.kind e.reply)) e.signal) c.in-Some.ensures.some
     ∙ ap (λ S'. goes_out w.call.kind S' e.thread w.strand e.reply e.signal e.clock) after)
-    ∙ goes S e w c.requires.process.fits c.requires.legal at ends
+    ∙ goes S e w c.requires.legal at ends
