@@ -9,24 +9,24 @@ use Rattle.std.proofs.lemmas.List.{drop_at, nil_from_length}
 use Rattle.std.proofs.lemmas.Option.{cond_some, same_Some}
 use Rattle.fri_bytes.specs.Laws.{AreBytes, ExactReaders}
 use Rattle.fri_bytes.specs.Reading.{byte_at, piece_at}
-use Rattle.lib_calls.specs.Kinds.{has_outgoing, has_incoming, has_tag}
-use Rattle.call_log.specs.Kind.{is_kind}
+use Rattle.call_table.specs.Table.{row}
+use Rattle.call_table.specs.declared.kind.Kind.{Kind}
 use Rattle.lib_calls.specs.declared.entry.Entry.{Entry}
 use Rattle.lib_calls.specs.Entry.{IsShaped}
 use Rattle.call_log.specs.declared.version.Version.{Version}
 use Rattle.call_log.specs.Version.{clock_at, clock_bytes, number_at, number_bytes}
 use Rattle.call_log.specs.Entry.{BeginsNoEntry, body_bytes, encoding, argument_bytes, string_if, tag_if}
-use Rattle.call_log.specs.Reading.{read_entry, body_at, call_at, string_if_at, tag_if_at}
+use Rattle.call_log.specs.Reading.{read_entry, body_at, kind_byte_at, call_at, string_if_at, tag_if_at}
 use Rattle.call_log.specs.Log.{Unread, entry_at, entry_in, unread_after_entry}
 use Rattle.call_log.proofs.EntrySizes.{length-body_lt}
-use Rattle.call_log.proofs.ShapeTests.{and_true, both_true, is_shaped-from, kind_within, shaped_from_test, within_kind}
-use Rattle.call_log.proofs.FieldLemmas.{bind_some, front_in_range, bytes_after, onto, next, when_true, kept, clock_field, u16_field, u32_field, u64_field, byte_field, string_if_field, tag_if_field, call_at-kind, call_field}
+use Rattle.call_log.proofs.ShapeTests.{and_true, both_true, is_shaped-from, shaped_from_test}
+use Rattle.call_log.proofs.FieldLemmas.{bind_some, front_in_range, bytes_after, onto, next, when_true, kept, clock_field, u16_field, u32_field, u64_field, byte_field, kind_field, string_if_field, tag_if_field, call_at-kind, call_field}
 
 at_most_none : (n : ℕ) → leb n 0 ≡ true → n ≡ 0
 at_most_none n h = let few : n ≤ 0 = leb-true n 0 h in omega arith
 
 -- the fields of an entry of the kind were read one after the other, and nothing is left
-record Steps (v : Version) (last kind : ℕ) (bytes : List ℕ) (e : Entry) : Type 0 where
+record Steps (v : Version) (last : ℕ) (kind : Kind) (bytes : List ℕ) (e : Entry) : Type 0 where
   kind_is : e.call.kind ≡ kind
   after_clock : List ℕ
   after_thread : List ℕ
@@ -38,23 +38,22 @@ record Steps (v : Version) (last kind : ℕ) (bytes : List ℕ) (e : Entry) : Ty
   after_incoming : List ℕ
   clock : clock_at v last bytes ≡ Some (e.clock, after_clock)
   thread : number_at v w16 after_clock ≡ Some (e.thread, after_thread)
-  number : byte_at after_thread ≡ Some (kind, after_kind)
+  number : kind_byte_at after_thread ≡ Some (kind, after_kind)
   signal : byte_at after_kind ≡ Some (e.signal, after_signal)
-  known : is_kind kind ≡ true
   call : call_at v kind after_signal ≡ Some (e.call, after_call)
   reply : number_at v w64 after_call ≡ Some (e.reply, after_reply)
-  outgoing : string_if_at v (has_outgoing kind) after_reply ≡ Some (e.outgoing, after_outgoing)
-  incoming : string_if_at v (has_incoming kind) after_outgoing ≡ Some (e.incoming, after_incoming)
-  tag : tag_if_at v (has_tag kind) after_incoming ≡ Some (e.tag, [])
+  outgoing : string_if_at v (row kind).entry.outgoing after_reply ≡ Some (e.outgoing, after_outgoing)
+  incoming : string_if_at v (row kind).entry.incoming after_outgoing ≡ Some (e.incoming, after_incoming)
+  tag : tag_if_at v (row kind).entry.tag after_incoming ≡ Some (e.tag, [])
 
-body_at-from : (v : Version) (last kind : ℕ) (bytes : List ℕ) (e : Entry) → Steps v last kind bytes e → body_at v last bytes ≡ Some e
+body_at-from : (v : Version) (last : ℕ) (kind : Kind) (bytes : List ℕ) (e : Entry) → Steps v last kind bytes e → body_at v last bytes ≡ Some e
 unfolding body_at
 body_at-from v last kind bytes e h =
     next _ _ (e.clock, h.after_clock) _ h.clock (
     next _ _ (e.thread, h.after_thread) _ h.thread (
     next _ _ (kind, h.after_kind) _ h.number (
     next _ _ (e.signal, h.after_signal) _ h.signal (
-    next _ _ (e.call, h.after_call) _ (when_true _ _ _ _ h.known h.call) (
+    next _ _ (e.call, h.after_call) _ h.call (
     next _ _ (e.reply, h.after_reply) _ h.reply (
     next _ _ (e.outgoing, h.after_outgoing) _ h.outgoing (
     next _ _ (e.incoming, h.after_incoming) _ h.incoming (
@@ -62,7 +61,7 @@ body_at-from v last kind bytes e h =
 
 -- the steps of some kind
 abbrev AnySteps : Version → ℕ → List ℕ → Entry → Type 0
-AnySteps v last bytes e = (kind : ℕ) × Steps v last kind bytes e
+AnySteps v last bytes e = (kind : Kind) × Steps v last kind bytes e
 
 steps_from : (v : Version) (last : ℕ) (bytes : List ℕ) (e : Entry) → body_at v last bytes ≡ Some e → AnySteps v last bytes e
 unfolding body_at
@@ -77,7 +76,6 @@ steps_from v last bytes e read =
     let incoming = bind_some _ _ _ outgoing.2 in
     let tag = bind_some _ _ _ incoming.2 in
     let end = kept _ _ _ tag.2 in
-    let known = kept _ _ _ call.1 in
     let made : Entry = record {
       clock = clock.0.0;
       thread = thread.0.0;
@@ -90,7 +88,7 @@ steps_from v last bytes e read =
     } in
     let none_left : tag.0.1 ≡ [] = nil_from_length tag.0.1 (at_most_none (length tag.0.1) end.0) in
     let steps : Steps v last kind.0.0 bytes made = record {
-      kind_is = call_at-kind v kind.0.0 signal.0.1 call.0.0 call.0.1 known.1;
+      kind_is = call_at-kind v kind.0.0 signal.0.1 call.0.0 call.0.1 call.1;
       after_clock = clock.0.1;
       after_thread = thread.0.1;
       after_kind = kind.0.1;
@@ -103,8 +101,7 @@ steps_from v last bytes e read =
       thread = thread.1;
       number = kind.1;
       signal = signal.1;
-      known = known.0;
-      call = known.1;
+      call = call.1;
       reply = reply.1;
       outgoing = outgoing.1;
       incoming = incoming.1;
@@ -117,13 +114,13 @@ module _ (readers : ExactReaders) where
   pub body_at-body : (v : Version) (last : ℕ) (e : Entry) → IsShaped e → body_at v last (body_bytes v last e) ≡ Some e
   unfolding body_bytes
   body_at-body v last e shaped =
-      let tag : List ℕ = tag_if v (has_tag e.call.kind) e.tag ++ [] in
-      let incoming : List ℕ = string_if v (has_incoming e.call.kind) e.incoming ++ tag in
-      let outgoing : List ℕ = string_if v (has_outgoing e.call.kind) e.outgoing ++ incoming in
+      let tag : List ℕ = tag_if v (row e.call.kind).entry.tag e.tag ++ [] in
+      let incoming : List ℕ = string_if v (row e.call.kind).entry.incoming e.incoming ++ tag in
+      let outgoing : List ℕ = string_if v (row e.call.kind).entry.outgoing e.outgoing ++ incoming in
       let reply : List ℕ = number_bytes v w64 e.reply ++ outgoing in
       let call : List ℕ = argument_bytes v e.call ++ reply in
       let signal : List ℕ = (e.signal ∷ []) ++ call in
-      let kind : List ℕ = (e.call.kind ∷ []) ++ signal in
+      let kind : List ℕ = ((row e.call.kind).number ∷ []) ++ signal in
       let thread : List ℕ = number_bytes v w16 e.thread ++ kind in
       let read : Steps v last e.call.kind (clock_bytes v last e.clock ++ thread) e = record {
         kind_is = refl;
@@ -137,14 +134,13 @@ module _ (readers : ExactReaders) where
         after_incoming = tag;
         clock = (clock_field readers v last).again e.clock thread shaped.clock;
         thread = (u16_field readers v).again e.thread kind shaped.thread;
-        number = refl;
+        number = kind_field.again e.call.kind signal tt;
         signal = refl;
-        known = within_kind e.call.kind shaped.kind;
         call = (call_field readers v e.call.kind).again e.call reply (refl, shaped.arguments);
         reply = (u64_field readers v).again e.reply outgoing shaped.reply;
-        outgoing = (string_if_field readers v (has_outgoing e.call.kind)).again e.outgoing incoming shaped.outgoing;
-        incoming = (string_if_field readers v (has_incoming e.call.kind)).again e.incoming tag shaped.incoming;
-        tag = (tag_if_field readers v (has_tag e.call.kind)).again e.tag [] shaped.tag;
+        outgoing = (string_if_field readers v (row e.call.kind).entry.outgoing).again e.outgoing incoming shaped.outgoing;
+        incoming = (string_if_field readers v (row e.call.kind).entry.incoming).again e.incoming tag shaped.incoming;
+        tag = (tag_if_field readers v (row e.call.kind).entry.tag).again e.tag [] shaped.tag;
       } in
       body_at-from v last e.call.kind (clock_bytes v last e.clock ++ thread) e read
 
@@ -154,23 +150,22 @@ module _ (readers : ExactReaders) where
   shaped_from v last bytes e are h =
       let are_1 = bytes_after (clock_field readers v last) bytes e.clock h.after_clock are h.clock in
       let are_2 = bytes_after (u16_field readers v) h.after_clock e.thread h.after_thread are_1 h.thread in
-      let are_3 = bytes_after byte_field h.after_thread e.call.kind h.after_kind are_2 h.number in
+      let are_3 = bytes_after kind_field h.after_thread e.call.kind h.after_kind are_2 h.number in
       let are_4 = bytes_after byte_field h.after_kind e.signal h.after_signal are_3 h.signal in
       let are_5 = bytes_after (call_field readers v e.call.kind) h.after_signal e.call h.after_call are_4 h.call in
       let are_6 = bytes_after (u64_field readers v) h.after_call e.reply h.after_reply are_5 h.reply in
-      let are_7 = bytes_after (string_if_field readers v (has_outgoing e.call.kind)) h.after_reply e.outgoing h.after_outgoing are_6 h.outgoing in
-      let are_8 = bytes_after (string_if_field readers v (has_incoming e.call.kind)) h.after_outgoing e.incoming h.after_incoming are_7 h.incoming in
+      let are_7 = bytes_after (string_if_field readers v (row e.call.kind).entry.outgoing) h.after_reply e.outgoing h.after_outgoing are_6 h.outgoing in
+      let are_8 = bytes_after (string_if_field readers v (row e.call.kind).entry.incoming) h.after_outgoing e.incoming h.after_incoming are_7 h.incoming in
       let clock = (clock_field readers v last).found bytes e.clock h.after_clock are h.clock in
       let thread = (u16_field readers v).found h.after_clock e.thread h.after_thread are_1 h.thread in
-      let number = byte_field.found h.after_thread e.call.kind h.after_kind are_2 h.number in
+      let kind = kind_field.found h.after_thread e.call.kind h.after_kind are_2 h.number in
       let signal = byte_field.found h.after_kind e.signal h.after_signal are_3 h.signal in
       let call = (call_field readers v e.call.kind).found h.after_signal e.call h.after_call are_4 h.call in
       let reply = (u64_field readers v).found h.after_call e.reply h.after_reply are_5 h.reply in
-      let outgoing = (string_if_field readers v (has_outgoing e.call.kind)).found h.after_reply e.outgoing h.after_outgoing are_6 h.outgoing in
-      let incoming = (string_if_field readers v (has_incoming e.call.kind)).found h.after_outgoing e.incoming h.after_incoming are_7 h.incoming in
-      let tag = (tag_if_field readers v (has_tag e.call.kind)).found h.after_incoming e.tag [] are_8 h.tag in
+      let outgoing = (string_if_field readers v (row e.call.kind).entry.outgoing).found h.after_reply e.outgoing h.after_outgoing are_6 h.outgoing in
+      let incoming = (string_if_field readers v (row e.call.kind).entry.incoming).found h.after_outgoing e.incoming h.after_incoming are_7 h.incoming in
+      let tag = (tag_if_field readers v (row e.call.kind).entry.tag).found h.after_incoming e.tag [] are_8 h.tag in
       let shaped : IsShaped e = record {
-        kind = kind_within e.call.kind h.known;
         clock = clock.0;
         thread = thread.0;
         signal = signal.0;
@@ -183,19 +178,19 @@ module _ (readers : ExactReaders) where
       let spelled : bytes ≡ body_bytes v last e =
       clock.1 ∙ onto (clock_bytes v last e.clock) (
       thread.1 ∙ onto (number_bytes v w16 e.thread) (
-      number.1 ∙ onto (e.call.kind ∷ []) (
+      kind.1 ∙ onto ((row e.call.kind).number ∷ []) (
       signal.1 ∙ onto (e.signal ∷ []) (
       call.1 ∙ onto (argument_bytes v e.call) (
       reply.1 ∙ onto (number_bytes v w64 e.reply) (
-      outgoing.1 ∙ onto (string_if v (has_outgoing e.call.kind) e.outgoing) (
-      incoming.1 ∙ onto (string_if v (has_incoming e.call.kind) e.incoming) tag.1))))))) in
+      outgoing.1 ∙ onto (string_if v (row e.call.kind).entry.outgoing e.outgoing) (
+      incoming.1 ∙ onto (string_if v (row e.call.kind).entry.incoming e.incoming) tag.1))))))) in
       (shaped, spelled)
 
   body_at-found : (v : Version) (last : ℕ) (bytes : List ℕ) (e : Entry) → AreBytes bytes → body_at v last bytes ≡ Some e → IsShaped e × (bytes ≡ body_bytes v last e)
   body_at-found v last bytes e are found =
       let steps = steps_from v last bytes e found in
       let at : Steps v last steps.0 bytes e = steps.1 in
-      shaped_from v last bytes e are (subst (λ (k : ℕ). Steps v last k bytes e) (sym at.kind_is) at)
+      shaped_from v last bytes e are (subst (λ (k : Kind). Steps v last k bytes e) (sym at.kind_is) at)
 
   -- ---- an entry after its length
 

@@ -2,11 +2,12 @@
 use Rattle.std.proofs.Common.{◌≡◌, ℕ, zero, suc, ◌+◌, ◌/◌, ◌%◌, ◌^◌, ◌<◌, ◌≤◌, lit≤, Bool, true, false, cond, ltb, List, [], ◌∷◌, length, Option, Some, None, refl, ap, ◌∙◌, arith, length-append}
 use Rattle.std.specs.Int.{Width, w8, w16, w32, w64, w128}
 use Rattle.std.specs.List.{concat}
-use Rattle.std.proofs.lemmas.Bool.Decides.{nat_tests}
 use Rattle.lamport_tag.specs.declared.Tag.{Tag}
 use Rattle.fri_bytes.specs.Short.{short_bytes, short_within}
 use Rattle.lib_calls.specs.declared.entry.Call.{Call}
-use Rattle.lib_calls.specs.Kinds.{argument_count, has_outgoing, has_incoming, has_tag}
+use Rattle.call_table.specs.Table.{row}
+use Rattle.call_table.specs.declared.kind.Kind.{Kind}
+use Rattle.call_table.specs.declared.kind.Kind.TheVariants.{Begin, Exit, Note, Print, Now, SleepUntil, Random, Me, Send, Recv, TryRecv, Spawn, Yield, Join, Lock, Unlock, OnSignal, Thread}
 use Rattle.std.specs.Prelude.{nat_lt}
 use Rattle.lib_calls.specs.declared.entry.Entry.{Entry}
 use Rattle.lib_calls.specs.Entry.{IsStringIf, IsShaped}
@@ -79,23 +80,39 @@ length-string_if v false s none = lit≤ tt
 pub length-argument_bytes : (v : Version) (call : Call) → length (argument_bytes v call) ≤ 48
 unfolding argument_bytes
 length-argument_bytes v call =
-    let has : ℕ → Bool = λ k. nat_lt k (argument_count call.kind) in
+    let has : ℕ → Bool = λ k. nat_lt k (row call.kind).signature.params in
     let all = length-concat (number_if v (has 0) call.a0 ∷ number_if v (has 1) call.a1 ∷ number_if v (has 2) call.a2 ∷ []) in
     omega (arith, all, length-number_if v (has 0) call.a0, length-number_if v (has 1) call.a1, length-number_if v (has 2) call.a2)
 
 -- no kind has both byte strings
-one_string : (kind : ℕ) → cond (has_outgoing kind) 2147483664 0 + cond (has_incoming kind) 2147483664 0 ≤ 2147483664
-unfolding has_outgoing has_incoming
-one_string kind = grind (arith, nat_tests)
+one_string : (kind : Kind) → cond (row kind).entry.outgoing 2147483664 0 + cond (row kind).entry.incoming 2147483664 0 ≤ 2147483664
+one_string Begin = lit≤ tt
+one_string Exit = lit≤ tt
+one_string Note = lit≤ tt
+one_string Print = lit≤ tt
+one_string Now = lit≤ tt
+one_string SleepUntil = lit≤ tt
+one_string Random = lit≤ tt
+one_string Me = lit≤ tt
+one_string Send = lit≤ tt
+one_string Recv = lit≤ tt
+one_string TryRecv = lit≤ tt
+one_string Spawn = lit≤ tt
+one_string Yield = lit≤ tt
+one_string Join = lit≤ tt
+one_string Lock = lit≤ tt
+one_string Unlock = lit≤ tt
+one_string OnSignal = lit≤ tt
+one_string Thread = lit≤ tt
 
 -- ---- the body
 
 pub body_size : (v : Version) (last : ℕ) (e : Entry)
-    → length (body_bytes v last e) ≡ length (clock_bytes v last e.clock) + length (number_bytes v w16 e.thread) + 2 + length (argument_bytes v e.call) + length (number_bytes v w64 e.reply) + length (string_if v (has_outgoing e.call.kind) e.outgoing) + length (string_if v (has_incoming e.call.kind) e.incoming) + length (tag_if v (has_tag e.call.kind) e.tag)
+    → length (body_bytes v last e) ≡ length (clock_bytes v last e.clock) + length (number_bytes v w16 e.thread) + 2 + length (argument_bytes v e.call) + length (number_bytes v w64 e.reply) + length (string_if v (row e.call.kind).entry.outgoing e.outgoing) + length (string_if v (row e.call.kind).entry.incoming e.incoming) + length (tag_if v (row e.call.kind).entry.tag e.tag)
 unfolding body_bytes
 body_size v last e = length-concat (
-    clock_bytes v last e.clock ∷ number_bytes v w16 e.thread ∷ (e.call.kind ∷ []) ∷ (e.signal ∷ []) ∷ argument_bytes v e.call ∷ number_bytes v w64 e.reply
-    ∷ string_if v (has_outgoing e.call.kind) e.outgoing ∷ string_if v (has_incoming e.call.kind) e.incoming ∷ tag_if v (has_tag e.call.kind) e.tag ∷ []) ∙ summed _ _ _ _ _ _ _
+    clock_bytes v last e.clock ∷ number_bytes v w16 e.thread ∷ ((row e.call.kind).number ∷ []) ∷ (e.signal ∷ []) ∷ argument_bytes v e.call ∷ number_bytes v w64 e.reply
+    ∷ string_if v (row e.call.kind).entry.outgoing e.outgoing ∷ string_if v (row e.call.kind).entry.incoming e.incoming ∷ tag_if v (row e.call.kind).entry.tag e.tag ∷ []) ∙ summed _ _ _ _ _ _ _
   where
     summed : (c t a r o i g : ℕ) → c + (t + (1 + (1 + (a + (r + (o + (i + (g + 0)))))))) ≡ c + t + 2 + a + r + o + i + g
     summed c t a r o i g = omega arith

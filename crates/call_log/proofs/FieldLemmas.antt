@@ -1,22 +1,25 @@
 -- Each field of an entry is read exactly as it is written.
 use Rattle.std.proofs.Common.{OnOk, Result, Ok, Err, inl, inr, ◌⊎◌, ◌≡◌, ℕ, zero, suc, ◌^◌, ◌<◌, ◌≤◌, lit≤, Bool, true, false, cond, eqb, ltb, List, [], ◌∷◌, ◌++◌, length, slice_index, Option, Some, None, refl, sym, ap, ◌∙◌, subst, arith, append_assoc}
-use Rattle.std.specs.Prelude.{nat_lt, option_and_then, option_map}
+use Rattle.std.specs.Prelude.{map, nat_lt, option_and_then, option_map, slice_get}
 use Rattle.std.specs.List.{concat}
 use Rattle.std.specs.Int.{Width, w16, w32, w64, byte_len, to_le_bytes}
 use Rattle.std.proofs.lemmas.Bool.{eqb-true, ltb-true, lt-ltb}
-use Rattle.std.proofs.lemmas.Option.{some_pair_parts, same_Some}
+use Rattle.std.proofs.lemmas.List.FromFn.{get_or-range_with_len}
+use Rattle.std.proofs.lemmas.Option.{get_or_from_slice_get, slice_get-map, some_pair_parts, same_Some}
 use Rattle.lamport_tag.specs.declared.Tag.{Tag}
 use Rattle.fri_bytes.specs.Laws.{AreBytes, ExactReaders}
 use Rattle.fri_bytes.specs.Reading.{byte_at, piece_at, le_at}
 use Rattle.fri_bytes.specs.Short.{short_at, short_bytes}
 use Rattle.lib_calls.specs.declared.entry.Call.{Call}
-use Rattle.lib_calls.specs.Kinds.{argument_count}
+use Rattle.call_table.specs.Numbers.{number_within, numbered}
+use Rattle.call_table.specs.Table.{kind_numbered, kinds, row}
+use Rattle.call_table.specs.declared.kind.Kind.{Kind}
 use Rattle.lib_calls.specs.Entry.{IsNumberIf, IsStringIf, IsTagIf, HasArguments}
 use Rattle.call_log.specs.declared.version.Version.{Version}
 use Rattle.call_log.specs.declared.version.Version.TheVariants.{One, Two}
 use Rattle.call_log.specs.Version.{if_below, clock_above, clock_at, clock_bytes, clock_gap, number_at, number_bytes}
 use Rattle.call_log.specs.Entry.{number_if, string_if, flagged_tag, tag_if, argument_bytes}
-use Rattle.call_log.specs.Reading.{number_if_at, call_at, string_at, string_if_at, tag_fields_at, flagged_tag_at, tag_if_at}
+use Rattle.call_log.specs.Reading.{number_if_at, kind_byte_at, call_at, string_at, string_if_at, tag_fields_at, flagged_tag_at, tag_if_at}
 
 -- bytes in front of others are in range where all are
 pub front_in_range : (front rest : List ℕ) → AreBytes (front ++ rest) → AreBytes front
@@ -94,6 +97,32 @@ pub byte_field : ReadsBack (λ b. b < 256) (λ b. b ∷ []) byte_at
 byte_field = record {
   again = λ b rest fits. refl;
   found = byte_found;
+}
+
+-- a kind has the number that it was found by
+number_of : (number : ℕ) (kind : Kind) → kind_numbered number ≡ Some kind → (row kind).number ≡ number
+unfolding kind_numbered
+number_of number kind e =
+    let numbers : List ℕ = map (λ k. (row k).number) kinds in
+    let at : slice_get numbers number ≡ Some (row kind).number = slice_get-map (λ k. (row k).number) kinds number ∙ ap (option_map (λ k. (row k).number)) e in
+    omega (arith, get_or_from_slice_get numbers number (row kind).number 0 at, get_or-range_with_len 0 18 number 0 (number_within number kind e))
+
+kind_again : (kind : Kind) (rest : List ℕ) → kind_byte_at ((row kind).number ∷ rest) ≡ Some (kind, rest)
+unfolding kind_byte_at
+kind_again kind rest = next _ _ kind _ (numbered kind) refl
+
+kind_found : (bytes : List ℕ) (kind : Kind) (rest : List ℕ) → kind_byte_at bytes ≡ Some (kind, rest) → bytes ≡ (row kind).number ∷ rest
+unfolding kind_byte_at
+kind_found [] kind rest e = cc
+kind_found (number ∷ bytes) kind rest e =
+    let read = bind_some _ _ _ e in
+    let parts = some_pair_parts read.0 kind bytes rest read.2 in
+    ap (λ (t : List ℕ). number ∷ t) parts.1 ∙ ap (λ (n : ℕ). n ∷ rest) (sym (number_of number read.0 read.1) ∙ ap (λ k. (row k).number) parts.0)
+
+pub kind_field : ReadsBack (λ _. Unit {0}) (λ kind. (row kind).number ∷ []) kind_byte_at
+kind_field = record {
+  again = λ kind rest _. kind_again kind rest;
+  found = λ bytes kind rest are e. (tt, kind_found bytes kind rest e);
 }
 
 -- where the kind lacks a field, its one value is read from nothing
@@ -272,21 +301,21 @@ module _ (readers : ExactReaders) where
 -- ---- calls
 
 -- the three arguments were read one after the other
-record Arguments (v : Version) (kind : ℕ) (bytes : List ℕ) (call : Call) (rest : List ℕ) : Type 0 where
+record Arguments (v : Version) (kind : Kind) (bytes : List ℕ) (call : Call) (rest : List ℕ) : Type 0 where
   kind_is : call.kind ≡ kind
   after_first : List ℕ
   after_second : List ℕ
-  first : number_if_at v (nat_lt 0 (argument_count kind)) bytes ≡ Some (call.a0, after_first)
-  second : number_if_at v (nat_lt 1 (argument_count kind)) after_first ≡ Some (call.a1, after_second)
-  third : number_if_at v (nat_lt 2 (argument_count kind)) after_second ≡ Some (call.a2, rest)
+  first : number_if_at v (nat_lt 0 (row kind).signature.params) bytes ≡ Some (call.a0, after_first)
+  second : number_if_at v (nat_lt 1 (row kind).signature.params) after_first ≡ Some (call.a1, after_second)
+  third : number_if_at v (nat_lt 2 (row kind).signature.params) after_second ≡ Some (call.a2, rest)
 
-call_at-from : (v : Version) (kind : ℕ) (bytes : List ℕ) (call : Call) (rest : List ℕ) → Arguments v kind bytes call rest → call_at v kind bytes ≡ Some (call, rest)
+call_at-from : (v : Version) (kind : Kind) (bytes : List ℕ) (call : Call) (rest : List ℕ) → Arguments v kind bytes call rest → call_at v kind bytes ≡ Some (call, rest)
 unfolding call_at
 call_at-from v kind bytes call rest h =
-    let same : ◌≡◌ {A = Call} (record { kind = kind; a0 = call.a0; a1 = call.a1; a2 = call.a2 }) call = ap (λ (k : ℕ). record { kind = k; a0 = call.a0; a1 = call.a1; a2 = call.a2 }) (sym h.kind_is) in
+    let same : ◌≡◌ {A = Call} (record { kind = kind; a0 = call.a0; a1 = call.a1; a2 = call.a2 }) call = ap (λ (k : Kind). record { kind = k; a0 = call.a0; a1 = call.a1; a2 = call.a2 }) (sym h.kind_is) in
     next _ _ (call.a0, h.after_first) _ h.first (next _ _ (call.a1, h.after_second) _ h.second (next _ _ (call.a2, rest) _ h.third (ap (λ (c : Call). Some (c, rest)) same)))
 
-arguments_from : (v : Version) (kind : ℕ) (bytes : List ℕ) (call : Call) (rest : List ℕ) → call_at v kind bytes ≡ Some (call, rest) → Arguments v kind bytes call rest
+arguments_from : (v : Version) (kind : Kind) (bytes : List ℕ) (call : Call) (rest : List ℕ) → call_at v kind bytes ≡ Some (call, rest) → Arguments v kind bytes call rest
 unfolding call_at
 arguments_from v kind bytes call rest e =
     let first = bind_some _ _ _ e in
@@ -304,17 +333,17 @@ arguments_from v kind bytes call rest e =
     subst (λ (x : Call × List ℕ). Arguments v kind bytes x.0 x.1) (same_Some (made, third.0.1) (call, rest) third.2) read
 
 -- a call that was read is of the kind that it was read for
-pub call_at-kind : (v : Version) (kind : ℕ) (bytes : List ℕ) (call : Call) (rest : List ℕ) → call_at v kind bytes ≡ Some (call, rest) → call.kind ≡ kind
+pub call_at-kind : (v : Version) (kind : Kind) (bytes : List ℕ) (call : Call) (rest : List ℕ) → call_at v kind bytes ≡ Some (call, rest) → call.kind ≡ kind
 call_at-kind v kind bytes call rest e = (arguments_from v kind bytes call rest e).kind_is
 
-abbrev pub CallFits : ℕ → Call → Type 0
+abbrev pub CallFits : Kind → Call → Type 0
 CallFits kind call = (call.kind ≡ kind) × HasArguments call
 
 module _ (readers : ExactReaders) where
-  call_again : (v : Version) (kind : ℕ) (call : Call) (rest : List ℕ) → CallFits kind call → call_at v kind (argument_bytes v call ++ rest) ≡ Some (call, rest)
+  call_again : (v : Version) (kind : Kind) (call : Call) (rest : List ℕ) → CallFits kind call → call_at v kind (argument_bytes v call ++ rest) ≡ Some (call, rest)
   unfolding argument_bytes
   call_again v kind call rest fits =
-      let has : ℕ → Bool = λ k. nat_lt k (argument_count call.kind) in
+      let has : ℕ → Bool = λ k. nat_lt k (row call.kind).signature.params in
       let third : List ℕ = number_if v (has 2) call.a2 ++ rest in
       let second : List ℕ = number_if v (has 1) call.a1 ++ third in
       let read : Arguments v call.kind (number_if v (has 0) call.a0 ++ second) call rest = record {
@@ -326,14 +355,14 @@ module _ (readers : ExactReaders) where
         third = (number_if_field readers v (has 2)).again call.a2 rest fits.1.third;
       } in
       ap (call_at v kind) (concat-append (number_if v (has 0) call.a0 ∷ number_if v (has 1) call.a1 ∷ number_if v (has 2) call.a2 ∷ []) rest)
-      ∙ call_at-from v kind _ call rest (subst (λ (k : ℕ). Arguments v k (number_if v (has 0) call.a0 ++ second) call rest) fits.0 read)
+      ∙ call_at-from v kind _ call rest (subst (λ (k : Kind). Arguments v k (number_if v (has 0) call.a0 ++ second) call rest) fits.0 read)
 
-  call_found : (v : Version) (kind : ℕ) (bytes : List ℕ) (call : Call) (rest : List ℕ) → AreBytes bytes → call_at v kind bytes ≡ Some (call, rest) → CallFits kind call × (bytes ≡ argument_bytes v call ++ rest)
+  call_found : (v : Version) (kind : Kind) (bytes : List ℕ) (call : Call) (rest : List ℕ) → AreBytes bytes → call_at v kind bytes ≡ Some (call, rest) → CallFits kind call × (bytes ≡ argument_bytes v call ++ rest)
   unfolding argument_bytes
   call_found v kind bytes call rest are e =
-      let has : ℕ → Bool = λ k. nat_lt k (argument_count call.kind) in
+      let has : ℕ → Bool = λ k. nat_lt k (row call.kind).signature.params in
       let at : Arguments v kind bytes call rest = arguments_from v kind bytes call rest e in
-      let read : Arguments v call.kind bytes call rest = subst (λ (k : ℕ). Arguments v k bytes call rest) (sym at.kind_is) at in
+      let read : Arguments v call.kind bytes call rest = subst (λ (k : Kind). Arguments v k bytes call rest) (sym at.kind_is) at in
       let are_1 = bytes_after (number_if_field readers v (has 0)) bytes call.a0 read.after_first are read.first in
       let are_2 = bytes_after (number_if_field readers v (has 1)) read.after_first call.a1 read.after_second are_1 read.second in
       let first = (number_if_field readers v (has 0)).found bytes call.a0 read.after_first are read.first in
@@ -344,5 +373,5 @@ module _ (readers : ExactReaders) where
         spelled ∙ sym (concat-append (number_if v (has 0) call.a0 ∷ number_if v (has 1) call.a1 ∷ number_if v (has 2) call.a2 ∷ []) rest),
       )
 
-  pub call_field : (v : Version) (kind : ℕ) → ReadsBack (CallFits kind) (argument_bytes v) (call_at v kind)
+  pub call_field : (v : Version) (kind : Kind) → ReadsBack (CallFits kind) (argument_bytes v) (call_at v kind)
   call_field v kind = record { again = call_again v kind; found = call_found v kind }

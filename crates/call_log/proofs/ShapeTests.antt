@@ -1,16 +1,11 @@
 -- The tests of `is_shaped` and `is_head` say what the records of facts say.
-use Rattle.std.proofs.Common.{◌≡◌, ℕ, zero, suc, [], ◌∷◌, ◌^◌, ◌<◌, ◌≤◌, Bool, true, false, ◌&&◌, List, length, Option, Some, None, refl, arith}
+use Rattle.std.proofs.Common.{◌≡◌, ℕ, ◌^◌, ◌≤◌, Bool, true, false, ◌&&◌, List, length, Option, Some, None, refl, arith}
 use Rattle.std.proofs.lemmas.Bool.{leb-true, le-leb, ltb-true, lt-ltb}
 use Rattle.std.proofs.lemmas.List.{nil_from_length}
 use Rattle.lamport_tag.specs.declared.Tag.{Tag}
 use Rattle.lib_calls.specs.declared.entry.Call.{Call}
 use Rattle.lib_calls.specs.declared.entry.Entry.{Entry}
 use Rattle.lib_calls.specs.Entry.{IsShaped, HasArguments, IsNumberIf, IsStringIf, IsTagIf}
-use Rattle.call_log.specs.Kind.{is_kind}
-use Rattle.call_table.specs.declared.kind.Kind.{Kind}
-use Rattle.call_table.specs.Table.{kind_numbered, kinds}
-use Rattle.call_table.specs.Numbers.{number_within}
-use Rattle.std.specs.Prelude.{is_some, slice_get}
 use Rattle.call_log.specs.Head.{Head, IsHead}
 use Rattle.call_log.specs.Log.{is_number_if, is_string_if, is_tag_if, has_arguments, is_shaped, is_head}
 
@@ -69,24 +64,6 @@ unfolding has_arguments
 has_arguments-from call h =
     both_true _ _ (both_true _ _ (is_number_if-from _ _ h.first) (is_number_if-from _ _ h.second)) (is_number_if-from _ _ h.third)
 
--- the numbers of kinds are those below how many there are
-pub kind_within : (number : ℕ) → is_kind number ≡ true → number < length kinds
-unfolding is_kind
-kind_within number known = by_kind (kind_numbered number) refl known
-  where
-    by_kind : (o : Option Kind) → kind_numbered number ≡ o → is_some o ≡ true → number < length kinds
-    by_kind None e h = cc
-    by_kind (Some kind) e h = number_within number kind e
-
-some_there : (kinds : List Kind) (number : ℕ) → number < length kinds → is_some (slice_get kinds number) ≡ true
-some_there [] number low = absurd (omega arith)
-some_there (kind ∷ more) zero low = refl
-some_there (kind ∷ more) (suc number) low = some_there more number (omega arith)
-
-pub within_kind : (number : ℕ) → number < length kinds → is_kind number ≡ true
-unfolding is_kind kind_numbered
-within_kind number low = some_there kinds number low
-
 pub shaped_from_test : (e : Entry) → is_shaped e ≡ true → IsShaped e
 unfolding is_shaped
 shaped_from_test e test =
@@ -97,10 +74,8 @@ shaped_from_test e test =
     let arguments = and_true _ _ reply.0 in
     let signal = and_true _ _ arguments.0 in
     let thread = and_true _ _ signal.0 in
-    let clock = and_true _ _ thread.0 in
     record {
-      kind = kind_within e.call.kind clock.0;
-      clock = ltb-true e.clock (2 ^ 64) clock.1;
+      clock = ltb-true e.clock (2 ^ 64) thread.0;
       thread = ltb-true e.thread (2 ^ 16) thread.1;
       signal = ltb-true e.signal (2 ^ 8) signal.1;
       arguments = arguments_from_test e.call arguments.1;
@@ -113,9 +88,8 @@ shaped_from_test e test =
 pub is_shaped-from : (e : Entry) → IsShaped e → is_shaped e ≡ true
 unfolding is_shaped
 is_shaped-from e h =
-    both_true _ _ (both_true _ _ (both_true _ _ (both_true _ _ (both_true _ _ (both_true _ _ (both_true _ _ (both_true _ _
-    (within_kind e.call.kind h.kind)
-    (lt-ltb e.clock (2 ^ 64) h.clock))
+    both_true _ _ (both_true _ _ (both_true _ _ (both_true _ _ (both_true _ _ (both_true _ _ (both_true _ _
+    (lt-ltb e.clock (2 ^ 64) h.clock)
     (lt-ltb e.thread (2 ^ 16) h.thread))
     (lt-ltb e.signal (2 ^ 8) h.signal))
     (has_arguments-from e.call h.arguments))

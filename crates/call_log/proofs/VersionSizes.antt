@@ -8,7 +8,7 @@ use Rattle.lamport_tag.specs.declared.Tag.{Tag}
 use Rattle.fri_bytes.specs.Short.{short_bytes, short_within}
 use Rattle.lib_calls.specs.declared.entry.Call.{Call}
 use Rattle.lib_calls.specs.declared.entry.Entry.{Entry}
-use Rattle.lib_calls.specs.Kinds.{argument_count, has_tag}
+use Rattle.call_table.specs.Table.{row}
 use Rattle.lib_calls.specs.Entry.{IsShaped, IsTagIf}
 use Rattle.call_log.specs.declared.version.Version.{Version}
 use Rattle.call_log.specs.declared.version.Version.TheVariants.{One, Two}
@@ -50,7 +50,7 @@ number_if_more false n = lit≤ tt
 arguments_more : (call : Call) → length (argument_bytes Two call) ≤ length (argument_bytes One call) + 6
 unfolding argument_bytes
 arguments_more call =
-    let has : ℕ → Bool = λ k. nat_lt k (argument_count call.kind) in
+    let has : ℕ → Bool = λ k. nat_lt k (row call.kind).signature.params in
     let all : (v : Version) → length (argument_bytes v call) ≡ length (number_if v (has 0) call.a0) + (length (number_if v (has 1) call.a1) + (length (number_if v (has 2) call.a2) + 0)) =
     λ v. length-concat (number_if v (has 0) call.a0 ∷ number_if v (has 1) call.a1 ∷ number_if v (has 2) call.a2 ∷ []) in
     omega (arith, all One, all Two, number_if_more (has 0) call.a0, number_if_more (has 1) call.a1, number_if_more (has 2) call.a2)
@@ -70,8 +70,8 @@ tag_few tag low sent =
 
 -- what is more at the reply or the clock is less at the clock or the tag
 clock_reply_tag : (last : ℕ) (e : Entry) → IsShaped e → IsCommonEntry last e
-    → length (clock_bytes Two last e.clock) + length (number_bytes Two w64 e.reply) + length (tag_if Two (has_tag e.call.kind) e.tag) ≤ 12 + length (tag_if One (has_tag e.call.kind) e.tag)
-clock_reply_tag last e shaped common = by_tag (has_tag e.call.kind) e.tag refl shaped.tag
+    → length (clock_bytes Two last e.clock) + length (number_bytes Two w64 e.reply) + length (tag_if Two (row e.call.kind).entry.tag e.tag) ≤ 12 + length (tag_if One (row e.call.kind).entry.tag e.tag)
+clock_reply_tag last e shaped common = by_tag (row e.call.kind).entry.tag e.tag refl shaped.tag
   where
     untagged : (has : Bool) → e.tag ≡ None → length (clock_bytes Two last e.clock) + length (number_bytes Two w64 e.reply) ≤ 12
     untagged has none =

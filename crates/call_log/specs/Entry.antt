@@ -6,7 +6,7 @@ use Rattle.lamport_tag.specs.declared.Tag.{Tag}
 use Rattle.lib_calls.specs.declared.entry.Call.{Call}
 use Rattle.lib_calls.specs.declared.entry.Entry.{Entry}
 use Rattle.lib_calls.specs.Entry.{IsShaped}
-use Rattle.lib_calls.specs.Kinds.{argument_count, has_outgoing, has_incoming, has_tag}
+use Rattle.call_table.specs.Table.{row}
 use Rattle.call_log.specs.declared.version.Version.{Version}
 use Rattle.call_log.specs.Version.{clock_bytes, number_bytes}
 
@@ -32,9 +32,9 @@ tag_if v has tag = if has then flagged_tag v tag else []
 -- the arguments that the kind has
 unfoldable pub argument_bytes : Version → Call → List ℕ
 argument_bytes v call = concat (
-    number_if v (nat_lt 0 (argument_count call.kind)) call.a0
-    ∷ number_if v (nat_lt 1 (argument_count call.kind)) call.a1
-    ∷ number_if v (nat_lt 2 (argument_count call.kind)) call.a2
+    number_if v (nat_lt 0 (row call.kind).signature.params) call.a0
+    ∷ number_if v (nat_lt 1 (row call.kind).signature.params) call.a1
+    ∷ number_if v (nat_lt 2 (row call.kind).signature.params) call.a2
     ∷ [])
 
 -- the fields of an entry after one with the clock `last`, one after the other
@@ -42,13 +42,13 @@ unfoldable pub body_bytes : Version → ℕ → Entry → List ℕ
 body_bytes v last e = concat (
     clock_bytes v last e.clock
     ∷ number_bytes v w16 e.thread
-    ∷ (e.call.kind ∷ [])
+    ∷ ((row e.call.kind).number ∷ [])
     ∷ (e.signal ∷ [])
     ∷ argument_bytes v e.call
     ∷ number_bytes v w64 e.reply
-    ∷ string_if v (has_outgoing e.call.kind) e.outgoing
-    ∷ string_if v (has_incoming e.call.kind) e.incoming
-    ∷ tag_if v (has_tag e.call.kind) e.tag
+    ∷ string_if v (row e.call.kind).entry.outgoing e.outgoing
+    ∷ string_if v (row e.call.kind).entry.incoming e.incoming
+    ∷ tag_if v (row e.call.kind).entry.tag e.tag
     ∷ [])
 
 -- the length of the body, and then the body

@@ -1,4 +1,3 @@
-pub mod Kind
 pub mod Version
 pub mod Entry
 pub mod Head

@@ -4,8 +4,7 @@ use Rattle.std.specs.List.{starts_with}
 use Rattle.lamport_tag.specs.declared.Tag.{Tag}
 use Rattle.lib_calls.specs.declared.entry.Call.{Call}
 use Rattle.lib_calls.specs.Entry.{IsShaped}
-use Rattle.lib_calls.specs.Kinds.{argument_count, has_outgoing, has_incoming, has_tag}
-use Rattle.call_log.specs.Kind.{is_kind}
+use Rattle.call_table.specs.Table.{row}
 use Rattle.lib_calls.specs.declared.entry.Entry.{Entry}
 use Rattle.call_log.specs.declared.version.Version.{Version}
 use Rattle.call_log.specs.declared.version.Version.TheVariants.{Two}
@@ -63,22 +62,21 @@ is_tag_if has (Some tag) = has && nat_lt tag.sender (2 ^ 32) && nat_lt tag.clock
 -- the test of `HasArguments`
 unfoldable pub has_arguments : Call → Bool
 has_arguments call =
-    is_number_if (nat_lt 0 (argument_count call.kind)) call.a0
-    && is_number_if (nat_lt 1 (argument_count call.kind)) call.a1
-    && is_number_if (nat_lt 2 (argument_count call.kind)) call.a2
+    is_number_if (nat_lt 0 (row call.kind).signature.params) call.a0
+    && is_number_if (nat_lt 1 (row call.kind).signature.params) call.a1
+    && is_number_if (nat_lt 2 (row call.kind).signature.params) call.a2
 
 -- the test of `IsShaped`
 unfoldable pub is_shaped : Entry → Bool
 is_shaped e =
-    is_kind e.call.kind
-    && nat_lt e.clock (2 ^ 64)
+    nat_lt e.clock (2 ^ 64)
     && nat_lt e.thread (2 ^ 16)
     && nat_lt e.signal (2 ^ 8)
     && has_arguments e.call
     && nat_lt e.reply (2 ^ 64)
-    && is_string_if (has_outgoing e.call.kind) e.outgoing
-    && is_string_if (has_incoming e.call.kind) e.incoming
-    && is_tag_if (has_tag e.call.kind) e.tag
+    && is_string_if (row e.call.kind).entry.outgoing e.outgoing
+    && is_string_if (row e.call.kind).entry.incoming e.incoming
+    && is_tag_if (row e.call.kind).entry.tag e.tag
 
 -- the entry, where it is one and the bytes begin with its encoding, and what is left after it
 unfoldable pub entry_in : Unread → Entry → Option (Entry × Unread)

@@ -6,8 +6,8 @@ use Rattle.std.specs.Int.{w16, w32, w64}
 use Rattle.fri_bytes.specs.Reading.{byte_at, piece_at, le_at}
 use Rattle.lamport_tag.specs.declared.Tag.{Tag}
 use Rattle.lib_calls.specs.declared.entry.Call.{Call}
-use Rattle.lib_calls.specs.Kinds.{argument_count, has_outgoing, has_incoming, has_tag}
-use Rattle.call_log.specs.Kind.{is_kind}
+use Rattle.call_table.specs.Table.{kind_numbered, row}
+use Rattle.call_table.specs.declared.kind.Kind.{Kind}
 use Rattle.lib_calls.specs.declared.entry.Entry.{Entry}
 use Rattle.call_log.specs.declared.version.Version.{Version}
 use Rattle.call_log.specs.Version.{clock_at, number_at, version_numbered}
@@ -22,16 +22,23 @@ o >>= f = option_and_then f o
 
 -- ---- an entry
 
+-- the kind of a call, which one byte has by its number
+unfoldable pub kind_byte_at : List ℕ → Option (Kind × List ℕ)
+kind_byte_at bytes = do
+  number ← byte_at bytes
+  kind ← kind_numbered number.0
+  Some (kind, number.1)
+
 -- a number, where the kind has it
 abbrev pub number_if_at : Version → Bool → List ℕ → Option (ℕ × List ℕ)
 number_if_at v has bytes = if has then number_at v w64 bytes else Some (0, bytes)
 
 -- the arguments of a call
-unfoldable pub call_at : Version → ℕ → List ℕ → Option (Call × List ℕ)
+unfoldable pub call_at : Version → Kind → List ℕ → Option (Call × List ℕ)
 call_at v kind bytes = do
-  a0 ← number_if_at v (nat_lt 0 (argument_count kind)) bytes
-  a1 ← number_if_at v (nat_lt 1 (argument_count kind)) a0.1
-  a2 ← number_if_at v (nat_lt 2 (argument_count kind)) a1.1
+  a0 ← number_if_at v (nat_lt 0 (row kind).signature.params) bytes
+  a1 ← number_if_at v (nat_lt 1 (row kind).signature.params) a0.1
+  a2 ← number_if_at v (nat_lt 2 (row kind).signature.params) a1.1
   Some (record { kind = kind; a0 = a0.0; a1 = a1.0; a2 = a2.0 }, a2.1)
 
 -- a byte string
@@ -67,13 +74,13 @@ unfoldable pub body_at : Version → ℕ → List ℕ → Option Entry
 body_at v last bytes = do
   clock ← clock_at v last bytes
   thread ← number_at v w16 clock.1
-  kind ← byte_at thread.1
+  kind ← kind_byte_at thread.1
   signal ← byte_at kind.1
-  call ← if is_kind kind.0 then call_at v kind.0 signal.1 else None
+  call ← call_at v kind.0 signal.1
   reply ← number_at v w64 call.1
-  outgoing ← string_if_at v (has_outgoing kind.0) reply.1
-  incoming ← string_if_at v (has_incoming kind.0) outgoing.1
-  tag ← tag_if_at v (has_tag kind.0) incoming.1
+  outgoing ← string_if_at v (row kind.0).entry.outgoing reply.1
+  incoming ← string_if_at v (row kind.0).entry.incoming outgoing.1
+  tag ← tag_if_at v (row kind.0).entry.tag incoming.1
   if nat_le (length tag.1) 0
       then Some (record {
         clock = clock.0;

@@ -4,9 +4,7 @@ ghost use Rattle.lib_calls.specs.Entry.{IsShaped, entry_of};
 ghost use Rattle.call_log.specs.Entry.{BeginsNoEntry, encoding};
 ghost use Rattle.call_log.specs.Reading.{body_at, read_entry as entry_read};
 
-use crate::fields::{
-    has_incoming, has_outgoing, has_tag, is_kind, read_call, read_string_if, read_tag_if,
-};
+use crate::fields::{read_call, read_kind, read_string_if, read_tag_if};
 use crate::number::{read_clock, read_u16, read_u32, read_u64};
 use crate::version::Version;
 use fri_bytes::Cursor;
@@ -51,16 +49,13 @@ fn read_body(body: &[u8], version: Version, last: u64) -> Option<EntryView<'_>>
     let mut cursor = Cursor::new(body);
     let clock = read_clock(&mut cursor, version, last)?;
     let thread = read_u16(&mut cursor, version)?;
-    let kind = cursor.byte()?;
+    let kind = read_kind(&mut cursor)?;
     let signal = cursor.byte()?;
-    if !is_kind(kind) {
-        return None;
-    }
     let call = read_call(&mut cursor, version, kind)?;
     let reply = read_u64(&mut cursor, version)?;
-    let outgoing = read_string_if(&mut cursor, version, has_outgoing(kind))?;
-    let incoming = read_string_if(&mut cursor, version, has_incoming(kind))?;
-    let tag = read_tag_if(&mut cursor, version, has_tag(kind))?;
+    let outgoing = read_string_if(&mut cursor, version, kind.has_outgoing())?;
+    let incoming = read_string_if(&mut cursor, version, kind.has_incoming())?;
+    let tag = read_tag_if(&mut cursor, version, kind.has_tag())?;
     if !cursor.rest().is_empty() {
         return None;
     }

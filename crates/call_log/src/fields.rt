@@ -1,9 +1,7 @@
-// Which fields an entry of the kind with a number has, and reading the fields that not every entry has.
-ghost use Rattle.std.specs.Prelude.{◌≡◌, option_map};
-ghost use Rattle.lib_calls.specs.Kinds.{argument_count as argument_count_of, has_incoming as has_incoming_of, has_outgoing as has_outgoing_of, has_tag as has_tag_of};
-ghost use Rattle.call_log.specs.Kind.{is_kind as is_kind_of};
+// Reading the kind of an entry, and the fields that not every kind has.
+ghost use Rattle.std.specs.Prelude.{option_map};
 ghost use Rattle.call_log.specs.inside.Parts.{GivesField};
-ghost use Rattle.call_log.specs.Reading.{call_at, flagged_tag_at, number_if_at, string_at, string_if_at, tag_fields_at, tag_if_at};
+ghost use Rattle.call_log.specs.Reading.{call_at, flagged_tag_at, kind_byte_at, number_if_at, string_at, string_if_at, tag_fields_at, tag_if_at};
 
 use crate::number::{read_u32, read_u64};
 use crate::version::Version;
@@ -11,57 +9,22 @@ use fri_bytes::Cursor;
 use lamport_tag::Tag;
 use lib_calls::{Call, Kind};
 
-// Whether some kind has the number.
-#[tactic(auto, unfolding(crate::specs::Kind::is_kind))]
-pub(crate) fn is_kind(number: u8) -> bool
-    ensures { result ≡ is_kind_of number }
-{
-    Kind::from_number(number).is_some()
-}
-
-// How many arguments the calls of the kind have.
-#[tactic(auto, unfolding(lib_calls::specs::Kinds::argument_count))]
+// The kind of a call, which one byte has by its number.
+#[tactic(auto, unfolding(crate::specs::Reading::kind_byte_at))]
 #[inline(always)]
-pub(crate) fn argument_count(number: u8) -> u8
-    ensures { result ≡ argument_count_of number }
+pub(crate) fn read_kind(cursor: &mut Cursor<'_>) -> Option<Kind>
+    ensures { GivesField result cursor.new (kind_byte_at cursor.old.left) }
 {
-    match Kind::from_number(number) {
-        Some(kind) => kind.argument_count(),
-        None => 0,
-    }
-}
-
-// Whether entries of the kind have the bytes that went out.
-#[tactic(auto, unfolding(lib_calls::specs::Kinds::has_outgoing))]
-pub(crate) fn has_outgoing(number: u8) -> bool
-    ensures { result ≡ has_outgoing_of number }
-{
-    Kind::from_number(number).is_some_and(|kind| kind.has_outgoing())
-}
-
-// Whether entries of the kind have the bytes that came in.
-#[tactic(auto, unfolding(lib_calls::specs::Kinds::has_incoming))]
-pub(crate) fn has_incoming(number: u8) -> bool
-    ensures { result ≡ has_incoming_of number }
-{
-    Kind::from_number(number).is_some_and(|kind| kind.has_incoming())
-}
-
-// Whether entries of the kind may have the tag of a datagram.
-#[tactic(auto, unfolding(lib_calls::specs::Kinds::has_tag))]
-pub(crate) fn has_tag(number: u8) -> bool
-    ensures { result ≡ has_tag_of number }
-{
-    Kind::from_number(number).is_some_and(|kind| kind.has_tag())
+    Kind::from_number(cursor.byte()?)
 }
 
 // A call of the kind, with the arguments that it has.
 #[tactic(auto, unfolding(crate::specs::Reading::call_at))]
 #[inline(always)]
-pub(crate) fn read_call(cursor: &mut Cursor<'_>, version: Version, kind: u8) -> Option<Call>
+pub(crate) fn read_call(cursor: &mut Cursor<'_>, version: Version, kind: Kind) -> Option<Call>
     ensures { GivesField result cursor.new (call_at version kind cursor.old.left) }
 {
-    let count = argument_count(kind);
+    let count = kind.argument_count();
     let a0 = read_number_if(cursor, version, 0 < count)?;
     let a1 = read_number_if(cursor, version, 1 < count)?;
     let a2 = read_number_if(cursor, version, 2 < count)?;

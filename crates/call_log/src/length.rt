@@ -3,7 +3,6 @@ ghost use Rattle.std.specs.Prelude.{◌≡◌, ◌^◌, ◌<◌, ◌≤◌, leng
 ghost use Rattle.lib_calls.specs.Entry.{IsStringIf, IsTagIf, entry_of, IsShaped};
 ghost use Rattle.call_log.specs.Entry.{argument_bytes, body_bytes, encoding, number_if, string_if, tag_if};
 
-use crate::fields::{argument_count, has_incoming, has_outgoing, has_tag};
 use crate::number::{length_clock, length_u16, length_u32, length_u64};
 use crate::version::Version;
 use lamport_tag::Tag;
@@ -31,9 +30,9 @@ pub(crate) fn body_length(version: Version, last: u64, entry: &EntryView<'_>) ->
     let thread = length_u16(version, entry.thread);
     let arguments = arguments_length(version, &entry.call);
     let reply = length_u64(version, entry.reply);
-    let outgoing = string_length(version, has_outgoing(kind), entry.outgoing);
-    let incoming = string_length(version, has_incoming(kind), entry.incoming);
-    let tag = tag_length(version, has_tag(kind), entry.tag);
+    let outgoing = string_length(version, kind.has_outgoing(), entry.outgoing);
+    let incoming = string_length(version, kind.has_incoming(), entry.incoming);
+    let tag = tag_length(version, kind.has_tag(), entry.tag);
     (clock + thread + 2 + arguments + reply + outgoing + incoming + tag) as u32
 }
 
@@ -44,7 +43,7 @@ fn arguments_length(version: Version, call: &Call) -> u64
     ensures size { result ≡ length (argument_bytes version call.now) }
     ensures small { result ≤ 30 }
 {
-    let count = argument_count(call.kind);
+    let count = call.kind.argument_count();
     let first = number_length(version, 0 < count, call.a0);
     let second = number_length(version, 1 < count, call.a1);
     let third = number_length(version, 2 < count, call.a2);

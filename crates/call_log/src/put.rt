@@ -8,7 +8,6 @@ ghost use Rattle.call_log.specs.declared.version.Version.TheVariants.{Two};
 ghost use Rattle.call_log.specs.Version.{clock_gap};
 ghost use Rattle.call_log.specs.Head.{IsHead, head_bytes, head_of};
 
-use crate::fields::{argument_count, has_incoming, has_outgoing, has_tag};
 use crate::head::{LogHead, MAGIC};
 use crate::length::body_length;
 use crate::number::{put_clock, put_number_u16, put_number_u32, put_number_u64};
@@ -120,7 +119,7 @@ fn put_body(
     put_front(out, version, last, entry)?;
     put_arguments(out, version, &entry.call)?;
     put_reply(out, version, entry)?;
-    put_tag_if(out, version, has_tag(entry.call.kind), entry.tag)
+    put_tag_if(out, version, entry.call.kind.has_tag(), entry.tag)
 }
 
 // Adds the fields before the arguments, or some of them where memory runs out.
@@ -160,7 +159,12 @@ fn put_short_front(out: &mut Vec<u8>, last: u64, entry: &EntryView<'_>) -> Resul
     let gap = entry.clock.wrapping_sub(last);
     put_bytes(
         out,
-        &[gap as u8, entry.thread as u8, entry.call.kind, entry.signal],
+        &[
+            gap as u8,
+            entry.thread as u8,
+            entry.call.kind.number(),
+            entry.signal,
+        ],
     )
 }
 
@@ -178,7 +182,7 @@ fn put_any_front(
 {
     put_clock(out, version, last, entry.clock)?;
     put_number_u16(out, version, entry.thread)?;
-    put_bytes(out, &[entry.call.kind, entry.signal])
+    put_bytes(out, &[entry.call.kind.number(), entry.signal])
 }
 
 // Adds the arguments that the call has, or some of them where memory runs out.
@@ -188,7 +192,7 @@ fn put_arguments(out: &mut Vec<u8>, version: Version, call: &Call) -> Result<(),
     ensures ok { OnOk result (out.new.items ≡ out.old.items ++ argument_bytes version call.now) }
     ensures err { OnErr result (take (length out.old.items) out.new.items ≡ out.old.items) }
 {
-    let count = argument_count(call.kind);
+    let count = call.kind.argument_count();
     put_number_if(out, version, 0 < count, call.a0)?;
     put_number_if(out, version, 1 < count, call.a1)?;
     put_number_if(out, version, 2 < count, call.a2)
@@ -222,8 +226,8 @@ fn put_reply(out: &mut Vec<u8>, version: Version, entry: &EntryView<'_>) -> Resu
 {
     let kind = entry.call.kind;
     put_number_u64(out, version, entry.reply)?;
-    put_string_if(out, version, has_outgoing(kind), entry.outgoing)?;
-    put_string_if(out, version, has_incoming(kind), entry.incoming)
+    put_string_if(out, version, kind.has_outgoing(), entry.outgoing)?;
+    put_string_if(out, version, kind.has_incoming(), entry.incoming)
 }
 
 // Adds bytes after their length, or the length alone where memory runs out, where the kind has them.

@@ -3,7 +3,6 @@ use Rattle.std.proofs.Common.{◌≡◌, ℕ, ◌≤◌, Bool, true, false, cond
 use Rattle.std.specs.Prelude.{IsTrue, ◌==◌, Contains, option_map, slice_get, unwrap_or}
 use Rattle.std.proofs.lemmas.Bool.{and_parts, eqb-false, not-true}
 use Rattle.std.proofs.lemmas.Option.{same_Some}
-use Rattle.call_table.specs.Table.{kind_numbered}
 use Rattle.call_table.specs.declared.kind.Kind.{Kind}
 use Rattle.call_table.specs.declared.kind.Kind.TheVariants.{Recv, TryRecv}
 use Rattle.lamport_tag.specs.Tag.{read_datagram}
@@ -59,7 +58,7 @@ if_good true S world given reply is told not_bad then = then is
 if_good false S world given reply is told not_bad then = absurd (other reply minus_one not_bad (reply_is _ given reply is told))
 
 pub took : (k : Kind) (S : State) (t : ℕ) (c : Call) (env : Env) (given : AnsweredCall) (e : Entry) → answered_now (need k S t c) (from_world k S c env) ≡ Some given → e.reply ≡ given.answer.reply
-    → takes_as (Some k) e ≡ true → Took S c env.mailbox given.answer
+    → takes_as k e ≡ true → Took S c env.mailbox given.answer
 took Recv S t c env given e is told takes =
     if_good (is_good c S.store.memory) S (from_world Recv S c env) given e.reply is told takes (taken_first S c env.mailbox given)
 took TryRecv S t c env given e is told takes =
@@ -68,9 +67,9 @@ took TryRecv S t c env given e is told takes =
     (λ here. taken_or_empty S c env.mailbox given e.reply here told tests.1)
 took _ S t c env given e is told takes = cc
 
-pub takes_kind : (e : Entry) (k : Kind) → kind_numbered e.call.kind ≡ Some k → IsTrue (is_taken e) → takes_as (Some k) e ≡ true
+pub takes_kind : (e : Entry) (k : Kind) → e.call.kind ≡ k → IsTrue (is_taken e) → takes_as k e ≡ true
 unfolding is_taken
-takes_kind e k of_kind taken = sym (ap (λ (o : Option Kind). takes_as o e) of_kind) ∙ taken
+takes_kind e k of_kind taken = sym (ap (λ (k : Kind). takes_as k e) of_kind) ∙ taken
 
 contains_first : (box later : List (List ℕ)) (bytes : List ℕ) → box ≡ bytes ∷ later → Contains box bytes
 contains_first box later bytes is = subst (λ (xs : List (List ℕ)). Contains xs bytes) (sym is) (0, omega arith, refl)
@@ -93,7 +92,7 @@ event_takes laws group early p e few run k thread comes takes =
     let in_it : ComesIn k.last env thread e = comes_in k.last env thread e comes in
     let w = in_it.waiting in
     let reply : e.entry.reply ≡ in_it.given.answer.reply = ap (λ (e : Event). e.entry.reply) in_it.is in
-    let t = took w.kind k.last thread w.call env in_it.given e.entry in_it.answer reply (takes_kind e.entry w.kind (is_of_kind k.last env thread e k.fits in_it) takes) in
+    let t = took w.call.kind k.last thread w.call env in_it.given e.entry in_it.answer reply (takes_kind e.entry w.call.kind (is_of_kind k.last env thread e in_it) takes) in
     let answer : in_it.given.answer ≡ cut_datagram e.entry.call.a1 (read_datagram (processes_in_group group) t.bytes) =
     t.answer ∙ ap (λ (n : ℕ). cut_datagram w.call.a1 (read_datagram n t.bytes)) k.group_size ∙ ap (λ (n : ℕ). cut_datagram n (read_datagram (processes_in_group group) t.bytes)) (sym (ap (λ (e : Event). e.entry.call.a1) in_it.is)) in
     let tag : e.entry.tag ≡ (read_datagram (processes_in_group group) t.bytes).0 = ap (λ (e : Event). e.entry.tag) in_it.is ∙ ap (λ (a : Answer). a.tag) answer in

@@ -1,11 +1,9 @@
 -- With good arguments an event takes what is there.
 use Rattle.std.proofs.Common.{◌≡◌, ℕ, ◌≤◌, Bool, true, false, cond, not, leb, List, [], ◌∷◌, length, take, Option, Some, None, refl, ap, sym, subst, ◌∙◌, arith}
 use Rattle.std.specs.Prelude.{IsTrue, ◌==◌, option_map, unwrap_or}
-use Rattle.std.specs.Option.{option_map_or}
 use Rattle.std.proofs.lemmas.Bool.{and_from, and_parts, eq-eqb, leb-true, ne_eqb}
 use Rattle.std.proofs.lemmas.List.{length-take, length-take-le}
 use Rattle.std.proofs.lemmas.Option.{same_Some}
-use Rattle.call_table.specs.Table.{kind_numbered}
 use Rattle.call_table.specs.declared.kind.Kind.{Kind}
 use Rattle.call_table.specs.declared.kind.Kind.TheVariants.{Random, Recv, TryRecv}
 use Rattle.lamport_tag.specs.Tag.{read_datagram}
@@ -27,15 +25,15 @@ use Rattle.group_record.proofs.LogsAgree.{ComesIn, KeepsAfter, Laws, came_in, co
 
 -- ---- good arguments name at most 60,000 bytes
 
-good_of_kind : (c : Call) (S : State) (k : Kind) → kind_numbered c.kind ≡ Some k → is_good c S.store.memory ≡ true → has_good_ranges k c S.store.memory ≡ true
+good_of_kind : (c : Call) (S : State) (k : Kind) → c.kind ≡ k → is_good c S.store.memory ≡ true → has_good_ranges k c S.store.memory ≡ true
 unfolding is_good
-good_of_kind c S k of_kind good = sym (ap (λ (o : Option Kind). option_map_or (λ kind. has_good_ranges kind c S.store.memory) o true) of_kind) ∙ good
+good_of_kind c S k of_kind good = sym (ap (λ (k : Kind). has_good_ranges k c S.store.memory) of_kind) ∙ good
 
 range_few : (S : State) (addr len : ℕ) → is_range S.store.memory addr len ≡ true → len ≤ 60000
 unfolding is_range
 range_few S addr len good = leb-true _ _ (and_parts _ _ good).0
 
-received_few : (k : Kind) (c : Call) (S : State) → takes_datagrams (Some k) ≡ true → has_good_ranges k c S.store.memory ≡ true → c.a1 ≤ 60000
+received_few : (k : Kind) (c : Call) (S : State) → takes_datagrams k ≡ true → has_good_ranges k c S.store.memory ≡ true → c.a1 ≤ 60000
 received_few Recv c S is good = range_few S c.a0 c.a1 (and_parts _ _ good).0
 received_few TryRecv c S is good = range_few S c.a0 c.a1 (and_parts _ _ good).0
 received_few _ c S is good = cc
@@ -66,8 +64,8 @@ found_reply S c [] others bytes given waits few is = cc
 found_reply S c (first ∷ rest) others bytes given waits few is = cut_reply S c first given.answer (answer_is _ given is) few
 
 takes_kind : (k : Kind) (S : State) (t : ℕ) (c : Call) (env : Env) (given : AnsweredCall) (e : Entry) (bytes : List ℕ) (others : List (List ℕ))
-    → answered_now (need k S t c) (from_world k S c env) ≡ Some given → e.reply ≡ given.answer.reply → takes_datagrams (Some k) ≡ true → is_good c S.store.memory ≡ true → c.a1 ≤ 60000
-    → env.mailbox ≡ bytes ∷ others → takes_as (Some k) e ≡ true
+    → answered_now (need k S t c) (from_world k S c env) ≡ Some given → e.reply ≡ given.answer.reply → takes_datagrams k ≡ true → is_good c S.store.memory ≡ true → c.a1 ≤ 60000
+    → env.mailbox ≡ bytes ∷ others → takes_as k e ≡ true
 takes_kind Recv S t c env given e bytes others is told receive good few waits =
     let here = by_world (is_good c S.store.memory) S (from_world Recv S c env) given good is in
     let small : e.reply ≤ 60000 = omega (arith, told, first_reply S c env.mailbox others bytes given waits few here) in
@@ -78,16 +76,16 @@ takes_kind TryRecv S t c env given e bytes others is told receive good few waits
     and_from (not (e.reply == minus_one)) (not (e.reply == minus_two)) (counts e.reply minus_one small (omega arith)) (counts e.reply minus_two small (omega arith))
 takes_kind _ S t c env given e bytes others is told receive good few waits = cc
 
-is_taken_by : (e : Entry) (k : Kind) → kind_numbered e.call.kind ≡ Some k → takes_as (Some k) e ≡ true → IsTrue (is_taken e)
+is_taken_by : (e : Entry) (k : Kind) → e.call.kind ≡ k → takes_as k e ≡ true → IsTrue (is_taken e)
 unfolding is_taken
-is_taken_by e k of_kind takes = ap (λ (o : Option Kind). takes_as o e) of_kind ∙ takes
+is_taken_by e k of_kind takes = ap (λ (k : Kind). takes_as k e) of_kind ∙ takes
 
 -- ---- an event of a run, with the state in which it came and the call that it answers
 
 pub record Came (group : GroupStart) (early : List RunStep) (p : ℕ) (e : Event) (S : State) : Type 0 where
   pub thread : ℕ
   pub in_it : ComesIn S (world_around (processes_in_group group) early p) thread e
-  pub of_kind : kind_numbered e.entry.call.kind ≡ Some in_it.waiting.kind
+  pub of_kind : e.entry.call.kind ≡ in_it.waiting.call.kind
   pub call : e.entry.call ≡ in_it.waiting.call
   pub reply : e.entry.reply ≡ in_it.given.answer.reply
   pub incoming : e.entry.incoming ≡ in_it.given.answer.incoming
@@ -99,7 +97,7 @@ came_by group early p e k had =
     record {
       thread = had.thread;
       in_it = in_it;
-      of_kind = is_of_kind k.last env had.thread e k.fits in_it;
+      of_kind = is_of_kind k.last env had.thread e in_it;
       call = ap (λ (e : Event). e.entry.call) in_it.is;
       reply = ap (λ (e : Event). e.entry.reply) in_it.is;
       incoming = ap (λ (e : Event). e.entry.incoming) in_it.is;
@@ -114,12 +112,12 @@ takes_waiting laws group items begun fits later early p e is S stands receive go
     let run : IsRun group (Had p e ∷ early) = is_run group items fits (Had p e ∷ early) (later, is) in
     let c : Came group early p e S = came laws group early p e S run (keeps laws group begun early run.1 p run.0.within) stands in
     let w = c.in_it.waiting in
-    let receives_it : takes_datagrams (Some w.kind) ≡ true = sym (ap takes_datagrams c.of_kind) ∙ receive in
+    let receives_it : takes_datagrams w.call.kind ≡ true = sym (ap takes_datagrams c.of_kind) ∙ receive in
     let good_it : is_good w.call S.store.memory ≡ true = sym (ap (λ (call : Call). is_good call S.store.memory) c.call) ∙ good in
-    let kind_it : kind_numbered w.call.kind ≡ Some w.kind = sym (ap (λ (call : Call). kind_numbered call.kind) c.call) ∙ c.of_kind in
-    let few = received_few w.kind w.call S receives_it (good_of_kind w.call S w.kind kind_it good_it) in
-    is_taken_by e.entry w.kind c.of_kind
-    (takes_kind w.kind S c.thread w.call (world_around (processes_in_group group) early p) c.in_it.given e.entry bytes others c.in_it.answer c.reply receives_it good_it few waits)
+    let kind_it : w.call.kind ≡ w.call.kind = sym (ap (λ (call : Call). call.kind) c.call) ∙ c.of_kind in
+    let few = received_few w.call.kind w.call S receives_it (good_of_kind w.call S w.call.kind kind_it good_it) in
+    is_taken_by e.entry w.call.kind c.of_kind
+    (takes_kind w.call.kind S c.thread w.call (world_around (processes_in_group group) early p) c.in_it.given e.entry bytes others c.in_it.answer c.reply receives_it good_it few waits)
 
 -- ---- random bytes
 
@@ -142,19 +140,19 @@ bad_reply : (good : Bool) (S : State) (world : Option AnsweredCall) (given : Ans
 bad_reply true S world given bad is = cc
 bad_reply false S world given bad is = sym (ap (λ (a : Answer). a.reply) (answer_is _ given is))
 
-drawn_by : (e : Entry) → kind_numbered e.call.kind ≡ Some Random → drawn e ≡ draws_as (Some Random) e
+drawn_by : (e : Entry) → e.call.kind ≡ Random → drawn e ≡ draws_as Random e
 unfolding drawn
-drawn_by e of_kind = ap (λ (o : Option Kind). draws_as o e) of_kind
+drawn_by e of_kind = ap (λ (k : Kind). draws_as k e) of_kind
 
-drawn_none : (e : Entry) → kind_numbered e.call.kind ≡ Some Random → e.reply ≡ minus_one → drawn e ≡ 0
+drawn_none : (e : Entry) → e.call.kind ≡ Random → e.reply ≡ minus_one → drawn e ≡ 0
 drawn_none e of_kind is = drawn_by e of_kind ∙ ap (λ (test : Bool). cond test 0 (length e.incoming)) (eq-eqb e.reply minus_one is)
 
-drawn_all : (e : Entry) (pool : List ℕ) → kind_numbered e.call.kind ≡ Some Random → e.reply ≡ e.call.a1 → e.call.a1 ≤ 60000 → e.call.a1 ≤ length pool → e.incoming ≡ take e.call.a1 pool → drawn e ≡ e.call.a1
+drawn_all : (e : Entry) (pool : List ℕ) → e.call.kind ≡ Random → e.reply ≡ e.call.a1 → e.call.a1 ≤ 60000 → e.call.a1 ≤ length pool → e.incoming ≡ take e.call.a1 pool → drawn e ≡ e.call.a1
 drawn_all e pool of_kind reply few enough incoming =
     drawn_by e of_kind ∙ ap (λ (test : Bool). cond test 0 (length e.incoming)) (ne_eqb e.reply minus_one (λ is. omega (arith, is, reply, few)))
     ∙ (ap (λ (bytes : List ℕ). length bytes) incoming ∙ length-take-le e.call.a1 pool enough)
 
-asks_few : (c : Call) (S : State) → kind_numbered c.kind ≡ Some Random → is_good c S.store.memory ≡ true → c.a1 ≤ 60000
+asks_few : (c : Call) (S : State) → c.kind ≡ Random → is_good c S.store.memory ≡ true → c.a1 ≤ 60000
 asks_few c S of_kind good = range_few S c.a0 c.a1 (good_of_kind c S Random of_kind good)
 
 -- the answer to a call of random at which the process stood
@@ -164,10 +162,10 @@ pub record Answers (S : State) (early : List RunStep) (count p : ℕ) (e : Event
   pub reply : e.entry.reply ≡ given.answer.reply
   pub incoming : e.entry.incoming ≡ given.answer.incoming
 
-pub answers_random : (group : GroupStart) (early : List RunStep) (p : ℕ) (e : Event) (S : State) → Came group early p e S → kind_numbered e.entry.call.kind ≡ Some Random → Answers S early (processes_in_group group) p e
+pub answers_random : (group : GroupStart) (early : List RunStep) (p : ℕ) (e : Event) (S : State) → Came group early p e S → e.entry.call.kind ≡ Random → Answers S early (processes_in_group group) p e
 answers_random group early p e S c of_kind =
     let env = world_around (processes_in_group group) early p in
-    let kind : c.in_it.waiting.kind ≡ Random = same_Some c.in_it.waiting.kind Random (sym c.of_kind ∙ of_kind) in
+    let kind : c.in_it.waiting.call.kind ≡ Random = sym c.of_kind ∙ of_kind in
     let at_kind : answered_now (need Random S c.thread c.in_it.waiting.call) (from_world Random S c.in_it.waiting.call env) ≡ Some c.in_it.given =
     subst (λ (k : Kind). answered_now (need k S c.thread c.in_it.waiting.call) (from_world k S c.in_it.waiting.call env) ≡ Some c.in_it.given) kind c.in_it.answer in
     record {
@@ -177,7 +175,7 @@ answers_random group early p e S c of_kind =
       incoming = c.incoming;
     }
 
-pub draws_if : (S : State) (early : List RunStep) (count p : ℕ) (e : Event) (good : Bool) → is_good e.entry.call S.store.memory ≡ good → kind_numbered e.entry.call.kind ≡ Some Random → Answers S early count p e → DrawsFromPoolIf good early p e
+pub draws_if : (S : State) (early : List RunStep) (count p : ℕ) (e : Event) (good : Bool) → is_good e.entry.call S.store.memory ≡ good → e.entry.call.kind ≡ Random → Answers S early count p e → DrawsFromPoolIf good early p e
 draws_if S early count p e true good of_kind a =
     let env = world_around count early p in
     let d : Drew e.entry.call env.pool a.given.answer = drew S e.entry.call env a.given (by_world (is_good e.entry.call S.store.memory) S (from_world Random S e.entry.call env) a.given good a.answer) in

@@ -1,10 +1,9 @@
 -- The event of a try, from what is asked of a process and of the world around it.
 use Rattle.std.proofs.Common.{◌≡◌, ℕ, ◌<◌, ◌≤◌, ◌^◌, Bool, true, false, ◌&&◌, not, eqb, cond, List, [], ◌∷◌, length, take, Option, Some, None, refl, ap, sym, subst, ◌∙◌, arith}
-use Rattle.std.specs.Prelude.{option_and_then, option_map, nat_le, unwrap_or}
+use Rattle.std.specs.Prelude.{option_map, nat_le, unwrap_or}
 use Rattle.std.proofs.lemmas.Bool.Decides.{nat_tests}
 use Rattle.std.proofs.lemmas.List.{length-take}
 use Rattle.std.proofs.lemmas.Option.{same_Some}
-use Rattle.call_table.specs.Table.{kind_numbered}
 use Rattle.call_table.specs.declared.kind.Kind.{Kind}
 use Rattle.call_table.specs.declared.kind.Kind.TheVariants.{Random, Recv, TryRecv}
 use Rattle.lamport_tag.specs.Tag.{clock_of, next_clock_of}
@@ -17,7 +16,7 @@ use Rattle.lib_calls.specs.Entry.{IsShaped}
 use Rattle.guest_process.specs.declared.need.Need.{Need as PlainNeed}
 use Rattle.guest_process.specs.declared.waiting.Waiting.{Waiting}
 use Rattle.guest_process.specs.Answers.{Need, Fixed, Blocked, World, need, replies_with}
-use Rattle.guest_process.specs.Fits.{EnvFits, StateFits, WaitingFits, live_has}
+use Rattle.guest_process.specs.Fits.{EnvFits, StateFits}
 use Rattle.guest_process.specs.Live.{AnsweredCall, Env, Event, answered_now, as_given, chosen_signal, drawn_of, event, event_of_waiting, from_world, live, taken_of, world_answer}
 use Rattle.guest_process.specs.OneEvent.{IsKeptByEvents, OneEvent, Rises}
 use Rattle.guest_process.specs.Meanings.{able, plain_need}
@@ -36,11 +35,11 @@ answers_same k S c None = refl
 answers_same k S c (Some a) = refl
 
 -- of a call of this kind
-of_kind : (k : Kind) (c : Call) (count : ℕ) (env : Env) → kind_numbered c.kind ≡ Some k → world_gives c count env ≡ world_answer k c count env
-of_kind k c count env is = ap (λ (o : Option Kind). option_and_then (λ kind. world_answer kind c count env) o) is
+of_kind : (k : Kind) (c : Call) (count : ℕ) (env : Env) → c.kind ≡ k → world_gives c count env ≡ world_answer k c count env
+of_kind k c count env is = ap (λ (k : Kind). world_answer k c count env) is
 
 -- what is answered is what the process and the world give
-answer_same : (k : Kind) (S : State) (c : Call) (env : Env) (n : Need) → kind_numbered c.kind ≡ Some k
+answer_same : (k : Kind) (S : State) (c : Call) (env : Env) (n : Need) → c.kind ≡ k
     → option_map answer_in (answered_now n (from_world k S c env)) ≡ answer_by (plain_need n) c S.count env
 answer_same k S c env (Fixed reply after) is = refl
 answer_same k S c env Blocked is = refl
@@ -73,8 +72,8 @@ both_not_last false b h = cc
 not_this : (n m : ℕ) → n ≡ m → not (eqb n m) ≡ true → ⊥
 not_this n m same h = grind (arith, nat_tests)
 
-takes_there : (k : Kind) (S : State) (t : ℕ) (c : Call) (env : Env) (a : Answer) (e : Entry) → kind_numbered c.kind ≡ Some k → answer_by (plain_need (need k S t c)) c S.count env ≡ Some a
-    → e.reply ≡ a.reply → takes_as (Some k) e ≡ true → 1 ≤ length env.mailbox
+takes_there : (k : Kind) (S : State) (t : ℕ) (c : Call) (env : Env) (a : Answer) (e : Entry) → c.kind ≡ k → answer_by (plain_need (need k S t c)) c S.count env ≡ Some a
+    → e.reply ≡ a.reply → takes_as k e ≡ true → 1 ≤ length env.mailbox
 takes_there Recv S t c env a e is given reply takes =
     bad_or S c S.count env a (1 ≤ length env.mailbox) (is_good c S.store.memory) given
     (λ from. one_there S.count c.a1 env.mailbox a (sym (of_kind Recv c S.count env is) ∙ from))
@@ -100,8 +99,8 @@ none_or : (test : Bool) (n m : ℕ) → n ≤ m → cond test 0 n ≤ m
 none_or true n m h = omega arith
 none_or false n m h = h
 
-draws_there : (k : Kind) (S : State) (t : ℕ) (c : Call) (env : Env) (a : Answer) (e : Entry) → kind_numbered c.kind ≡ Some k → answer_by (plain_need (need k S t c)) c S.count env ≡ Some a
-    → e.incoming ≡ a.incoming → draws_as (Some k) e ≤ length env.pool
+draws_there : (k : Kind) (S : State) (t : ℕ) (c : Call) (env : Env) (a : Answer) (e : Entry) → c.kind ≡ k → answer_by (plain_need (need k S t c)) c S.count env ≡ Some a
+    → e.incoming ≡ a.incoming → draws_as k e ≤ length env.pool
 draws_there Random S t c env a e is given incoming =
     none_or (eqb e.reply minus_one) (length e.incoming) (length env.pool)
     (subst (λ (bytes : List ℕ). length bytes ≤ length env.pool) (sym incoming)
@@ -120,15 +119,15 @@ one_more f (Some x) y h = (x, refl, same_Some _ _ h)
 pub record IsAsked (S : State) (t : ℕ) (c : Call) (asked : PlainNeed) : Type 0 where
   pub fits : StateFits S
   pub call : Some c ≡ option_map (λ w. w.call) (able S t)
-  pub need : Some asked ≡ option_map (λ w. plain_need (need w.kind S t w.call)) (able S t)
+  pub need : Some asked ≡ option_map (λ w. plain_need (need w.call.kind S t w.call)) (able S t)
 
 -- the thread that stands there
 record StandsThere (S : State) (t : ℕ) (c : Call) (asked : PlainNeed) : Type 0 where
   waiting : Waiting
   able : able S t ≡ Some waiting
   call : waiting.call ≡ c
-  kind : kind_numbered c.kind ≡ Some waiting.kind
-  need : asked ≡ plain_need (need waiting.kind S t c)
+  kind : c.kind ≡ waiting.call.kind
+  need : asked ≡ plain_need (need waiting.call.kind S t c)
 
 able_is : (S : State) (t : ℕ) (w : Waiting) → able S t ≡ Some w → thread_at S t ≡ Some w
 able_is S t w h = by_test (is_running S) h
@@ -140,16 +139,15 @@ able_is S t w h = by_test (is_running S) h
 stands_there : (S : State) (t : ℕ) (c : Call) (asked : PlainNeed) → IsAsked S t c asked → StandsThere S t c asked
 stands_there S t c asked h =
     let at = one_more (λ w. w.call) (able S t) c h.call in
-    let needed = one_more (λ w. plain_need (need w.kind S t w.call)) (able S t) asked h.need in
+    let needed = one_more (λ w. plain_need (need w.call.kind S t w.call)) (able S t) asked h.need in
     let w = at.0 in
-    let fits : WaitingFits w = live_has WaitingFits S.crew.threads t h.fits.threads w (able_is S t w at.1) in
     let same : needed.0 ≡ w = same_Some _ _ (sym needed.1 ∙ at.1) in
     record {
       waiting = w;
       able = at.1;
       call = sym at.2;
-      kind = ap (λ (c : Call). kind_numbered c.kind) at.2 ∙ fits.kind;
-      need = needed.2 ∙ ap (λ (w : Waiting). plain_need (need w.kind S t w.call)) same ∙ ap (λ (c : Call). plain_need (need w.kind S t c)) (sym at.2);
+      kind = ap (λ (c : Call). c.kind) at.2;
+      need = needed.2 ∙ ap (λ (w : Waiting). plain_need (need w.call.kind S t w.call)) same ∙ ap (λ (c : Call). plain_need (need w.call.kind S t c)) (sym at.2);
     }
 
 -- what is done with a value that is there only where a test holds
@@ -176,10 +174,10 @@ pub record IsTried (S : State) (t : ℕ) (env : Env) (c : Call) (asked : PlainNe
   pub spared : env.killed ≡ false
 
 found_at : (S : State) (t : ℕ) (env : Env) (c : Call) (asked : PlainNeed) (found : Option Answer) → (at : StandsThere S t c asked) → answer_by asked c S.count env ≡ found
-    → option_map answer_in (answered_now (need at.waiting.kind S t at.waiting.call) (from_world at.waiting.kind S at.waiting.call env)) ≡ found
+    → option_map answer_in (answered_now (need at.waiting.call.kind S t at.waiting.call) (from_world at.waiting.call.kind S at.waiting.call env)) ≡ found
 found_at S t env c asked found at is =
-    subst (λ (call : Call). option_map answer_in (answered_now (need at.waiting.kind S t call) (from_world at.waiting.kind S call env)) ≡ found) (sym at.call)
-    (answer_same at.waiting.kind S c env (need at.waiting.kind S t c) at.kind ∙ ap (λ n. answer_by n c S.count env) (sym at.need) ∙ is)
+    subst (λ (call : Call). option_map answer_in (answered_now (need at.waiting.call.kind S t call) (from_world at.waiting.call.kind S call env)) ≡ found) (sym at.call)
+    (answer_same at.waiting.call.kind S c env (need at.waiting.call.kind S t c) at.kind ∙ ap (λ n. answer_by n c S.count env) (sym at.need) ∙ is)
 
 none_in : (o : Option AnsweredCall) → option_map answer_in o ≡ None → o ≡ None
 none_in None h = refl
@@ -197,10 +195,10 @@ pub one_here : (S : State) (t : ℕ) (env : Env) (c : Call) (asked : PlainNeed) 
 one_here S t env c asked a h is =
     let at = stands_there S t c asked h.stands in
     let w = at.waiting in
-    let x = one_more answer_in (answered_now (need w.kind S t w.call) (from_world w.kind S w.call env)) a (sym (found_at S t env c asked (Some a) at is)) in
+    let x = one_more answer_in (answered_now (need w.call.kind S t w.call) (from_world w.call.kind S w.call env)) a (sym (found_at S t env c asked (Some a) at is)) in
     let signal = signal_with_answer S t a c env.pending in
-    let delivers : chosen_signal w.kind x.0.after.handlers env.pending ≡ signal =
-    chosen_is S t a w c env.pending x.0.after.handlers (able_is S t w at.able) at.kind (handlers_after w.kind S t w.call env x.0 a x.1) in (
+    let delivers : chosen_signal w.call.kind x.0.after.handlers env.pending ≡ signal =
+    chosen_is S t a w c env.pending x.0.after.handlers (able_is S t w at.able) at.kind (handlers_after w.call.kind S t w.call env x.0 a x.1) in (
       event S t env w x.0,
       lives_at S t env (Some w) h.spared at.able ∙ ap (option_map (event S t env w)) x.1,
       ap (λ signal. entry_with (next_clock_of S.clock x.0.answer.tag) signal t w.call x.0.answer (outgoing_of w.call S.store.memory)) delivers
@@ -208,17 +206,17 @@ one_here S t env c asked a h is =
           ∙ ap (λ a. entry_with (next_clock_of S.clock a.tag) signal t c a (outgoing_of c S.store.memory)) (sym x.2),
     )
 
-taken_there : (k : Kind) (S : State) (t : ℕ) (c : Call) (env : Env) (a : Answer) (e : Entry) → kind_numbered c.kind ≡ Some k → answer_by (plain_need (need k S t c)) c S.count env ≡ Some a
+taken_there : (k : Kind) (S : State) (t : ℕ) (c : Call) (env : Env) (a : Answer) (e : Entry) → c.kind ≡ k → answer_by (plain_need (need k S t c)) c S.count env ≡ Some a
     → e.call ≡ c → e.reply ≡ a.reply → is_taken e ≡ true → 1 ≤ length env.mailbox
 unfolding is_taken
 taken_there k S t c env a e is given call reply taken =
-    takes_there k S t c env a e is given reply (sym (ap (λ o. takes_as o e) (ap (λ (c : Call). kind_numbered c.kind) call ∙ is)) ∙ taken)
+    takes_there k S t c env a e is given reply (sym (ap (λ k. takes_as k e) (ap (λ (c : Call). c.kind) call ∙ is)) ∙ taken)
 
-drawn_there : (k : Kind) (S : State) (t : ℕ) (c : Call) (env : Env) (a : Answer) (e : Entry) → kind_numbered c.kind ≡ Some k → answer_by (plain_need (need k S t c)) c S.count env ≡ Some a
+drawn_there : (k : Kind) (S : State) (t : ℕ) (c : Call) (env : Env) (a : Answer) (e : Entry) → c.kind ≡ k → answer_by (plain_need (need k S t c)) c S.count env ≡ Some a
     → e.call ≡ c → e.incoming ≡ a.incoming → drawn e ≤ length env.pool
 unfolding drawn
 drawn_there k S t c env a e is given call incoming =
-    subst (λ n. n ≤ length env.pool) (sym (ap (λ o. draws_as o e) (ap (λ (c : Call). kind_numbered c.kind) call ∙ is))) (draws_there k S t c env a e is given incoming)
+    subst (λ n. n ≤ length env.pool) (sym (ap (λ k. draws_as k e) (ap (λ (c : Call). c.kind) call ∙ is))) (draws_there k S t c env a e is given incoming)
 
 -- the process and the world are in range
 pub record IsFit (S : State) (env : Env) : Type 0 where
@@ -234,7 +232,7 @@ entry_tells one_event rises S t env c asked a entry fit h is made =
     let at = stands_there S t c asked h.stands in
     let told = one_event S t env fit.state fit.few fit.around e.0 e.1 in
     let risen = rises S e.0.entry fit.state told.legal in
-    let given : answer_by (plain_need (need at.waiting.kind S t c)) c S.count env ≡ Some a = ap (λ n. answer_by n c S.count env) (sym at.need) ∙ is in
+    let given : answer_by (plain_need (need at.waiting.call.kind S t c)) c S.count env ≡ Some a = ap (λ n. answer_by n c S.count env) (sym at.need) ∙ is in
     let same : entry ≡ e.0.entry = made ∙ sym e.2 in
     let call : entry.call ≡ c = ap (λ (e : Entry). e.call) made in
     record {
@@ -243,8 +241,8 @@ entry_tells one_event rises S t env c asked a entry fit h is made =
       same = same;
       told = told;
       logged = subst IsShaped (sym same) told.shape;
-      datagram = λ taken. taken_there at.waiting.kind S t c env a entry at.kind given call (ap (λ (e : Entry). e.reply) made) taken;
-      bytes = drawn_there at.waiting.kind S t c env a entry at.kind given call (ap (λ (e : Entry). e.incoming) made);
+      datagram = λ taken. taken_there at.waiting.call.kind S t c env a entry at.kind given call (ap (λ (e : Entry). e.reply) made) taken;
+      bytes = drawn_there at.waiting.call.kind S t c env a entry at.kind given call (ap (λ (e : Entry). e.incoming) made);
       count = ap (λ (S : State). S.count) (sym told.same) ∙ risen.count;
       events = ap (λ (S : State). S.events) (sym told.same) ∙ risen.events;
     }

@@ -8,6 +8,7 @@ use Rattle.std.proofs.lemmas.Option.{slice_get-get_or}
 use Rattle.fri_outside.specs.Outside.{Folder, with_piece_in_folder}
 use Rattle.fri_outside.specs.Several.{AreApartNames, files_with_grown_piece, with_files}
 use Rattle.fri_outside.specs.Laws.{KeepsFiles}
+use Rattle.call_table.specs.Table.{row}
 use Rattle.lib_calls.specs.declared.entry.Entry.{Entry}
 use Rattle.call_log.specs.declared.version.Version.{Version}
 use Rattle.call_log.specs.declared.version.Version.TheVariants.{Two}
@@ -138,7 +139,7 @@ kind_there size clock thread kind others =
 
 pub entry_there : (v : Version) (last : ℕ) (e : Entry) → 1 ≤ length (encoding v last e)
 unfolding encoding body_bytes
-entry_there v last e = kind_there (number_bytes v w32 (length (body_bytes v last e))) (clock_bytes v last e.clock) (number_bytes v w16 e.thread) e.call.kind _
+entry_there v last e = kind_there (number_bytes v w32 (length (body_bytes v last e))) (clock_bytes v last e.clock) (number_bytes v w16 e.thread) (row e.call.kind).number _
 
 pub entries_few : (v : Version) (last : ℕ) (es : List Entry) → length es ≤ length (encodings v last es)
 entries_few v last [] = omega arith

@@ -8,7 +8,6 @@ use Rattle.std.proofs.lemmas.List.{length-take}
 use Rattle.std.proofs.lemmas.Option.{same_Some}
 use Rattle.std.proofs.lemmas.List.Elements.{All-get_or, All-nil, All-push}
 use Rattle.fri_text.specs.Name.{is_name}
-use Rattle.call_table.specs.Table.{kind_numbered}
 use Rattle.lib_calls.specs.declared.entry.Entry.{Entry}
 use Rattle.lib_calls.specs.Entry.{IsShaped}
 use Rattle.call_log.specs.Entry.{clock_after, encodings}
@@ -21,7 +20,7 @@ use Rattle.guest_process.specs.declared.divergence.Divergence.{Divergence}
 use Rattle.guest_process.specs.declared.waiting.Waiting.{Waiting}
 use Rattle.guest_process.specs.Answers.{need}
 use Rattle.guest_process.specs.EventCount as count
-use Rattle.guest_process.specs.Fits.{StateFits, WaitingFits, live_has}
+use Rattle.guest_process.specs.Fits.{StateFits}
 use Rattle.guest_process.specs.Legal.{reason}
 use Rattle.guest_process.specs.Live.{AnsweredCall, Env, Event, answered_now, event, event_of_waiting, from_world, live}
 use Rattle.guest_process.specs.Next.{next}
@@ -89,7 +88,7 @@ pub record ComesIn (S : State) (env : Env) (thread : ℕ) (e : Event) : Type 0 w
   pub waiting : Waiting
   pub there : thread_at S thread ≡ Some waiting
   pub given : AnsweredCall
-  pub answer : answered_now (need waiting.kind S thread waiting.call) (from_world waiting.kind S waiting.call env) ≡ Some given
+  pub answer : answered_now (need waiting.call.kind S thread waiting.call) (from_world waiting.call.kind S waiting.call env) ≡ Some given
   pub is : e ≡ event S thread env waiting given
 
 by_test : {A : Type 0} (test : Bool) (o : Option A) (x : A) → cond test o None ≡ Some x → o ≡ Some x
@@ -98,7 +97,7 @@ by_test false o x is = cc
 
 pub comes_in : (S : State) (env : Env) (thread : ℕ) (e : Event) → live S thread env ≡ Some e → ComesIn S env thread e
 comes_in S env thread e comes = by_thread (thread_at S thread) refl (by_test _ (event_of_waiting S thread env (thread_at S thread)) e comes) where
-  mapped : (w : Waiting) → thread_at S thread ≡ Some w → (o : Option AnsweredCall) → answered_now (need w.kind S thread w.call) (from_world w.kind S w.call env) ≡ o → option_map (event S thread env w) o ≡ Some e → ComesIn S env thread e
+  mapped : (w : Waiting) → thread_at S thread ≡ Some w → (o : Option AnsweredCall) → answered_now (need w.call.kind S thread w.call) (from_world w.call.kind S w.call env) ≡ o → option_map (event S thread env w) o ≡ Some e → ComesIn S env thread e
   mapped w there None answer is = cc
   mapped w there (Some given) answer is = record { waiting = w; there = there; given = given; answer = answer; is = sym (same_Some _ _ is) }
 
@@ -106,11 +105,9 @@ comes_in S env thread e comes = by_thread (thread_at S thread) refl (by_test _ (
   by_thread None there is = cc
   by_thread (Some w) there is = mapped w there _ refl is
 
--- the thread's call is one of its kind
-pub is_of_kind : (S : State) (env : Env) (thread : ℕ) (e : Event) → StateFits S → (in_it : ComesIn S env thread e) → kind_numbered e.entry.call.kind ≡ Some in_it.waiting.kind
-is_of_kind S env thread e fits in_it =
-    let w : WaitingFits in_it.waiting = live_has WaitingFits S.crew.threads thread fits.threads in_it.waiting in_it.there in
-    ap (λ (e : Event). kind_numbered e.entry.call.kind) in_it.is ∙ w.kind
+-- the event answers a call of the kind of the thread's
+pub is_of_kind : (S : State) (env : Env) (thread : ℕ) (e : Event) → (in_it : ComesIn S env thread e) → e.entry.call.kind ≡ in_it.waiting.call.kind
+is_of_kind S env thread e in_it = ap (λ (e : Event). e.entry.call.kind) in_it.is
 
 -- ---- what is kept of each process
 

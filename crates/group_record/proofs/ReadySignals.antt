@@ -1,9 +1,7 @@
 -- Signals: which are ready after an answer, and that an event depends on the pending ones from 1 to 31 alone.
 use Rattle.std.proofs.Common.{◌≡◌, ℕ, zero, suc, ◌+◌, ◌-◌, ◌<◌, ◌≤◌, Bool, true, false, ◌&&◌, not, cond, List, Option, Some, None, refl, ap, sym, ◌∙◌, arith}
 use Rattle.std.specs.Prelude.{◌==◌, is_some, option_map}
-use Rattle.std.specs.Option.{option_map_or}
 use Rattle.std.proofs.lemmas.Option.{same_Some}
-use Rattle.call_table.specs.Table.{kind_numbered}
 use Rattle.call_table.specs.declared.kind.Kind.{Kind}
 use Rattle.call_table.specs.declared.kind.Kind.TheVariants.{Now, SleepUntil, Random, Recv, TryRecv}
 use Rattle.lamport_tag.specs.Tag.{next_clock_of}
@@ -47,10 +45,10 @@ handlers_after k S t c env x a h = need_handlers (need k S t c) (from_world k S 
 
 -- and the signal that is delivered
 pub chosen_is : (S : State) (t : ℕ) (a : Answer) (w : Waiting) (c : Call) (pending : ℕ → Bool) (handlers : List (Option ℕ)) → thread_at S t ≡ Some w
-    → kind_numbered c.kind ≡ Some w.kind → handlers ≡ (effects_of_answer w.kind S t w.call a).handlers → chosen_signal w.kind handlers pending ≡ signal_with_answer S t a c pending
+    → c.kind ≡ w.call.kind → handlers ≡ (effects_of_answer w.call.kind S t w.call a).handlers → chosen_signal w.call.kind handlers pending ≡ signal_with_answer S t a c pending
 chosen_is S t a w c pending handlers there kind are =
-    ap (λ (hs : List (Option ℕ)). chosen_signal w.kind hs pending) (are ∙ sym (ap (λ (o : Option Waiting). (answered_at S t a o).handlers) there))
-    ∙ sym (ap (λ (o : Option Kind). option_map_or (λ kind. chosen_signal kind (handlers_at S t a) pending) o 0) kind)
+    ap (λ (hs : List (Option ℕ)). chosen_signal w.call.kind hs pending) (are ∙ sym (ap (λ (o : Option Waiting). (answered_at S t a o).handlers) there))
+    ∙ sym (ap (λ (k : Kind). chosen_signal k (handlers_at S t a) pending) kind)
 
 -- ---- the lowest
 
@@ -109,14 +107,14 @@ mapped_same : (S : State) (t : ℕ) (env : Env) (pending : ℕ → Bool) (w : Wa
     → option_map (event S t (with_signals env pending) w) o ≡ option_map (event S t env w) o
 mapped_same S t env pending w None same = refl
 mapped_same S t env pending w (Some x) same =
-    ap (λ signal. Some (event_by S t w x signal (next_clock_of S.clock x.answer.tag))) (chosen_same w.kind x.after.handlers pending env.pending same)
+    ap (λ signal. Some (event_by S t w x signal (next_clock_of S.clock x.answer.tag))) (chosen_same w.call.kind x.after.handlers pending env.pending same)
 
 live_at_same : (S : State) (t : ℕ) (env : Env) (pending : ℕ → Bool) (o : Option Waiting) → ((r : ℕ) → 1 ≤ r → r ≤ 31 → pending r ≡ env.pending r)
     → event_of_waiting S t (with_signals env pending) o ≡ event_of_waiting S t env o
 live_at_same S t env pending None same = refl
 live_at_same S t env pending (Some w) same =
-    ap (λ world. option_map (event S t (with_signals env pending) w) (answered_now (need w.kind S t w.call) world)) (from_world_same w.kind S w.call env pending)
-    ∙ mapped_same S t env pending w (answered_now (need w.kind S t w.call) (from_world w.kind S w.call env)) same
+    ap (λ world. option_map (event S t (with_signals env pending) w) (answered_now (need w.call.kind S t w.call) world)) (from_world_same w.call.kind S w.call env pending)
+    ∙ mapped_same S t env pending w (answered_now (need w.call.kind S t w.call) (from_world w.call.kind S w.call env)) same
 
 -- a world in which the same signals are pending lets the process have the same event
 pub live_same : (S : State) (t : ℕ) (env : Env) (pending : ℕ → Bool) → ((r : ℕ) → 1 ≤ r → r ≤ 31 → pending r ≡ env.pending r)

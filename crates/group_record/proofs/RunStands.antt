@@ -1,7 +1,6 @@
 -- The acts of a run can follow each other, and so a run stands at each moment.
 use Rattle.std.proofs.Common.{◌≡◌, ℕ, ◌≤◌, Bool, true, false, List, [], ◌∷◌, length, refl, ap, ◌∙◌, arith}
-use Rattle.std.specs.Prelude.{Option, Some, IsTrue}
-use Rattle.call_table.specs.Table.{kind_numbered}
+use Rattle.std.specs.Prelude.{IsTrue}
 use Rattle.call_table.specs.declared.kind.Kind.{Kind}
 use Rattle.call_table.specs.declared.kind.Kind.TheVariants.{Random}
 use Rattle.lib_calls.specs.Effects.{is_good}
@@ -25,27 +24,27 @@ use Rattle.group_record.proofs.EventTakes.{Came, answers_random, came_by, draws_
 takes_there : (group : GroupStart) (early : List RunStep) (p : ℕ) (e : Event) (S : State) → Came group early p e S → IsTrue (is_taken e.entry) → 1 ≤ length (mailbox (processes_in_group group) (history_of_steps early) p)
 takes_there group early p e S c takes =
     let w = c.in_it.waiting in
-    let t = took w.kind S c.thread w.call (world_around (processes_in_group group) early p) c.in_it.given e.entry c.in_it.answer c.reply (takes_kind e.entry w.kind c.of_kind takes) in
+    let t = took w.call.kind S c.thread w.call (world_around (processes_in_group group) early p) c.in_it.given e.entry c.in_it.answer c.reply (takes_kind e.entry w.call.kind c.of_kind takes) in
     omega (arith, ap (λ (box : List (List ℕ)). length box) t.first)
 
-drawn_by : (e : Entry) (k : Kind) → kind_numbered e.call.kind ≡ Some k → drawn e ≡ draws_as (Some k) e
+drawn_by : (e : Entry) (k : Kind) → e.call.kind ≡ k → drawn e ≡ draws_as k e
 unfolding drawn
-drawn_by e k of_kind = ap (λ (o : Option Kind). draws_as o e) of_kind
+drawn_by e k of_kind = ap (λ (k : Kind). draws_as k e) of_kind
 
 drawn_within : (early : List RunStep) (p : ℕ) (e : Event) (good : Bool) → DrawsFromPoolIf good early p e → drawn e.entry ≤ length (pool (history_of_steps early) p)
 drawn_within early p e true draws = omega (arith, draws.count, draws.enough)
 drawn_within early p e false none = omega (arith, none)
 
-draws_as_within : (k : Kind) (e : Entry) (many : ℕ) → (k ≡ Random → draws_as (Some k) e ≤ many) → draws_as (Some k) e ≤ many
+draws_as_within : (k : Kind) (e : Entry) (many : ℕ) → (k ≡ Random → draws_as k e ≤ many) → draws_as k e ≤ many
 draws_as_within Random e many within = within refl
 draws_as_within _ e many within = omega arith
 
 draws_there : (group : GroupStart) (early : List RunStep) (p : ℕ) (e : Event) (S : State) → Came group early p e S → drawn e.entry ≤ length (pool (history_of_steps early) p)
 draws_there group early p e S c =
-    let kind = c.in_it.waiting.kind in
-    let by : drawn e.entry ≡ draws_as (Some kind) e.entry = drawn_by e.entry kind c.of_kind in
-    let few : draws_as (Some kind) e.entry ≤ length (pool (history_of_steps early) p) = draws_as_within kind e.entry (length (pool (history_of_steps early) p)) (λ is.
-    let random : kind_numbered e.entry.call.kind ≡ Some Random = c.of_kind ∙ ap Some is in
+    let kind = c.in_it.waiting.call.kind in
+    let by : drawn e.entry ≡ draws_as kind e.entry = drawn_by e.entry kind c.of_kind in
+    let few : draws_as kind e.entry ≤ length (pool (history_of_steps early) p) = draws_as_within kind e.entry (length (pool (history_of_steps early) p)) (λ is.
+    let random : e.entry.call.kind ≡ Random = c.of_kind ∙ is in
     let within = drawn_within early p e (is_good e.entry.call S.store.memory)
     (draws_if S early (processes_in_group group) p e (is_good e.entry.call S.store.memory) refl random (answers_random group early p e S c random)) in
     omega (arith, within, by)) in

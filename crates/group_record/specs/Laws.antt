@@ -2,7 +2,6 @@
 -- came from outside or is one that was sent.
 use Rattle.std.specs.Prelude.{◌≡◌, ℕ, Bool, true, false, Option, ◌<◌, ◌≤◌, IsTrue, List, ◌∷◌, ◌++◌, length, take, All, slice_get, Contains, Some, Ok}
 use Rattle.lamport_tag.specs.Tag.{read_datagram}
-use Rattle.call_table.specs.Table.{kind_numbered}
 use Rattle.call_table.specs.declared.kind.Kind.{Kind}
 use Rattle.call_table.specs.declared.kind.Kind.TheVariants.{Random, Recv, TryRecv}
 use Rattle.lib_calls.specs.Effects.{is_good}
@@ -88,9 +87,9 @@ Delivery = (group : GroupStart) (items : List Item) → IsBegun group → All (I
 
 -- ---- what is there is taken
 
-abbrev pub takes_datagrams : Option Kind → Bool
-takes_datagrams (Some Recv) = true
-takes_datagrams (Some TryRecv) = true
+abbrev pub takes_datagrams : Kind → Bool
+takes_datagrams Recv = true
+takes_datagrams TryRecv = true
 takes_datagrams _ = false
 
 -- each event of recv or try_recv takes a datagram where one waits, unless its arguments were bad in the state
@@ -98,7 +97,7 @@ takes_datagrams _ = false
 abbrev pub WaitingIsTaken : GroupStart → List RunStep → Type 0
 WaitingIsTaken group steps = (later early : List RunStep) (p : ℕ) (e : Event) → steps ≡ later ++ (Had p e ∷ early)
     → (S : State) → process_after group early p ≡ Some S
-    → IsTrue (takes_datagrams (kind_numbered e.entry.call.kind)) → IsTrue (is_good e.entry.call S.store.memory)
+    → IsTrue (takes_datagrams e.entry.call.kind) → IsTrue (is_good e.entry.call S.store.memory)
     → (bytes : List ℕ) (others : List (List ℕ)) → mailbox (processes_in_group group) (history_of_steps early) p ≡ bytes ∷ others → IsTrue (is_taken e.entry)
 
 abbrev pub TakesWaiting : Type 0
@@ -118,7 +117,7 @@ DrawsFromPoolIf false early p e = drawn e.entry ≡ 0
 -- this holds of each event of random
 abbrev pub RandomIsDrawn : GroupStart → List RunStep → Type 0
 RandomIsDrawn group steps = (later early : List RunStep) (p : ℕ) (e : Event) → steps ≡ later ++ (Had p e ∷ early)
-    → (S : State) → process_after group early p ≡ Some S → kind_numbered e.entry.call.kind ≡ Some Random
+    → (S : State) → process_after group early p ≡ Some S → e.entry.call.kind ≡ Random
     → DrawsFromPoolIf (is_good e.entry.call S.store.memory) early p e
 
 abbrev pub TakesDrawn : Type 0

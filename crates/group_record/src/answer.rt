@@ -71,12 +71,12 @@ fn from_world(
     requires { p < process_count world.now }
     ensures { IfOk result (λ found. found ≡ world_gives call.now (process_count world.now) (env_of world.now p)) }
 {
-    match Kind::from_number(call.kind) {
-        Some(Kind::Now) => Ok(Some(Answer::plain(alloc, world.time(p)))),
-        Some(Kind::SleepUntil) => Ok(waking(alloc, call.a0, world.time(p))),
-        Some(Kind::Random) => drawn(alloc, call.a1, world.pool(p)),
-        Some(Kind::Recv) => taken(alloc, call.a1, world.front(p)),
-        Some(Kind::TryRecv) => {
+    match call.kind {
+        Kind::Now => Ok(Some(Answer::plain(alloc, world.time(p)))),
+        Kind::SleepUntil => Ok(waking(alloc, call.a0, world.time(p))),
+        Kind::Random => drawn(alloc, call.a1, world.pool(p)),
+        Kind::Recv => taken(alloc, call.a1, world.front(p)),
+        Kind::TryRecv => {
             let found = taken(alloc, call.a1, world.front(p))?;
             Ok(Some(found.unwrap_or(Answer::plain(alloc, NONE_THERE))))
         }

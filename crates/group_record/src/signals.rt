@@ -8,7 +8,7 @@ ghost use Rattle.group_record.specs.inside.Around.{handlers_at, signal_with_answ
 
 use group_world::World;
 use guest_process::{Process, ends_process};
-use lib_calls::{Call, Kind};
+use lib_calls::Call;
 use signal_points::MOST_SIGNAL;
 
 /// The signal that is delivered with the answer to a call of the thread of process p, whatever the answer
@@ -24,10 +24,7 @@ pub(crate) fn signal_after(
     requires { p < process_count world.now }
     ensures { (a : Answer) → result ≡ signal_with_answer process.now thread a call.now (has_pending world.now p) }
 {
-    let Some(kind) = Kind::from_number(call.kind) else {
-        return 0;
-    };
-    if ends_process(kind) {
+    if ends_process(call.kind) {
         return 0;
     }
     lowest_ready(process, thread, world, p)

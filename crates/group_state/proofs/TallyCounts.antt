@@ -5,7 +5,6 @@ use Rattle.std.specs.List.{list_any}
 use Rattle.std.proofs.lemmas.Bool.Decides.{nat_tests}
 use Rattle.call_table.specs.declared.kind.Kind.{Kind}
 use Rattle.call_table.specs.declared.kind.Kind.TheVariants.{Send}
-use Rattle.call_table.specs.Table.{kind_numbered}
 use Rattle.lamport_tag.specs.declared.Tag.{Tag}
 use Rattle.lib_calls.specs.Traffic.{is_sent, is_taken, sends_as}
 use Rattle.lib_calls.specs.declared.entry.Entry.{Entry}
@@ -15,14 +14,14 @@ use Rattle.group_state.specs.declared.tally.Receipt.{Receipt}
 use Rattle.group_state.specs.Tally.{AcceptedEvent, accepted_count, is_receipt, is_send, is_send_of, is_unmatched, is_unmatched_by, takes_untagged, tally_of_events}
 use Rattle.group_state.specs.inside.Tallying.{AreNewEvents, IsNewSend, GroupTallying, counts_of, is_to_process, nothing_tallied, receipt_by, send_by, unmatched_receipts_in, with_accepted, with_all_accepted, with_send}
 
-below : (k : Option Kind) (count : ℕ) (e : Entry) → sends_as k count e ≡ true → e.call.a0 < count
-below (Some Send) count e sent = grind (arith, nat_tests)
+below : (k : Kind) (count : ℕ) (e : Entry) → sends_as k count e ≡ true → e.call.a0 < count
+below Send count e sent = grind (arith, nat_tests)
 below _ count e sent = cc
 
 -- a send into the group is for one of its processes
 pub below_count : (count : ℕ) (e : Entry) → is_sent count e ≡ true → e.call.a0 < count
 unfolding is_sent
-below_count count e sent = below (kind_numbered e.call.kind) count e sent
+below_count count e sent = below e.call.kind count e sent
 
 -- ---- one event
 

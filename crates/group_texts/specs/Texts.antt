@@ -3,8 +3,7 @@ use Rattle.std.specs.Prelude.{ℕ, suc, ◌-◌, ◌%◌, ◌^◌, ◌==◌, nat
 use Rattle.std.specs.Fmt.{signed_decimal}
 use Rattle.std.specs.Int.{w32, w64, cast_signed}
 use Rattle.std.specs.List.{flat_map}
-use Rattle.call_table.specs.Table.{kind_numbered, row}
-use Rattle.call_table.specs.declared.kind.Kind.{Kind}
+use Rattle.call_table.specs.Table.{row}
 use Rattle.call_table.specs.declared.signature.Signature.{Signature}
 use Rattle.coop_threads.specs.declared.slot.Slot.{Slot}
 use Rattle.coop_threads.specs.Crew.{value_of}
@@ -33,24 +32,16 @@ argument_text s n = codes " " ++ signed_text s.wide_param n
 abbrev pub arguments_text : Signature → Call → List ℕ
 arguments_text s c = flat_map (argument_text s) (take s.params (c.a0 ∷ c.a1 ∷ c.a2 ∷ []))
 
-abbrev pub call_of_kind : Option Kind → Call → List ℕ
-call_of_kind None c = []
-call_of_kind (Some kind) c = (row kind).name ++ arguments_text (row kind).signature c
-
 -- the name of a call, and its arguments
 abbrev pub call_text : Call → List ℕ
-call_text c = call_of_kind (kind_numbered c.kind) c
+call_text c = (row c.kind).name ++ arguments_text (row c.kind).signature c
 
 -- the reply of a call with a result of so many bits, where it has one
 abbrev pub reply_by : ℕ → ℕ → List ℕ
 reply_by bits reply = if bits == 0 then [] else codes " = " ++ signed_text (bits == 64) reply
 
-abbrev pub reply_of_kind : Option Kind → ℕ → List ℕ
-reply_of_kind None reply = []
-reply_of_kind (Some kind) reply = reply_by (row kind).signature.result reply
-
 abbrev pub reply_text : Entry → List ℕ
-reply_text e = reply_of_kind (kind_numbered e.call.kind) e.reply
+reply_text e = reply_by (row e.call.kind).signature.result e.reply
 
 -- the signal that was delivered, where one was
 abbrev pub signal_text : ℕ → List ℕ

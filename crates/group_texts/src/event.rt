@@ -9,7 +9,7 @@ use end_text::push_end;
 use fri_text::Text;
 use group_state::{Group, GroupEvent};
 use guest_process::{End, Process};
-use lib_calls::{Call, EntryView, Kind, Signature};
+use lib_calls::{Call, EntryView, Signature};
 use std::alloc::{AllocError, Global};
 
 // A number of 64 bits, or of the lowest 32, signed.
@@ -40,21 +40,15 @@ fn push_arguments(text: &mut Text, signature: Signature, call: &Call) -> Result<
 fn push_call(text: &mut Text, call: &Call) -> Result<(), AllocError>
     ensures { OnOk result (text.new ≡ text.old ++ call_text call.now) }
 {
-    let Some(kind) = Kind::from_number(call.kind) else {
-        return Ok(());
-    };
-    text.push_str(kind.name())?;
-    push_arguments(text, kind.signature(), call)
+    text.push_str(call.kind.name())?;
+    push_arguments(text, call.kind.signature(), call)
 }
 
 // The reply of a call that has a result.
 fn push_reply(text: &mut Text, entry: &EntryView<'_>) -> Result<(), AllocError>
     ensures { OnOk result (text.new ≡ text.old ++ reply_text (entry_of entry.now)) }
 {
-    let Some(kind) = Kind::from_number(entry.call.kind) else {
-        return Ok(());
-    };
-    match kind.signature().result {
+    match entry.call.kind.signature().result {
         0 => Ok(()),
         bits => {
             text.push_str(" = ")?;

@@ -2,7 +2,6 @@
 use Rattle.std.proofs.Common.{◌≡◌, ℕ, ◌≤◌, Bool, true, false, cond, ◌&&◌, ◌||◌, not, List, [], ◌∷◌, length, Option, Some, None, inl, inr, refl, ap, sym, ◌∙◌, arith}
 use Rattle.std.specs.Prelude.{◌==◌, nat_le, is_some}
 use Rattle.std.proofs.lemmas.Bool.{and_parts, and_from, or_cases, or_left, or_right, eqb-true, eq-eqb, ne_eqb, leb-true, le-leb}
-use Rattle.call_table.specs.Table.{kind_numbered}
 use Rattle.call_table.specs.declared.kind.Kind.{Kind}
 use Rattle.call_table.specs.declared.kind.Kind.TheVariants.{Begin, Exit, Note, Print, Random, Me, Send, Recv, TryRecv, Spawn, Yield, Join, Lock, Unlock, OnSignal, Thread}
 use Rattle.guest_memory.specs.Memory.{Memory, is_inside}
@@ -20,7 +19,7 @@ use Rattle.guest_process.proofs.CallEffects.{effects_has}
 
 -- ---- good arguments
 
-good_is : (k : Kind) (c : Call) (memory : Memory) → kind_numbered c.kind ≡ Some k → is_good c memory ≡ has_good_ranges k c memory
+good_is : (k : Kind) (c : Call) (memory : Memory) → c.kind ≡ k → is_good c memory ≡ has_good_ranges k c memory
 unfolding is_good
 good_is k c memory e = rw e refl
 
@@ -37,24 +36,24 @@ unfolding is_range
 range_short memory addr len h = leb-true len 60000 (and_parts (nat_le len 60000) (is_inside memory addr len) h).0
 
 -- how many bytes may go out in a datagram
-pub send_short : (S : State) (c : Call) → kind_numbered c.kind ≡ Some Send → is_good c S.store.memory ≡ true → c.a2 ≤ 60000
+pub send_short : (S : State) (c : Call) → c.kind ≡ Send → is_good c S.store.memory ≡ true → c.a2 ≤ 60000
 send_short S c e good = range_short S.store.memory c.a1 c.a2 (sym (good_is Send c S.store.memory e) ∙ good)
 
 -- how many bytes may come in
-pub random_short : (S : State) (c : Call) → kind_numbered c.kind ≡ Some Random → is_good c S.store.memory ≡ true → c.a1 ≤ 60000
+pub random_short : (S : State) (c : Call) → c.kind ≡ Random → is_good c S.store.memory ≡ true → c.a1 ≤ 60000
 random_short S c e good = range_short S.store.memory c.a0 c.a1 (sym (good_is Random c S.store.memory e) ∙ good)
 
-pub recv_short : (S : State) (c : Call) → kind_numbered c.kind ≡ Some Recv → is_good c S.store.memory ≡ true → c.a1 ≤ 60000
+pub recv_short : (S : State) (c : Call) → c.kind ≡ Recv → is_good c S.store.memory ≡ true → c.a1 ≤ 60000
 recv_short S c e good =
     range_short S.store.memory c.a0 c.a1 (and_parts (is_range S.store.memory c.a0 c.a1) (is_inside S.store.memory c.a2 4) (sym (good_is Recv c S.store.memory e) ∙ good)).0
 
-pub try_recv_short : (S : State) (c : Call) → kind_numbered c.kind ≡ Some TryRecv → is_good c S.store.memory ≡ true → c.a1 ≤ 60000
+pub try_recv_short : (S : State) (c : Call) → c.kind ≡ TryRecv → is_good c S.store.memory ≡ true → c.a1 ≤ 60000
 try_recv_short S c e good =
     range_short S.store.memory c.a0 c.a1 (and_parts (is_range S.store.memory c.a0 c.a1) (is_inside S.store.memory c.a2 4) (sym (good_is TryRecv c S.store.memory e) ∙ good)).0
 
 -- ---- what is written
 
-good_written : (k : Kind) (S : State) (c : Call) (a : Answer) → kind_numbered c.kind ≡ Some k → is_good c S.store.memory ≡ true → with_answer S c a ≡ with_memory S (put_in_memory k c a S.store.memory)
+good_written : (k : Kind) (S : State) (c : Call) (a : Answer) → c.kind ≡ k → is_good c S.store.memory ≡ true → with_answer S c a ≡ with_memory S (put_in_memory k c a S.store.memory)
 unfolding memory_with
 good_written k S c a e good = ap (with_memory S) (rw (good, e) refl)
 
@@ -63,14 +62,14 @@ unfolding memory_with
 bad_written S c a bad = ap (with_memory S) (rw bad refl)
 
 -- an answer to a call of a kind that puts nothing in writes nothing
-plain_written : (k : Kind) (S : State) (c : Call) (a : Answer) → kind_numbered c.kind ≡ Some k → put_in_memory k c a S.store.memory ≡ S.store.memory → with_answer S c a ≡ S
+plain_written : (k : Kind) (S : State) (c : Call) (a : Answer) → c.kind ≡ k → put_in_memory k c a S.store.memory ≡ S.store.memory → with_answer S c a ≡ S
 plain_written k S c a e same = by_test (is_good c S.store.memory) refl
   where
     by_test : (b : Bool) → is_good c S.store.memory ≡ b → with_answer S c a ≡ S
     by_test true good = good_written k S c a e good ∙ ap (with_memory S) same
     by_test false bad = bad_written S c a bad
 
-pub exit_written : (S : State) (c : Call) (a : Answer) → kind_numbered c.kind ≡ Some Exit → with_answer S c a ≡ S
+pub exit_written : (S : State) (c : Call) (a : Answer) → c.kind ≡ Exit → with_answer S c a ≡ S
 exit_written S c a e = plain_written Exit S c a e refl
 
 asked_written : (S : State) (c : Call) (a : Answer) → after_need (need_of_world S c) (with_answer S c a) ≡ with_answer S c a
@@ -80,16 +79,16 @@ asked_written S c a = by_test (is_good c S.store.memory) refl
     by_test true good = refl
     by_test false bad = sym (bad_written S c a bad)
 
-fixed_written : (k : Kind) (S : State) (c : Call) (a : Answer) (n : Need) → kind_numbered c.kind ≡ Some k → put_in_memory k c a S.store.memory ≡ S.store.memory → after_need n (with_answer S c a) ≡ after_need n S
+fixed_written : (k : Kind) (S : State) (c : Call) (a : Answer) (n : Need) → c.kind ≡ k → put_in_memory k c a S.store.memory ≡ S.store.memory → after_need n (with_answer S c a) ≡ after_need n S
 fixed_written k S c a n e same = ap (after_need n) (plain_written k S c a e same)
 
-joined_written : (S : State) (t : ℕ) (c : Call) (a : Answer) → kind_numbered c.kind ≡ Some Join → effects_of_answer Join S t c a ≡ with_answer S c a
+joined_written : (S : State) (t : ℕ) (c : Call) (a : Answer) → c.kind ≡ Join → effects_of_answer Join S t c a ≡ with_answer S c a
 joined_written S t c a e =
     let plain = plain_written Join S c a e refl in
     effects_has (λ S'. S' ≡ with_answer S c a) Join S t c a (record { locks = λ h. cc; unlocks = λ h. cc; handles = λ h. cc; spawns = λ h. cc }) (sym plain) refl (λ h. cc)
 
 -- where it does not end the process, an answer does so much
-pub effects_acted : (k : Kind) (S : State) (t : ℕ) (c : Call) (a : Answer) → kind_numbered c.kind ≡ Some k → ends_process k ≡ false → effects_of_answer k S t c a ≡ acted_on_answer (Some k) S t c a
+pub effects_acted : (k : Kind) (S : State) (t : ℕ) (c : Call) (a : Answer) → c.kind ≡ k → ends_process k ≡ false → effects_of_answer k S t c a ≡ acted_on_answer k S t c a
 effects_acted Exit S t c a e h = cc
 effects_acted Begin S t c a e h = sym (plain_written Begin S c a e refl)
 effects_acted Note S t c a e h = sym (plain_written Note S c a e refl)
@@ -113,7 +112,7 @@ where_none S true memory = refl
 where_none S false memory = refl
 
 -- where the world answers, what its answer does is what can be told from the answer alone
-pub given_written : (k : Kind) (S : State) (t : ℕ) (c : Call) (a : Answer) → kind_numbered c.kind ≡ Some k → need k S t c ≡ World → with_answer S c a ≡ with_given k S c a
+pub given_written : (k : Kind) (S : State) (t : ℕ) (c : Call) (a : Answer) → c.kind ≡ k → need k S t c ≡ World → with_answer S c a ≡ with_given k S c a
 given_written Random S t c a e w = good_written Random S c a e (asked_good S c w)
 given_written Recv S t c a e w = good_written Recv S c a e (asked_good S c w)
 given_written TryRecv S t c a e w =
@@ -174,10 +173,10 @@ brought TryRecv S t c a good h =
     asked_brings S c a (has_good_ranges TryRecv c S.store.memory) (takes_datagram S.count c a || is_empty a) (takes_counted c a || takes_nothing minus_two a) good (tried_counted S.count c a) h
 brought _ S t c a good h = refl
 
-answer_is : (k : Kind) (c : Call) (a : Answer) (memory : Memory) → kind_numbered c.kind ≡ Some k → is_answer c a memory ≡ call_brings k c a memory
+answer_is : (k : Kind) (c : Call) (a : Answer) (memory : Memory) → c.kind ≡ k → is_answer c a memory ≡ call_brings k c a memory
 unfolding is_answer
 answer_is k c a memory e = rw e refl
 
 -- the bytes that come in with a legal answer are such as the call lets come in
-pub legal_answer : (k : Kind) (S : State) (t : ℕ) (c : Call) (a : Answer) → kind_numbered c.kind ≡ Some k → need_gives_answer (need k S t c) a (is_possible k S c a) ≡ true → is_answer c a S.store.memory ≡ true
+pub legal_answer : (k : Kind) (S : State) (t : ℕ) (c : Call) (a : Answer) → c.kind ≡ k → need_gives_answer (need k S t c) a (is_possible k S c a) ≡ true → is_answer c a S.store.memory ≡ true
 legal_answer k S t c a e h = answer_is k c a S.store.memory e ∙ brought k S t c a (good_is k c S.store.memory e) h

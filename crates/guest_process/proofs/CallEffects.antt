@@ -109,9 +109,9 @@ effects_has Q Number S t c a cases same writes exits = same
 effects_has Q _ S t c a cases same writes exits = writes
 
 -- and but for the end of the thread
-pub acted_has : (Q : State → Type 0) (o : Option Kind) (S : State) (t : ℕ) (c : Call) (a : Answer) → ((k : Kind) → Cases Q k S t c) → Q S → Q (with_answer S c a) → Q (acted_on_answer o S t c a)
-acted_has Q (Some Lock) S t c a cases same writes = locked_has Q S (narrow c.a0) t S same same ((cases Lock).locks refl)
-acted_has Q (Some Unlock) S t c a cases same writes = unlocked_has Q S (narrow c.a0) t S same ((cases Unlock).unlocks refl)
-acted_has Q (Some OnSignal) S t c a cases same writes = handled_has Q S (narrow c.a0) (narrow c.a1) S same ((cases OnSignal).handles refl)
-acted_has Q (Some Spawn) S t c a cases same writes = spawned_has Q S (narrow c.a0) (narrow c.a1) S same ((cases Spawn).spawns refl)
+pub acted_has : (Q : State → Type 0) (k : Kind) (S : State) (t : ℕ) (c : Call) (a : Answer) → ((k : Kind) → Cases Q k S t c) → Q S → Q (with_answer S c a) → Q (acted_on_answer k S t c a)
+acted_has Q Lock S t c a cases same writes = locked_has Q S (narrow c.a0) t S same same ((cases Lock).locks refl)
+acted_has Q Unlock S t c a cases same writes = unlocked_has Q S (narrow c.a0) t S same ((cases Unlock).unlocks refl)
+acted_has Q OnSignal S t c a cases same writes = handled_has Q S (narrow c.a0) (narrow c.a1) S same ((cases OnSignal).handles refl)
+acted_has Q Spawn S t c a cases same writes = spawned_has Q S (narrow c.a0) (narrow c.a1) S same ((cases Spawn).spawns refl)
 acted_has Q _ S t c a cases same writes = writes

@@ -5,7 +5,6 @@ use Rattle.std.specs.Cmp.{nat_cmp_total, unsigned_tied}
 use Rattle.std.specs.FinMap as map
 use Rattle.std.proofs.lemmas.Bool.{eqb-true}
 use Rattle.std.proofs.lemmas.List.{length-set}
-use Rattle.call_table.specs.Table.{kind_numbered}
 use Rattle.call_table.specs.declared.kind.Kind.TheVariants.{Spawn, Lock, Unlock}
 use Rattle.coop_threads.specs.Crew.{holder_of}
 use Rattle.coop_threads.specs.Locks.{LockHolders, holders_after}
@@ -32,14 +31,14 @@ use Rattle.guest_process.proofs.FirstFailure.{Hold, all_hold, unless_none}
 use Rattle.guest_process.proofs.KeptFits.{begin_fits, stand_fits}
 use Rattle.guest_process.proofs.OneEvent.{live_low}
 use Rattle.guest_process.proofs.MadeThreads.{found_at, has_room}
-use Rattle.guest_process.proofs.LegalEntries.{call_told, fits_at}
+use Rattle.guest_process.proofs.LegalEntries.{call_told}
 
 -- what the thread changes that goes on after the answer
-goes : KeepsModule → (S : State) (e : Entry) → StateFits S → (w : Waiting) → Keeps WaitingFits e.thread (with_event_counted (effects_of_answer w.kind S e.thread w.call (answer_of e)) e.thread e.clock) (next_at_thread S e (Some w))
+goes : KeepsModule → (S : State) (e : Entry) → StateFits S → (w : Waiting) → Keeps WaitingFits e.thread (with_event_counted (effects_of_answer w.call.kind S e.thread w.call (answer_of e)) e.thread e.clock) (next_at_thread S e (Some w))
 goes keeps S e s w =
-    let S' = effects_of_answer w.kind S e.thread w.call (answer_of e) in
-    let n = affected WaitingFits w.kind S e.thread w.call (answer_of e) s.threads (begin_fits S.store.«module») in
-    went_on WaitingFits keeps w.kind S' e.thread w e.reply e.signal e.clock n.threads (subst (Stand WaitingFits) (sym n.«module») (stand_fits S.store.«module»))
+    let S' = effects_of_answer w.call.kind S e.thread w.call (answer_of e) in
+    let n = affected WaitingFits w.call.kind S e.thread w.call (answer_of e) s.threads (begin_fits S.store.«module») in
+    went_on WaitingFits keeps w.call.kind S' e.thread w e.reply e.signal e.clock n.threads (subst (Stand WaitingFits) (sym n.«module») (stand_fits S.store.«module»))
 
 -- ---- the other threads
 
@@ -52,9 +51,9 @@ last : (slots : List (Slot Waiting)) (w : Waiting) → slice_get (slots ++ Kept 
 last [] w = refl
 last (slot ∷ slots) w = last slots w
 
-answer_others : (S : State) (e : Entry) (w : Waiting) (u : ℕ) → u ≢ e.thread → u < length S.crew.threads → slice_get (effects_of_answer w.kind S e.thread w.call (answer_of e)).crew.threads u ≡ slice_get S.crew.threads u
+answer_others : (S : State) (e : Entry) (w : Waiting) (u : ℕ) → u ≢ e.thread → u < length S.crew.threads → slice_get (effects_of_answer w.call.kind S e.thread w.call (answer_of e)).crew.threads u ≡ slice_get S.crew.threads u
 answer_others S e w u other low =
-    effects_has (λ S'. slice_get S'.crew.threads u ≡ slice_get S.crew.threads u) w.kind S e.thread w.call (answer_of e)
+    effects_has (λ S'. slice_get S'.crew.threads u ≡ slice_get S.crew.threads u) w.call.kind S e.thread w.call (answer_of e)
     (record { locks = λ k free. refl; unlocks = λ k held. refl; handles = λ k h given. refl; spawns = λ k f found thread starts. before_last S.crew.threads u (waiting_at S.store.«module» thread) low })
     refl refl (λ k. set_other S.crew.threads e.thread u Over other)
 
@@ -69,10 +68,10 @@ others_kept keeps S e s h = others_at keeps S e s (thread_at S e.thread) (unless
 -- ---- the threads that are made
 
 -- the thread's call is of this kind
-told_kind : (S : State) (e : Entry) → StateFits S → (w : Waiting) → thread_at S e.thread ≡ Some w → Hold (entry_checks S e w) → kind_numbered e.call.kind ≡ Some w.kind
-told_kind S e s w at holds = ap (λ call. kind_numbered call.kind) (call_told S e w holds) ∙ (fits_at S e.thread w s at).kind
+told_kind : (S : State) (e : Entry) (w : Waiting) → Hold (entry_checks S e w) → e.call.kind ≡ w.call.kind
+told_kind S e w holds = ap (λ call. call.kind) (call_told S e w holds)
 
-thread_made : (S : State) (e : Entry) (w : Waiting) (f : ℕ) (thread : Thread) → kind_numbered e.call.kind ≡ Some Spawn → e.call ≡ w.call → spawnable S (narrow w.call.a0) ≡ Some f → new_thread S.store.«module» f (narrow w.call.a1) ≡ Some thread → MadeAfter S e (with_new_thread S (waiting_at S.store.«module» thread))
+thread_made : (S : State) (e : Entry) (w : Waiting) (f : ℕ) (thread : Thread) → e.call.kind ≡ Spawn → e.call ≡ w.call → spawnable S (narrow w.call.a0) ≡ Some f → new_thread S.store.«module» f (narrow w.call.a1) ≡ Some thread → MadeAfter S e (with_new_thread S (waiting_at S.store.«module» thread))
 thread_made S e w f thread kind call found starts = OneMore (record {
   func = f;
   thread = thread;
@@ -103,15 +102,15 @@ made_at keeps S e s None at h = cc
 made_at keeps S e s (Some w) at h =
     let holds = all_hold (entry_checks S e w) h in
     let call = call_told S e w holds in
-    let kind = told_kind S e s w at holds in
+    let kind = told_kind S e w holds in
     let later = goes keeps S e s w in
-    made_later S (effects_of_answer w.kind S e.thread w.call (answer_of e)) (next_at_thread S e (Some w)) e (live_low S.crew.threads e.thread w at) later.room later.others
-    (effects_has (MadeAfter S e) w.kind S e.thread w.call (answer_of e)
+    made_later S (effects_of_answer w.call.kind S e.thread w.call (answer_of e)) (next_at_thread S e (Some w)) e (live_low S.crew.threads e.thread w at) later.room later.others
+    (effects_has (MadeAfter S e) w.call.kind S e.thread w.call (answer_of e)
     (record {
       locks = λ k free. AsMany refl;
       unlocks = λ k held. AsMany refl;
       handles = λ k h given. AsMany refl;
-      spawns = λ k f found thread starts. thread_made S e w f thread (kind ∙ ap Some k) call found starts;
+      spawns = λ k f found thread starts. thread_made S e w f thread (kind ∙ k) call found starts;
     })
     (AsMany refl) (AsMany refl) (λ k. AsMany (length-set S.crew.threads e.thread Over)))
 
@@ -127,7 +126,7 @@ get_insert holders m n q = map.get-insert nat_cmp_total holders m n q ∙ ap (λ
 get_remove : (holders : LockHolders) (m q : ℕ) → map.get (map.remove holders m) q ≡ cond (q == m) None (map.get holders q)
 get_remove holders m q = map.get-remove nat_cmp_total holders m q ∙ ap (λ (b : Bool). cond b None (map.get holders q)) (unsigned_tied q m)
 
-lock_taken : (S : State) (e : Entry) (w : Waiting) (m : ℕ) → kind_numbered e.call.kind ≡ Some Lock → e.call ≡ w.call → holder_of S.crew (narrow w.call.a0) ≡ None → LockAfter S e m (with_lock S (narrow w.call.a0) e.thread)
+lock_taken : (S : State) (e : Entry) (w : Waiting) (m : ℕ) → e.call.kind ≡ Lock → e.call ≡ w.call → holder_of S.crew (narrow w.call.a0) ≡ None → LockAfter S e m (with_lock S (narrow w.call.a0) e.thread)
 lock_taken S e w m kind call free = by_test (m == narrow w.call.a0) refl
   where
     held : holder_of (with_lock S (narrow w.call.a0) e.thread).crew m ≡ cond (m == narrow w.call.a0) (Some e.thread) (holder_of S.crew m)
@@ -146,7 +145,7 @@ lock_taken S e w m kind call free = by_test (m == narrow w.call.a0) refl
         })
     by_test false test = Same (held ∙ ap (λ b. cond b (Some e.thread) (holder_of S.crew m)) test)
 
-lock_freed : (S : State) (e : Entry) (w : Waiting) (m : ℕ) → kind_numbered e.call.kind ≡ Some Unlock → e.call ≡ w.call → holder_of S.crew (narrow w.call.a0) ≡ Some e.thread → LockAfter S e m (without_lock S (narrow w.call.a0))
+lock_freed : (S : State) (e : Entry) (w : Waiting) (m : ℕ) → e.call.kind ≡ Unlock → e.call ≡ w.call → holder_of S.crew (narrow w.call.a0) ≡ Some e.thread → LockAfter S e m (without_lock S (narrow w.call.a0))
 lock_freed S e w m kind call held = by_test (m == narrow w.call.a0) refl
   where
     freed : holder_of (without_lock S (narrow w.call.a0)).crew m ≡ cond (m == narrow w.call.a0) None (holder_of S.crew m)
@@ -176,13 +175,13 @@ lock_at keeps S e s None at h m = cc
 lock_at keeps S e s (Some w) at h m =
     let holds = all_hold (entry_checks S e w) h in
     let call = call_told S e w holds in
-    let kind = told_kind S e s w at holds in
-    let S' = effects_of_answer w.kind S e.thread w.call (answer_of e) in
+    let kind = told_kind S e w holds in
+    let S' = effects_of_answer w.call.kind S e.thread w.call (answer_of e) in
     lock_later S S' (next_at_thread S e (Some w)) e m (goes keeps S e s w).holders
-    (effects_has (LockAfter S e m) w.kind S e.thread w.call (answer_of e)
+    (effects_has (LockAfter S e m) w.call.kind S e.thread w.call (answer_of e)
     (record {
-      locks = λ k free. lock_taken S e w m (kind ∙ ap Some k) call free;
-      unlocks = λ k held. lock_freed S e w m (kind ∙ ap Some k) call held;
+      locks = λ k free. lock_taken S e w m (kind ∙ k) call free;
+      unlocks = λ k held. lock_freed S e w m (kind ∙ k) call held;
       handles = λ k h given. Same refl;
       spawns = λ k f found thread starts. Same refl;
     })

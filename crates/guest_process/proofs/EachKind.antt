@@ -17,7 +17,7 @@ use Rattle.lamport_tag.specs.Tag.{clock_of, is_sendable, payload_behind, read_da
 use Rattle.lib_calls.specs.declared.entry.Call.{Call}
 use Rattle.lib_calls.specs.Effects.{is_good, minus_one, minus_two, takes_counted}
 use Rattle.lib_calls.specs.Entry.{HasArguments, IsNumberIf, IsStringIf, IsTagIf}
-use Rattle.call_table.specs.Table.{kind_numbered, row}
+use Rattle.call_table.specs.Table.{row}
 use Rattle.call_table.specs.declared.kind.Kind.{Kind}
 use Rattle.call_table.specs.declared.kind.Kind.TheVariants.{Begin, Exit, Note, Print, Now, SleepUntil, Random, Me, Send, Recv, TryRecv, Spawn, Yield, Join, Lock, Unlock, OnSignal, Thread as Number}
 use Rattle.lib_calls.specs.Answer.{Answer}
@@ -141,7 +141,7 @@ pub record Matches (k : Kind) (S : State) (c : Call) (a : Answer) : Type 0 where
   pub tag : IsTagIf (row k).entry.tag a.tag
   pub clock : clock_of a.tag ≤ 2 ^ 62
 
-drawn_matches : (S : State) (c : Call) (pool : List ℕ) → kind_numbered c.kind ≡ Some Random → is_good c S.store.memory ≡ true → nat_le c.a1 (length pool) ≡ true → Matches Random S c (random_answer c.a1 (take c.a1 pool))
+drawn_matches : (S : State) (c : Call) (pool : List ℕ) → c.kind ≡ Random → is_good c S.store.memory ≡ true → nat_le c.a1 (length pool) ≡ true → Matches Random S c (random_answer c.a1 (take c.a1 pool))
 drawn_matches S c pool e good enough =
     let long : length (take c.a1 pool) ≡ c.a1 = length-take-le c.a1 pool (leb-true c.a1 (length pool) enough) in
     let short = random_short S c e good in
@@ -198,12 +198,12 @@ module _ (stays : StaysUntagged) (sent : IsFromGroup) where
         clock = payload_clock S.count read.0 bytes payload;
       }
 
-  recv_matches : (S : State) (c : Call) (a : Answer) → kind_numbered c.kind ≡ Some Recv → is_good c S.store.memory ≡ true → Brings S c a → Matches Recv S c a
+  recv_matches : (S : State) (c : Call) (a : Answer) → c.kind ≡ Recv → is_good c S.store.memory ≡ true → Brings S c a → Matches Recv S c a
   recv_matches S c a e good b =
       let short = recv_short S c e good in
       record { possible = b.taken; reply = omega (arith, short, b.reply); incoming = omega (arith, short, b.incoming); tag = b.tag; clock = b.clock }
 
-  try_recv_matches : (S : State) (c : Call) (a : Answer) → kind_numbered c.kind ≡ Some TryRecv → is_good c S.store.memory ≡ true → Brings S c a → Matches TryRecv S c a
+  try_recv_matches : (S : State) (c : Call) (a : Answer) → c.kind ≡ TryRecv → is_good c S.store.memory ≡ true → Brings S c a → Matches TryRecv S c a
   try_recv_matches S c a e good b =
       let short = try_recv_short S c e good in
       record { possible = or_left _ _ b.taken; reply = omega (arith, short, b.reply); incoming = omega (arith, short, b.incoming); tag = b.tag; clock = b.clock }
@@ -217,16 +217,16 @@ module _ (stays : StaysUntagged) (sent : IsFromGroup) where
     clock = omega arith;
   }
 
-  first_matches : (S : State) (c : Call) (mailbox : List (List ℕ)) → S.count ≤ 16 → kind_numbered c.kind ≡ Some Recv → is_good c S.store.memory ≡ true → (a : Answer) → taken_of S.count c.a1 mailbox ≡ Some a → Matches Recv S c a
+  first_matches : (S : State) (c : Call) (mailbox : List (List ℕ)) → S.count ≤ 16 → c.kind ≡ Recv → is_good c S.store.memory ≡ true → (a : Answer) → taken_of S.count c.a1 mailbox ≡ Some a → Matches Recv S c a
   first_matches S c [] few e good a h = cc
   first_matches S c (datagram ∷ waiting) few e good a h =
       subst (Matches Recv S c) (same_Some _ _ h) (recv_matches S c _ e good (cut_brings S c datagram few))
 
-  tried_matches : (S : State) (c : Call) (mailbox : List (List ℕ)) → S.count ≤ 16 → kind_numbered c.kind ≡ Some TryRecv → is_good c S.store.memory ≡ true → Matches TryRecv S c (unwrap_or (taken_of S.count c.a1 mailbox) (replies_with minus_two))
+  tried_matches : (S : State) (c : Call) (mailbox : List (List ℕ)) → S.count ≤ 16 → c.kind ≡ TryRecv → is_good c S.store.memory ≡ true → Matches TryRecv S c (unwrap_or (taken_of S.count c.a1 mailbox) (replies_with minus_two))
   tried_matches S c [] few e good = none_matches S c
   tried_matches S c (datagram ∷ waiting) few e good = try_recv_matches S c _ e good (cut_brings S c datagram few)
 
-  pub world_matches : (k : Kind) (S : State) (t : ℕ) (c : Call) (env : Env) → S.count ≤ 16 → EnvFits env → kind_numbered c.kind ≡ Some k → need k S t c ≡ World → (a : Answer) → world_answer k c S.count env ≡ Some a → Matches k S c a
+  pub world_matches : (k : Kind) (S : State) (t : ℕ) (c : Call) (env : Env) → S.count ≤ 16 → EnvFits env → c.kind ≡ k → need k S t c ≡ World → (a : Answer) → world_answer k c S.count env ≡ Some a → Matches k S c a
   world_matches Now S t c env few e n w a h =
       subst (Matches Now S c) (same_Some _ _ h) (record { possible = refl; reply = e.time; incoming = refl; tag = refl; clock = omega arith })
   world_matches SleepUntil S t c env few e n w a h =

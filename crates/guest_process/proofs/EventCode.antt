@@ -1,6 +1,6 @@
 -- What the code of an event rests on.
 use Rattle.std.proofs.Common.{◌≡◌, ℕ, zero, suc, true, false, cond, List, [], ◌∷◌, ◌++◌, Option, Some, None, refl, ap, sym, subst, ◌∙◌}
-use Rattle.std.specs.Prelude.{◌%◌, ◌^◌, slice_get, slice_set, option_and_then, option_map}
+use Rattle.std.specs.Prelude.{◌%◌, ◌^◌, slice_get, slice_set, option_and_then}
 use Rattle.std.specs.Int.{w32, cast_signed}
 use Rattle.coop_threads.specs.Crew.{Crew, IsTaken, live_at, status_of, value_of as value_in, with_slot}
 use Rattle.coop_threads.specs.declared.slot.Slot.{Slot}
@@ -21,13 +21,12 @@ use Rattle.wasm_stack.specs.Thread.{functions_of}
 use Rattle.wasm_stack.specs.declared.call.CallSite.{CallSite}
 use Rattle.guest_process.specs.declared.end.End.{End}
 use Rattle.guest_process.specs.declared.end.End.TheVariants.{Exited, Trapped}
-use Rattle.call_table.specs.Table.{kind_numbered}
 use Rattle.call_table.specs.declared.kind.Kind.{Kind}
 use Rattle.call_table.specs.declared.kind.Kind.TheVariants.{Exit}
 use Rattle.guest_process.specs.declared.body.Body.{Body}
 use Rattle.guest_process.specs.declared.waiting.Waiting.{Waiting}
 use Rattle.lib_calls.specs.Answer.{Answer, answer_of}
-use Rattle.guest_process.specs.inside.Advancing.{acted_on_answer, pending_kind as kind_of}
+use Rattle.guest_process.specs.inside.Advancing.{acted_on_answer}
 use Rattle.guest_process.specs.Answers.{effects_of_answer, exited_process, narrow}
 use Rattle.guest_process.specs.Fits.{Each, StateFits, live_has}
 use Rattle.guest_process.specs.GoesOn.{after_running, instruction_budget, with_event_counted, finished_if_all_over, handler, runs_handled, thread_runs_on, stands, stopped_thread, stopped_at_call, with_handler_frame}
@@ -42,7 +41,7 @@ use Rattle.guest_process.proofs.EventMarks.{MarkLaws}
 use Rattle.guest_process.proofs.KeptFits.{state_kept}
 use Rattle.guest_process.proofs.KeptSound.{next_module, sound_kept}
 use Rattle.guest_process.proofs.FirstFailure.{unless_none}
-use Rattle.guest_process.proofs.LegalEntries.{call_told, fits_at, legal_at}
+use Rattle.guest_process.proofs.LegalEntries.{call_told, legal_at}
 use Rattle.guest_process.proofs.AnswerWrites.{effects_acted, exit_written}
 use Rattle.guest_process.proofs.CallEffects.{acted_has}
 use Rattle.guest_process.proofs.HandlerCalls.{AreHandlers, given_is, set_sound}
@@ -103,8 +102,8 @@ runs_out S t thread (Some above) =
     let run = burst instruction_budget above S.store in
     stopped_out (record S { store = run.store }) t run.stop
 
-exits_by : (k : Kind) (S : State) (t : ℕ) (w : Waiting) (a : Answer) (signal clock : ℕ) → kind_numbered w.call.kind ≡ Some k → ends_process k ≡ true
-    → exited_process (with_event_counted (with_thread (acted_on_answer (Some k) S t w.call a) t Lent) t clock) t w.call.a0 ≡ thread_runs_on k (effects_of_answer k S t w.call a) t w.strand a.reply signal clock
+exits_by : (k : Kind) (S : State) (t : ℕ) (w : Waiting) (a : Answer) (signal clock : ℕ) → w.call.kind ≡ k → ends_process k ≡ true
+    → exited_process (with_event_counted (with_thread (acted_on_answer k S t w.call a) t Lent) t clock) t w.call.a0 ≡ thread_runs_on k (effects_of_answer k S t w.call a) t w.strand a.reply signal clock
 exits_by Exit S t w a signal clock e h =
     ap (λ S'. exited_process (with_event_counted (with_thread S' t Lent) t clock) t w.call.a0) (exit_written S w.call a e)
     ∙ ap (λ S'. record (with_event_counted S' t clock) { end = Exited (cast_signed w32 (w.call.a0 % 2 ^ 32)) }) (with_again S t Over)
@@ -131,35 +130,35 @@ kept_before (slot ∷ slots) zero new w at = at
 kept_before (slot ∷ slots) (suc t) new w at = kept_before slots t new w at
 
 -- the thread stands as it stood
-same_thread : (o : Option Kind) (S : State) (t : ℕ) (c : Call) (a : Answer) (w : Waiting) → thread_at S t ≡ Some w → thread_at (acted_on_answer o S t c a) t ≡ Some w
-same_thread o S t c a w at =
-    acted_has (λ S'. thread_at S' t ≡ Some w) o S t c a (λ k. record { locks = λ e free. at; unlocks = λ e held. at; handles = λ e h given. at; spawns = λ e f found thread starts. kept_before S.crew.threads t (waiting_at S.store.«module» thread) w at }) at at
+same_thread : (k : Kind) (S : State) (t : ℕ) (c : Call) (a : Answer) (w : Waiting) → thread_at S t ≡ Some w → thread_at (acted_on_answer k S t c a) t ≡ Some w
+same_thread k S t c a w at =
+    acted_has (λ S'. thread_at S' t ≡ Some w) k S t c a (λ k. record { locks = λ e free. at; unlocks = λ e held. at; handles = λ e h given. at; spawns = λ e f found thread starts. kept_before S.crew.threads t (waiting_at S.store.«module» thread) w at }) at at
 
-pub taken_is : (S : State) (e : Entry) (o : Option Kind) (w : Waiting) → reason S e ≡ None → thread_at (acted_on_answer o S e.thread e.call (answer_of e)) e.thread ≡ Some w → thread_at S e.thread ≡ Some w
-taken_is S e o w legal after = by_thread (thread_at S e.thread) refl
+pub taken_is : (S : State) (e : Entry) (w : Waiting) → reason S e ≡ None → thread_at (acted_on_answer e.call.kind S e.thread e.call (answer_of e)) e.thread ≡ Some w → thread_at S e.thread ≡ Some w
+taken_is S e w legal after = by_thread (thread_at S e.thread) refl
   where
     by_thread : (found : Option Waiting) → thread_at S e.thread ≡ found → thread_at S e.thread ≡ Some w
     by_thread None at = absurd (live_is S e legal at)
-    by_thread (Some found) at = at ∙ sym (same_thread o S e.thread e.call (answer_of e) found at) ∙ after
+    by_thread (Some found) at = at ∙ sym (same_thread e.call.kind S e.thread e.call (answer_of e) found at) ∙ after
 
-pub still_live : (S : State) (e : Entry) (o : Option Kind) → reason S e ≡ None → thread_at (acted_on_answer o S e.thread e.call (answer_of e)) e.thread ≡ None → ⊥
-still_live S e o legal after = by_thread (thread_at S e.thread) refl
+pub still_live : (S : State) (e : Entry) → reason S e ≡ None → thread_at (acted_on_answer e.call.kind S e.thread e.call (answer_of e)) e.thread ≡ None → ⊥
+still_live S e legal after = by_thread (thread_at S e.thread) refl
   where
     by_thread : (found : Option Waiting) → thread_at S e.thread ≡ found → ⊥
     by_thread None at = live_is S e legal at
-    by_thread (Some found) at = let there = same_thread o S e.thread e.call (answer_of e) found at in cc
+    by_thread (Some found) at = let there = same_thread e.call.kind S e.thread e.call (answer_of e) found at in cc
 
-pub acted_module : (S : State) (e : Entry) (o : Option Kind) → (acted_on_answer o S e.thread e.call (answer_of e)).store.«module» ≡ S.store.«module»
-acted_module S e o =
-    acted_has (λ S'. S'.store.«module» ≡ S.store.«module») o S e.thread e.call (answer_of e) (λ k. record { locks = λ h free. refl; unlocks = λ h held. refl; handles = λ e h given. refl; spawns = λ e f found thread starts. refl }) refl refl
+pub acted_module : (S : State) (e : Entry) → (acted_on_answer e.call.kind S e.thread e.call (answer_of e)).store.«module» ≡ S.store.«module»
+acted_module S e =
+    acted_has (λ S'. S'.store.«module» ≡ S.store.«module») e.call.kind S e.thread e.call (answer_of e) (λ k. record { locks = λ h free. refl; unlocks = λ h held. refl; handles = λ e h given. refl; spawns = λ e f found thread starts. refl }) refl refl
 
-pub acted_events : (S : State) (e : Entry) (o : Option Kind) → (acted_on_answer o S e.thread e.call (answer_of e)).events ≡ S.events
-acted_events S e o =
-    acted_has (λ S'. S'.events ≡ S.events) o S e.thread e.call (answer_of e) (λ k. record { locks = λ h free. refl; unlocks = λ h held. refl; handles = λ e h given. refl; spawns = λ e f found thread starts. refl }) refl refl
+pub acted_events : (S : State) (e : Entry) → (acted_on_answer e.call.kind S e.thread e.call (answer_of e)).events ≡ S.events
+acted_events S e =
+    acted_has (λ S'. S'.events ≡ S.events) e.call.kind S e.thread e.call (answer_of e) (λ k. record { locks = λ h free. refl; unlocks = λ h held. refl; handles = λ e h given. refl; spawns = λ e f found thread starts. refl }) refl refl
 
-pub acted_handlers : (S : State) (e : Entry) (o : Option Kind) → AreHandlers S.store.«module» S.handlers → AreHandlers S.store.«module» (acted_on_answer o S e.thread e.call (answer_of e)).handlers
-acted_handlers S e o sound =
-    acted_has (λ S'. AreHandlers S.store.«module» S'.handlers) o S e.thread e.call (answer_of e) (λ k. record {
+pub acted_handlers : (S : State) (e : Entry) → AreHandlers S.store.«module» S.handlers → AreHandlers S.store.«module» (acted_on_answer e.call.kind S e.thread e.call (answer_of e)).handlers
+acted_handlers S e sound =
+    acted_has (λ S'. AreHandlers S.store.«module» S'.handlers) e.call.kind S e.thread e.call (answer_of e) (λ k. record {
       locks = λ h free. sound;
       unlocks = λ h held. sound;
       handles = λ h set given. set_sound S.store.«module» S.handlers (narrow e.call.a0) set (λ f is. given_is S (narrow e.call.a0) (narrow e.call.a1) f (given ∙ ap Some is)) sound;
@@ -168,23 +167,21 @@ acted_handlers S e o sound =
     sound sound
 
 -- the event of a thread that calls `exit`
-pub exits : (S : State) (e : Entry) (w : Waiting) → StateFits S → reason S e ≡ None → thread_at S e.thread ≡ Some w → ends_process w.kind ≡ true
-    → awaits_event (exited_process (with_event_counted (with_thread (acted_on_answer (kind_of S e.thread) S e.thread e.call (answer_of e)) e.thread Lent) e.thread e.clock) e.thread w.call.a0) ≡ next S e
-exits S e w s legal at h =
-    ap awaits_event (ap (λ o. exited_process (with_event_counted (with_thread (acted_on_answer (option_map (λ w. w.kind) o) S e.thread e.call (answer_of e)) e.thread Lent) e.thread e.clock) e.thread w.call.a0) at
-    ∙ ap (λ call. exited_process (with_event_counted (with_thread (acted_on_answer (Some w.kind) S e.thread call (answer_of e)) e.thread Lent) e.thread e.clock) e.thread w.call.a0) (call_told S e w (legal_at S e w legal at))
-    ∙ exits_by w.kind S e.thread w (answer_of e) e.signal e.clock (fits_at S e.thread w s at).kind h)
+pub exits : (S : State) (e : Entry) (w : Waiting) → reason S e ≡ None → thread_at S e.thread ≡ Some w → ends_process w.call.kind ≡ true
+    → awaits_event (exited_process (with_event_counted (with_thread (acted_on_answer e.call.kind S e.thread e.call (answer_of e)) e.thread Lent) e.thread e.clock) e.thread w.call.a0) ≡ next S e
+exits S e w legal at h =
+    ap awaits_event (ap (λ call. exited_process (with_event_counted (with_thread (acted_on_answer call.kind S e.thread call (answer_of e)) e.thread Lent) e.thread e.clock) e.thread w.call.a0) (call_told S e w (legal_at S e w legal at))
+    ∙ exits_by w.call.kind S e.thread w (answer_of e) e.signal e.clock refl h)
     ∙ ap (next_at_thread S e) (sym at)
 
 -- the event of another
-pub goes : (S : State) (e : Entry) (w : Waiting) → StateFits S → reason S e ≡ None → thread_at S e.thread ≡ Some w → ends_process w.kind ≡ false
-    → awaits_event (goes_out w.kind (acted_on_answer (kind_of S e.thread) S e.thread e.call (answer_of e)) e.thread w.strand e.reply e.signal e.clock) ≡ next S e
-goes S e w s legal at h =
-    let effect = effects_acted w.kind S e.thread w.call (answer_of e) (fits_at S e.thread w s at).kind h in
-    ap awaits_event (ap (λ o. goes_out w.kind (acted_on_answer (option_map (λ w. w.kind) o) S e.thread e.call (answer_of e)) e.thread w.strand e.reply e.signal e.clock) at
-    ∙ ap (λ call. goes_out w.kind (acted_on_answer (Some w.kind) S e.thread call (answer_of e)) e.thread w.strand e.reply e.signal e.clock) (call_told S e w (legal_at S e w legal at))
-    ∙ ap (λ S'. goes_out w.kind S' e.thread w.strand e.reply e.signal e.clock) (sym effect)
-    ∙ runs_by w.kind (effects_of_answer w.kind S e.thread w.call (answer_of e)) e.thread w.strand e.reply e.signal e.clock h)
+pub goes : (S : State) (e : Entry) (w : Waiting) → reason S e ≡ None → thread_at S e.thread ≡ Some w → ends_process w.call.kind ≡ false
+    → awaits_event (goes_out w.call.kind (acted_on_answer e.call.kind S e.thread e.call (answer_of e)) e.thread w.strand e.reply e.signal e.clock) ≡ next S e
+goes S e w legal at h =
+    let effect = effects_acted w.call.kind S e.thread w.call (answer_of e) refl h in
+    ap awaits_event (ap (λ call. goes_out w.call.kind (acted_on_answer call.kind S e.thread call (answer_of e)) e.thread w.strand e.reply e.signal e.clock) (call_told S e w (legal_at S e w legal at))
+    ∙ ap (λ S'. goes_out w.call.kind S' e.thread w.strand e.reply e.signal e.clock) (sym effect)
+    ∙ runs_by w.call.kind (effects_of_answer w.call.kind S e.thread w.call (answer_of e)) e.thread w.strand e.reply e.signal e.clock h)
     ∙ ap (next_at_thread S e) (sym at)
 
 -- ---- the body after a legal entry's event is that of a process

@@ -71,7 +71,7 @@ event_events false S t thread o = runs_events S t thread o
 counts_at : (S : State) (e : Entry) (o : Option Waiting) → reason_at S e o ≡ None → (next_at_thread S e o).events ≡ S.events + 1
 counts_at S e None h = cc
 counts_at S e (Some w) h =
-    let k = w.kind in
+    let k = w.call.kind in
     let S' = effects_of_answer k S e.thread w.call (answer_of e) in
     let strand = answered_strand w.strand (reply_value k e.reply) in
     event_events (ends_process k) (with_event_counted S' e.thread e.clock) e.thread strand.thread (with_handler_frame S'.store.«module» strand e.signal (handler S'.handlers e.signal))

@@ -2,10 +2,8 @@
 use Rattle.std.proofs.Common.{◌≡◌, ◌≤◌, ℕ, ◌+◌, Bool, true, false, cond, List, [], ◌∷◌, length, Option, Some, None, refl, sym, subst, ◌∙◌, arith}
 use Rattle.std.specs.Prelude.{◌==◌, map}
 use Rattle.std.specs.Int.{w32, to_le_bytes}
-use Rattle.std.specs.Option.{option_map_or}
 use Rattle.std.proofs.lemmas.List.{length-map}
 use Rattle.std.proofs.lemmas.Option.{same_Some}
-use Rattle.call_table.specs.Table.{kind_numbered}
 use Rattle.call_table.specs.declared.kind.Kind.{Kind}
 use Rattle.call_table.specs.declared.kind.Kind.TheVariants.{Random, Recv, TryRecv}
 use Rattle.guest_memory.specs.Laws.{FreshIsUnstamped, NoLaterWhenWritten, StampsNoLater}
@@ -112,12 +110,11 @@ module _ (laws : MarkLaws) where
 
   written_marks : (c : Call) (a : Answer) (g : Store) → MarkedStore g (record g { memory = memory_with c a g.memory })
   unfolding memory_with
-  written_marks c a g = by_test (is_good c g.memory) (kind_numbered c.kind)
+  written_marks c a g = by_test (is_good c g.memory)
     where
-      by_test : (b : Bool) (o : Option Kind) → MarkedStore g (record g { memory = cond b (option_map_or (λ kind. put_in_memory kind c a g.memory) o g.memory) g.memory })
-      by_test true None = laws.nothing g
-      by_test true (Some k) = put_marks k c a g
-      by_test false o = laws.nothing g
+      by_test : (b : Bool) → MarkedStore g (record g { memory = cond b (put_in_memory c.kind c a g.memory) g.memory })
+      by_test true = put_marks c.kind c a g
+      by_test false = laws.nothing g
 
   effects_marks : (k : Kind) (S : State) (t : ℕ) (c : Call) (a : Answer) → MarkedStore S.store (effects_of_answer k S t c a).store
   effects_marks k S t c a =
@@ -150,13 +147,13 @@ module _ (laws : MarkLaws) where
   event_marks false S t thread o = runs_marks S t thread o
 
   -- an event of a thread that stands so, as far as the number of the next
-  ran_marks : (S : State) (e : Entry) (w : Waiting) → MarkedStore S.store (thread_runs_on w.kind (effects_of_answer w.kind S e.thread w.call (answer_of e)) e.thread w.strand e.reply e.signal e.clock).store
+  ran_marks : (S : State) (e : Entry) (w : Waiting) → MarkedStore S.store (thread_runs_on w.call.kind (effects_of_answer w.call.kind S e.thread w.call (answer_of e)) e.thread w.strand e.reply e.signal e.clock).store
   ran_marks S e w =
-      let after = effects_of_answer w.kind S e.thread w.call (answer_of e) in
-      let ran = thread_runs_on w.kind after e.thread w.strand e.reply e.signal e.clock in
-      let strand = answered_strand w.strand (reply_value w.kind e.reply) in
+      let after = effects_of_answer w.call.kind S e.thread w.call (answer_of e) in
+      let ran = thread_runs_on w.call.kind after e.thread w.strand e.reply e.signal e.clock in
+      let strand = answered_strand w.strand (reply_value w.call.kind e.reply) in
       let above = with_handler_frame after.store.«module» strand e.signal (handler after.handlers e.signal) in
-      laws.follow S.store after.store ran.store (effects_marks w.kind S e.thread w.call (answer_of e)) (event_marks (ends_process w.kind) (with_event_counted after e.thread e.clock) e.thread strand.thread above)
+      laws.follow S.store after.store ran.store (effects_marks w.call.kind S e.thread w.call (answer_of e)) (event_marks (ends_process w.call.kind) (with_event_counted after e.thread e.clock) e.thread strand.thread above)
 
   more_within : (ss : List ℕ) (n m : ℕ) → n ≤ m → AreWithin n ss → AreWithin m ss
   more_within [] n m le w = tt
@@ -174,7 +171,7 @@ module _ (laws : MarkLaws) where
   pub next_within : (S : State) (e : Entry) (w : Waiting) → StateFits S → (next_at_thread S e (Some w)).events ≡ S.events + 1
       → MarksWithin (next_at_thread S e (Some w)).events (next_at_thread S e (Some w)).store
   next_within S e w s events =
-      let ran = thread_runs_on w.kind (effects_of_answer w.kind S e.thread w.call (answer_of e)) e.thread w.strand e.reply e.signal e.clock in
+      let ran = thread_runs_on w.call.kind (effects_of_answer w.call.kind S e.thread w.call (answer_of e)) e.thread w.strand e.reply e.signal e.clock in
       let here : MarksWithin S.events S.store = record { stamps = s.stamps; global_stamps = s.global_stamps; size_stamp = s.size_stamp; even = s.even } in
       let before = subst (λ n. MarksWithin n S.store) (sym s.number) (more S.store S.events (S.events + 1) (omega arith) here) in
       let after = subst (λ n. MarksWithin n ran.store) (s.number ∙ sym events) ((ran_marks S e w).later.within before) in
@@ -196,7 +193,7 @@ module _ (laws : MarkLaws) where
   told_at : (S : State) (e : Entry) (o : Option Waiting) → StoreMarksTell S.store.memory.number S.store (next_at_thread S e o).store
   told_at S e None = (laws.nothing S.store).told
   told_at S e (Some w) =
-      let ran = thread_runs_on w.kind (effects_of_answer w.kind S e.thread w.call (answer_of e)) e.thread w.strand e.reply e.signal e.clock in
+      let ran = thread_runs_on w.call.kind (effects_of_answer w.call.kind S e.thread w.call (answer_of e)) e.thread w.strand e.reply e.signal e.clock in
       renumbered S.store.memory.number (ran.events + 1) S.store ran.store (ran_marks S e w).told
 
   pub unmarked : UnmarkedStays

@@ -1,16 +1,12 @@
 -- A legal event keeps the ranges of a state.
-use Rattle.std.proofs.Common.{◌≡◌, ℕ, ◌≤◌, ◌^◌, ◌%◌, Bool, true, false, cond, Option, Some, None, refl, sym, ap, subst, arith}
-use Rattle.std.specs.Option.{option_map_or}
+use Rattle.std.proofs.Common.{◌≡◌, ℕ, ◌≤◌, ◌^◌, ◌%◌, Bool, true, false, cond, Option, Some, None, refl, arith}
 use Rattle.std.specs.Prelude.{nat_lt}
 use Rattle.std.proofs.lemmas.Bool.{eqb-true}
-use Rattle.call_table.specs.Numbers.{numbered}
 use Rattle.call_table.specs.Table.{row}
 use Rattle.call_table.specs.declared.kind.Kind.{Kind}
-use Rattle.call_table.specs.declared.kind.Kind.TheVariants.{Begin}
 use Rattle.lamport_tag.specs.Tag.{clock_of, next_clock_of}
 use Rattle.lib_calls.specs.Answer.{answer_of}
 use Rattle.lib_calls.specs.Entry.{IsNumberIf}
-use Rattle.lib_calls.specs.Kinds.{argument_count}
 use Rattle.lib_calls.specs.declared.entry.Entry.{Entry}
 use Rattle.wasm_types.specs.Library.{kind_at}
 use Rattle.wasm_types.specs.Modules.{Module}
@@ -35,14 +31,8 @@ argument_fits : (b : Bool) (bits : ℕ) → IsNumberIf b (cond b (bits % 2 ^ 64)
 argument_fits true bits = omega arith
 argument_fits false bits = refl
 
--- what the table says of a kind, it says of its number
-counted : (kind : Kind) → argument_count (row kind).number ≡ (row kind).signature.params
-unfolding argument_count
-counted kind = ap (λ (o : Option Kind). option_map_or (λ (kind : Kind). (row kind).signature.params) o 0) (numbered kind)
-
 pub stand_fits : (m : Module) (S : State) (thread : Thread) (site : CallSite) (kind : Kind) → S.store.«module» ≡ m → kind_at m site.func ≡ Some kind → WaitingFits (stands S thread site kind)
 stand_fits m S thread site kind e h = record {
-  kind = numbered kind;
   arguments = record {
     first = fits 0 site.a0;
     second = fits 1 site.a1;
@@ -50,20 +40,15 @@ stand_fits m S thread site kind e h = record {
   };
 }
   where
-    fits : (n bits : ℕ) → IsNumberIf (nat_lt n (argument_count (row kind).number)) (argument kind n bits)
-    fits n bits =
-        subst (λ count. IsNumberIf (nat_lt n count) (argument kind n bits)) (sym (counted kind)) (argument_fits (nat_lt n (row kind).signature.params) bits)
-
-zero_fits : (b : Bool) → IsNumberIf b 0
-zero_fits true = omega arith
-zero_fits false = refl
+    fits : (n bits : ℕ) → IsNumberIf (nat_lt n (row kind).signature.params) (argument kind n bits)
+    fits n bits = argument_fits (nat_lt n (row kind).signature.params) bits
 
 pub begin_fits : (m : Module) (thread : Thread) → WaitingFits (waiting_at m thread)
-begin_fits m thread = record { kind = numbered Begin; arguments = record { first = zero_fits _; second = zero_fits _; third = zero_fits _ } }
+begin_fits m thread = record { arguments = record { first = refl; second = refl; third = refl } }
 
 -- what an event of a thread that stands so changes
 event_keeps : KeepsModule → (S : State) (e : Entry) → StateFits S → (w : Waiting) → Affects WaitingFits (counted_at S e.thread e.clock) (next_at_thread S e (Some w))
-event_keeps keeps S e s w = event_affects WaitingFits keeps w.kind S e.thread w.call (answer_of e) w e.signal e.clock s.threads (begin_fits S.store.«module») (stand_fits S.store.«module»)
+event_keeps keeps S e s w = event_affects WaitingFits keeps w.call.kind S e.thread w.call (answer_of e) w e.signal e.clock s.threads (begin_fits S.store.«module») (stand_fits S.store.«module»)
 
 -- its clock is the next one, and no tag bears one past 2 ^ 62
 record NextClock (S : State) (e : Entry) : Type 0 where
@@ -74,7 +59,7 @@ next_clock : (S : State) (e : Entry) (w : Waiting) → reason_at S e (Some w) �
 next_clock S e w h =
     let holds = all_hold (entry_checks S e w) h in
     record {
-      tag = answer_clock w.kind S w.call (need w.kind S e.thread w.call) (answer_of e) holds.reply;
+      tag = answer_clock w.call.kind S w.call (need w.call.kind S e.thread w.call) (answer_of e) holds.reply;
       clock = eqb-true e.clock (next_clock_of S.clock e.tag) holds.clock;
     }
 

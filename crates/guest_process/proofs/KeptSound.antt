@@ -107,7 +107,7 @@ handlers_sound k S t c a sound =
 sound_at : KeepsModule → (S : State) (e : Entry) → IsSoundProcess S → (o : Option Waiting) → reason_at S e o ≡ None → IsSoundProcess (next_at_thread S e o)
 sound_at keeps S e s None h = cc
 sound_at keeps S e s (Some w) h =
-    let k = w.kind in
+    let k = w.call.kind in
     let m = S.store.«module» in
     let a = answer_of e in
     let S' = effects_of_answer k S e.thread w.call a in
@@ -129,7 +129,7 @@ sound_kept keeps S e s h = sound_at keeps S e s (thread_at S e.thread) (unless_n
 module_at : KeepsModule → (S : State) (e : Entry) → IsSoundProcess S → (o : Option Waiting) → (next_at_thread S e o).store.«module» ≡ S.store.«module»
 module_at keeps S e s None = refl
 module_at keeps S e s (Some w) =
-    (event_affects (IsStandingAtCall S.store.«module») keeps w.kind S e.thread w.call (answer_of e) w e.signal e.clock s.threads (begin_stands S.store.«module») (stand_sound S.store.«module» s.imports)).«module»
+    (event_affects (IsStandingAtCall S.store.«module») keeps w.call.kind S e.thread w.call (answer_of e) w e.signal e.clock s.threads (begin_stands S.store.«module») (stand_sound S.store.«module» s.imports)).«module»
 
 -- an event leaves the module as it is
 pub next_module : KeepsModule → (S : State) (e : Entry) → IsSoundProcess S → (next S e).store.«module» ≡ S.store.«module»

@@ -1,7 +1,11 @@
 -- What is known of a legal entry.
-use Rattle.std.proofs.Common.{◌≡◌, ℕ, true, None, Some, Option, refl, ap, ◌∙◌, subst}
+use Rattle.std.proofs.Common.{◌≡◌, ℕ, true, None, Some, Option, refl, ap, sym, ◌∙◌, subst}
 use Rattle.std.specs.Prelude.{◌==◌}
 use Rattle.std.proofs.lemmas.Bool.{and_parts, eqb-true}
+use Rattle.std.proofs.lemmas.Option.{same_Some}
+use Rattle.call_table.specs.Numbers.{numbered}
+use Rattle.call_table.specs.Table.{kind_numbered, row}
+use Rattle.call_table.specs.declared.kind.Kind.{Kind}
 use Rattle.lib_calls.specs.declared.entry.Call.{Call}
 use Rattle.lib_calls.specs.declared.entry.Entry.{Entry}
 use Rattle.lib_calls.specs.Answer.{answer_of}
@@ -12,6 +16,10 @@ use Rattle.guest_process.specs.Legal.{entry_checks, reason, reason_at}
 use Rattle.guest_process.specs.State.{State, is_running, thread_at}
 use Rattle.guest_process.proofs.FirstFailure.{Hold, all_hold, unless_none}
 use Rattle.guest_process.proofs.AnswerWrites.{legal_answer}
+
+-- kinds with one number are one
+same_kind : (j k : Kind) → (row j).number ≡ (row k).number → j ≡ k
+same_kind j k same = same_Some j k (sym (numbered j) ∙ ap kind_numbered same ∙ numbered k)
 
 same_call : (c d : Call) → c.kind ≡ d.kind → c.a0 ≡ d.a0 → c.a1 ≡ d.a1 → c.a2 ≡ d.a2 → c ≡ d
 same_call c d kind a0 a1 a2 =
@@ -25,7 +33,7 @@ pub call_told : (S : State) (e : Entry) (w : Waiting) → Hold (entry_checks S e
 call_told S e w holds =
     let rest = and_parts (e.call.a0 == w.call.a0) _ holds.arguments in
     let last = and_parts (e.call.a1 == w.call.a1) (e.call.a2 == w.call.a2) rest.1 in
-    same_call e.call w.call (eqb-true _ _ holds.call) (eqb-true _ _ rest.0) (eqb-true _ _ last.0) (eqb-true _ _ last.1)
+    same_call e.call w.call (same_kind e.call.kind w.call.kind (eqb-true _ _ holds.call)) (eqb-true _ _ rest.0) (eqb-true _ _ last.0) (eqb-true _ _ last.1)
 
 -- all is as it has to be with the thread that stands there
 pub legal_at : (S : State) (e : Entry) (w : Waiting) → reason S e ≡ None → thread_at S e.thread ≡ Some w → Hold (entry_checks S e w)
@@ -42,6 +50,5 @@ is_answer_of S e s h = by_thread (thread_at S e.thread) refl (unless_none (is_ru
     by_thread None at r = cc
     by_thread (Some w) at r =
         let holds = all_hold (entry_checks S e w) r in
-        let fits = fits_at S e.thread w s at in
-        let answer = legal_answer w.kind S e.thread w.call (answer_of e) fits.kind holds.reply in
+        let answer = legal_answer w.call.kind S e.thread w.call (answer_of e) refl holds.reply in
         ap (λ call. is_answer call (answer_of e) S.store.memory) (call_told S e w holds) ∙ answer

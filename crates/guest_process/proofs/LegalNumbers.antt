@@ -4,7 +4,6 @@ use Rattle.std.specs.Prelude.{◌==◌, nat_le, is_some, slice_get, option_and_t
 use Rattle.std.proofs.lemmas.Bool.{and_parts, or_cases, eqb-true, leb-true}
 use Rattle.std.proofs.lemmas.Option.{same_Some}
 use Rattle.std.proofs.lemmas.Slice.Eq.{bytes_eq-Decides}
-use Rattle.call_table.specs.Table.{kind_numbered}
 use Rattle.call_table.specs.declared.kind.Kind.{Kind}
 use Rattle.call_table.specs.declared.kind.Kind.TheVariants.{Now, SleepUntil, Random, Recv, TryRecv}
 use Rattle.coop_threads.specs.Crew.{value_of}
@@ -27,7 +26,7 @@ use Rattle.guest_process.specs.Numbers.{HasLegalNumbers, LegalNumbers}
 use Rattle.guest_process.specs.State.{State, is_running, thread_at}
 use Rattle.guest_process.proofs.EachKind.{drawn_tag, plain_tag}
 use Rattle.guest_process.proofs.FirstFailure.{all_hold, unless_none}
-use Rattle.guest_process.proofs.LegalEntries.{call_told, fits_at}
+use Rattle.guest_process.proofs.LegalEntries.{call_told}
 use Rattle.guest_process.proofs.Outgoing.{outgoing_short}
 use Rattle.guest_process.proofs.AnswerWrites.{not_minus_one, not_minus_two, random_short, recv_short, try_recv_short}
 
@@ -53,8 +52,8 @@ handled_low k handlers signal h = elim (or_cases (signal == 0) (not (ends_proces
 record HasBrought (S : State) (k : Kind) (e : Entry) : Type 0 where
   incoming : length e.incoming ≤ 60000
   sent : (tag : Tag) → e.tag ≡ Some tag → is_sendable S.count tag ≡ true
-  tagged : (tag : Tag) → e.tag ≡ Some tag → takes_as (Some k) e ≡ true
-  counted : takes_as (Some k) e ≡ true → e.reply ≡ length e.incoming
+  tagged : (tag : Tag) → e.tag ≡ Some tag → takes_as k e ≡ true
+  counted : takes_as k e ≡ true → e.reply ≡ length e.incoming
 
 nothing_short : (tag : Option Tag) (incoming : List ℕ) → brings_nothing tag incoming ≡ true → length incoming ≤ 60000
 nothing_short None [] h = omega arith
@@ -62,7 +61,7 @@ nothing_short None (_ ∷ _) h = cc
 nothing_short (Some tag) incoming h = cc
 
 -- bytes without a tag, and no datagram that was taken
-untagged : (S : State) (k : Kind) (e : Entry) → length e.incoming ≤ 60000 → e.tag ≡ None → takes_as (Some k) e ≡ false → HasBrought S k e
+untagged : (S : State) (k : Kind) (e : Entry) → length e.incoming ≤ 60000 → e.tag ≡ None → takes_as k e ≡ false → HasBrought S k e
 untagged S k e short none other = record {
   incoming = short;
   sent = λ tag h. cc;
@@ -70,7 +69,7 @@ untagged S k e short none other = record {
   counted = λ h. cc;
 }
 
-nothing : (S : State) (k : Kind) (e : Entry) → brings_nothing e.tag e.incoming ≡ true → takes_as (Some k) e ≡ false → HasBrought S k e
+nothing : (S : State) (k : Kind) (e : Entry) → brings_nothing e.tag e.incoming ≡ true → takes_as k e ≡ false → HasBrought S k e
 nothing S k e h other = untagged S k e (nothing_short e.tag e.incoming h) (plain_tag e.tag e.incoming h) other
 
 -- a tag that is with a payload is one that can have been sent
@@ -88,7 +87,7 @@ counted_by c e h =
     let parts = and_parts (e.reply == length e.incoming) (nat_le (length e.incoming) c.a1) h in
     record { reply = eqb-true e.reply (length e.incoming) parts.0; short = leb-true (length e.incoming) c.a1 parts.1 }
 
-datagram : (S : State) (k : Kind) (c : Call) (e : Entry) → c.a1 ≤ 60000 → (e.reply ≤ 60000 → takes_as (Some k) e ≡ true) → takes_datagram S.count c (answer_of e) ≡ true → HasBrought S k e
+datagram : (S : State) (k : Kind) (c : Call) (e : Entry) → c.a1 ≤ 60000 → (e.reply ≤ 60000 → takes_as k e ≡ true) → takes_datagram S.count c (answer_of e) ≡ true → HasBrought S k e
 datagram S k c e room taken h =
     let parts = and_parts (takes_counted c (answer_of e)) (is_payload S.count e.tag e.incoming) h in
     let count = counted_by c e parts.0 in
@@ -122,7 +121,7 @@ asked_cases S c a possible h = by_test (is_good c S.store.memory) h
         let parts = and_parts (a.reply == minus_one) (brings_nothing a.tag a.incoming) h in
         inr (record { reply = eqb-true a.reply minus_one parts.0; plain = parts.1 })
 
-random_brought : (S : State) (c : Call) (e : Entry) → kind_numbered c.kind ≡ Some Random → need_gives_answer (need_of_world S c) (answer_of e) (is_drawn c (answer_of e)) ≡ true → HasBrought S Random e
+random_brought : (S : State) (c : Call) (e : Entry) → c.kind ≡ Random → need_gives_answer (need_of_world S c) (answer_of e) (is_drawn c (answer_of e)) ≡ true → HasBrought S Random e
 random_brought S c e is h = elim (asked_cases S c (answer_of e) (is_drawn c (answer_of e)) h) [
   | inl good ↦
       let parts = and_parts (e.reply == c.a1) (length e.incoming == c.a1 && not (is_some e.tag)) good.1 in
@@ -131,16 +130,16 @@ random_brought S c e is h = elim (asked_cases S c (answer_of e) (is_drawn c (ans
   | inr bad ↦ nothing S Random e bad.plain refl
 ]
 
-recv_brought : (S : State) (c : Call) (e : Entry) → kind_numbered c.kind ≡ Some Recv → need_gives_answer (need_of_world S c) (answer_of e) (takes_datagram S.count c (answer_of e)) ≡ true → HasBrought S Recv e
+recv_brought : (S : State) (c : Call) (e : Entry) → c.kind ≡ Recv → need_gives_answer (need_of_world S c) (answer_of e) (takes_datagram S.count c (answer_of e)) ≡ true → HasBrought S Recv e
 recv_brought S c e is h = elim (asked_cases S c (answer_of e) (takes_datagram S.count c (answer_of e)) h) [
   | inl good ↦ datagram S Recv c e (recv_short S c is good.0) (not_minus_one e.reply) good.1
   | inr bad ↦ nothing S Recv e bad.plain (ap (λ reply. not (reply == minus_one)) bad.reply)
 ]
 
-try_taken : (e : Entry) → e.reply ≤ 60000 → takes_as (Some TryRecv) e ≡ true
+try_taken : (e : Entry) → e.reply ≤ 60000 → takes_as TryRecv e ≡ true
 try_taken e low = rw (not_minus_one e.reply low, not_minus_two e.reply low) refl
 
-try_recv_brought : (S : State) (c : Call) (e : Entry) → kind_numbered c.kind ≡ Some TryRecv → need_gives_answer (need_of_world S c) (answer_of e) (takes_datagram S.count c (answer_of e) || is_empty (answer_of e)) ≡ true → HasBrought S TryRecv e
+try_recv_brought : (S : State) (c : Call) (e : Entry) → c.kind ≡ TryRecv → need_gives_answer (need_of_world S c) (answer_of e) (takes_datagram S.count c (answer_of e) || is_empty (answer_of e)) ≡ true → HasBrought S TryRecv e
 try_recv_brought S c e is h = elim (asked_cases S c (answer_of e) (takes_datagram S.count c (answer_of e) || is_empty (answer_of e)) h) [
   | inl good ↦ elim (or_cases (takes_datagram S.count c (answer_of e)) (is_empty (answer_of e)) good.1) [
     | inl taken ↦ datagram S TryRecv c e (try_recv_short S c is good.0) (try_taken e) taken
@@ -151,7 +150,7 @@ try_recv_brought S c e is h = elim (asked_cases S c (answer_of e) (takes_datagra
   | inr bad ↦ nothing S TryRecv e bad.plain (ap (λ reply. not (reply == minus_one) && not (reply == minus_two)) bad.reply)
 ]
 
-brought : (k : Kind) (S : State) (t : ℕ) (c : Call) (e : Entry) → kind_numbered c.kind ≡ Some k → need_gives_answer (need k S t c) (answer_of e) (is_possible k S c (answer_of e)) ≡ true → HasBrought S k e
+brought : (k : Kind) (S : State) (t : ℕ) (c : Call) (e : Entry) → c.kind ≡ k → need_gives_answer (need k S t c) (answer_of e) (is_possible k S c (answer_of e)) ≡ true → HasBrought S k e
 brought Random S t c e is h = random_brought S c e is h
 brought Recv S t c e is h = recv_brought S c e is h
 brought TryRecv S t c e is h = try_recv_brought S c e is h
@@ -163,21 +162,20 @@ brought k S t c e is h = nothing S k e (plain_need (need k S t c) (answer_of e) 
 
 -- ---- all of it
 
-taken_is : (k : Kind) (e : Entry) → kind_numbered e.call.kind ≡ Some k → is_taken e ≡ takes_as (Some k) e
+taken_is : (k : Kind) (e : Entry) → e.call.kind ≡ k → is_taken e ≡ takes_as k e
 unfolding is_taken
 taken_is k e is = ap (λ o. takes_as o e) is
 
 numbers_at : (S : State) (e : Entry) → StateFits S → (w : Waiting) → thread_at S e.thread ≡ Some w → reason_at S e (Some w) ≡ None → HasLegalNumbers S e
 numbers_at S e s w at h =
     let holds = all_hold (entry_checks S e w) h in
-    let fits = fits_at S e.thread w s at in
     let out = outgoing_of w.call S.store.memory in
     let sent : e.outgoing ≡ out = (bytes_eq-Decides e.outgoing out).0 holds.bytes in
-    let brings = brought w.kind S e.thread w.call e fits.kind holds.reply in
-    let taken = taken_is w.kind e (ap (λ (call : Call). kind_numbered call.kind) (call_told S e w holds) ∙ fits.kind) in
+    let brings = brought w.call.kind S e.thread w.call e refl holds.reply in
+    let taken = taken_is w.call.kind e (ap (λ (call : Call). call.kind) (call_told S e w holds)) in
     record {
       thread = omega (arith, live_made S.crew.threads e.thread w at, s.room);
-      signal = handled_low w.kind (effects_of_answer w.kind S e.thread w.call (answer_of e)).handlers e.signal holds.handler;
+      signal = handled_low w.call.kind (effects_of_answer w.call.kind S e.thread w.call (answer_of e)).handlers e.signal holds.handler;
       outgoing = omega (arith, ap length sent, outgoing_short w.call S.store.memory);
       incoming = brings.incoming;
       clock = eqb-true e.clock (next_clock_of S.clock e.tag) holds.clock;

@@ -1,21 +1,17 @@
 -- A recorded event agrees with its replay.
-use Rattle.std.proofs.Common.{◌≡◌, ℕ, zero, suc, ◌+◌, ◌<◌, ◌≤◌, ◌^◌, Bool, true, false, ◌&&◌, ◌||◌, not, cond, List, [], ◌∷◌, length, Option, Some, None, refl, ap, sym, subst, arith, inl, inr, ⊎_elim}
+use Rattle.std.proofs.Common.{◌≡◌, ℕ, zero, suc, ◌+◌, ◌<◌, ◌≤◌, ◌^◌, Bool, true, false, ◌&&◌, ◌||◌, not, cond, List, [], ◌∷◌, length, Option, Some, None, refl, ap, subst, arith, inl, inr, ⊎_elim}
 use Rattle.std.specs.Prelude.{◌==◌, nat_le, is_some, slice_get, option_and_then}
-use Rattle.std.specs.Option.{option_map_or}
 use Rattle.std.proofs.lemmas.Bool.{and_parts, and_from, or_right, le-leb as le-leb', eqb-true, leb-true, or_cases}
 use Rattle.std.proofs.lemmas.Option.{same_Some}
 use Rattle.std.proofs.lemmas.Slice.Eq.{bytes_eq-Decides}
-use Rattle.call_table.specs.Numbers.{number_within}
-use Rattle.call_table.specs.Table.{kind_numbered, row}
+use Rattle.call_table.specs.Table.{row}
 use Rattle.coop_threads.specs.Crew.{most_threads, value_of}
 use Rattle.coop_threads.specs.declared.slot.Slot.{Slot}
-use Rattle.lamport_tag.specs.declared.Tag.{Tag}
 use Rattle.lamport_tag.specs.Laws.{IsFromGroup, StaysUntagged}
 use Rattle.lamport_tag.specs.Tag.{clock_of, next_clock_of}
 use Rattle.lib_calls.specs.declared.entry.Call.{Call}
 use Rattle.lib_calls.specs.Effects.{outgoing_of}
 use Rattle.lib_calls.specs.Entry.{IsStringIf, IsTagIf}
-use Rattle.lib_calls.specs.Kinds.{has_incoming, has_tag}
 use Rattle.call_table.specs.declared.kind.Kind.{Kind}
 use Rattle.signal_points.specs.Signals.{most_signal}
 use Rattle.guest_process.specs.declared.waiting.Waiting.{Waiting}
@@ -46,7 +42,7 @@ record Answers (k : Kind) (S : State) (c : Call) (n : Need) (a : AnsweredCall) :
   pub tag : IsTagIf (row k).entry.tag a.answer.tag
   pub clock : clock_of a.answer.tag ≤ 2 ^ 62
 
-answered_holds : StaysUntagged → IsFromGroup → (k : Kind) (S : State) (t : ℕ) (c : Call) (env : Env) → S.count ≤ 16 → EnvFits env → kind_numbered c.kind ≡ Some k → (n : Need) → need k S t c ≡ n → ReplyFits n → (a : AnsweredCall) → answered_now n (from_world k S c env) ≡ Some a → Answers k S c n a
+answered_holds : StaysUntagged → IsFromGroup → (k : Kind) (S : State) (t : ℕ) (c : Call) (env : Env) → S.count ≤ 16 → EnvFits env → c.kind ≡ k → (n : Need) → need k S t c ≡ n → ReplyFits n → (a : AnsweredCall) → answered_now n (from_world k S c env) ≡ Some a → Answers k S c n a
 answered_holds stays sent k S t c env few e is (Fixed r S') need_is fits a h =
     subst (Answers k S c (Fixed r S')) (same_Some _ _ h) (record {
       possible = and_from _ _ (same r) refl;
@@ -85,37 +81,25 @@ chosen_low : (p : ℕ → Bool) (b : Bool) → cond b 0 (lowest_signal p most_si
 chosen_low p true = omega arith
 chosen_low p false = elim (lowest_holds p most_signal 1) [ inl h ↦ omega arith | inr h ↦ omega (arith, h.1) ]
 
--- what the table says of a kind, it says of its number
-incoming_fits : (number : ℕ) (k : Kind) (bytes : List ℕ) → kind_numbered number ≡ Some k → IsStringIf (row k).entry.incoming bytes → IsStringIf (has_incoming number) bytes
-unfolding has_incoming
-incoming_fits number k bytes e h =
-    subst (λ (o : Option Kind). IsStringIf (option_map_or (λ kind. (row kind).entry.incoming) o false) bytes) (sym e) h
-
-tag_fits : (number : ℕ) (k : Kind) (tag : Option Tag) → kind_numbered number ≡ Some k → IsTagIf (row k).entry.tag tag → IsTagIf (has_tag number) tag
-unfolding has_tag
-tag_fits number k tag e h =
-    subst (λ (o : Option Kind). IsTagIf (option_map_or (λ kind. (row kind).entry.tag) o false) tag) (sym e) h
-
-event_agrees : (S : State) (t : ℕ) (w : Waiting) (env : Env) → StateFits S → S.events < 2 ^ 61 → is_running S ≡ true → thread_at S t ≡ Some w → WaitingFits w → (a : AnsweredCall) → Answers w.kind S w.call (need w.kind S t w.call) a → AgreesWithEvent S (event S t env w a)
+event_agrees : (S : State) (t : ℕ) (w : Waiting) (env : Env) → StateFits S → S.events < 2 ^ 61 → is_running S ≡ true → thread_at S t ≡ Some w → WaitingFits w → (a : AnsweredCall) → Answers w.call.kind S w.call (need w.call.kind S t w.call) a → AgreesWithEvent S (event S t env w a)
 event_agrees S t w env s few running stands fits a m =
-    let k = w.kind in
+    let k = w.call.kind in
     let now = event S t env w a in
     let effect : effects_of_answer k S t w.call a.answer ≡ a.after = m.same in
     let handled : is_handled k (effects_of_answer k S t w.call a.answer).handlers now.entry.signal ≡ true = rw effect (chosen_handled k a.after.handlers env.pending) in
     record {
       shape = record {
-        kind = number_within w.call.kind w.kind fits.kind;
         clock = omega (arith, s.clock, m.clock);
         thread = omega (arith, live_low S.crew.threads t w stands, s.room);
         signal = chosen_low _ (ends_process k);
         arguments = fits.arguments;
         reply = m.reply;
         outgoing = outgoing_fits w.call S.store.memory;
-        incoming = incoming_fits w.call.kind k _ fits.kind m.incoming;
-        tag = tag_fits w.call.kind k _ fits.kind m.tag;
+        incoming = m.incoming;
+        tag = m.tag;
       };
       legal = rw (running, stands) (none_failing (entry_checks S now.entry w) (record {
-        call = same w.call.kind;
+        call = same (row w.call.kind).number;
         arguments = and_from _ _ (same w.call.a0) (and_from _ _ (same w.call.a1) (same w.call.a2));
         bytes = (bytes_eq-Decides (outgoing_of w.call S.store.memory) (outgoing_of w.call S.store.memory)).1 refl;
         reply = m.possible;
@@ -141,10 +125,10 @@ chosen_pending : (p q : ℕ → Bool) (b : Bool) → 1 ≤ cond b 0 (lowest_sign
 chosen_pending p q true some = absurd (omega arith)
 chosen_pending p q false some = elim (lowest_holds (λ r. q r && p r) most_signal 1) [ inl none ↦ absurd (omega arith) | inr h ↦ (and_parts _ _ h.0).0 ]
 
-event_lowest : (S : State) (t : ℕ) (w : Waiting) (env : Env) → is_running S ≡ true → thread_at S t ≡ Some w → (a : AnsweredCall) → effects_of_answer w.kind S t w.call a.answer ≡ a.after
+event_lowest : (S : State) (t : ℕ) (w : Waiting) (env : Env) → is_running S ≡ true → thread_at S t ≡ Some w → (a : AnsweredCall) → effects_of_answer w.call.kind S t w.call a.answer ≡ a.after
     → BearsLowest S env (event S t env w a).entry
 event_lowest S t w env running stands a effect =
-    let k = w.kind in
+    let k = w.call.kind in
     let e = (event S t env w a).entry in
     let handled : ℕ → Bool = λ s. is_some (handler a.after.handlers s) in record {
       pending = chosen_pending handled env.pending (ends_process k);
@@ -164,12 +148,12 @@ IsSaid S env e = AgreesWithEvent S e × BearsLowest S env e.entry
 one_at : StaysUntagged → IsFromGroup → (S : State) (t : ℕ) (env : Env) → StateFits S → S.events < 2 ^ 61 → EnvFits env → is_running S ≡ true → (o : Option Waiting) → thread_at S t ≡ o → (e : Event) → event_of_waiting S t env o ≡ Some e → IsSaid S env e
 one_at stays sent S t env s few f running None stands e h = cc
 one_at stays sent S t env s few f running (Some w) stands e h =
-    let k = w.kind in
+    let k = w.call.kind in
     let m = mapped (event S t env w) (answered_now (need k S t w.call) (from_world k S w.call env)) e h in
     let fits : WaitingFits w = live_has WaitingFits S.crew.threads t s.threads w stands in
     let low : t < most_threads = omega (arith, live_low S.crew.threads t w stands, s.room) in
     let n = need k S t w.call in
-    let holds = answered_holds stays sent k S t w.call env s.count f fits.kind n refl (reply_fits k S t w.call s low fits.arguments) m.0 m.1 in
+    let holds = answered_holds stays sent k S t w.call env s.count f refl n refl (reply_fits k S t w.call s low fits.arguments) m.0 m.1 in
     subst (IsSaid S env) m.2 (event_agrees S t w env s few running stands fits m.0 holds, event_lowest S t w env running stands m.0 holds.same)
 
 said : StaysUntagged → IsFromGroup → (S : State) (t : ℕ) (env : Env) → StateFits S → S.events < 2 ^ 61 → EnvFits env → (e : Event) → live S t env ≡ Some e → IsSaid S env e

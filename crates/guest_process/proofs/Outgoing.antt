@@ -1,17 +1,15 @@
 -- The bytes that a call sends out are few, and such as an entry of its kind can have.
-use Rattle.std.proofs.Common.{◌≡◌, ℕ, ◌≤◌, Bool, true, false, ◌&&◌, cond, [], length, drop, Option, Some, None, refl, arith}
+use Rattle.std.proofs.Common.{◌≡◌, ℕ, ◌≤◌, Bool, true, false, ◌&&◌, cond, [], length, drop, refl, arith}
 use Rattle.std.specs.Prelude.{nat_le}
-use Rattle.std.specs.Option.{option_map_or}
 use Rattle.std.proofs.lemmas.Bool.{leb-true}
 use Rattle.std.proofs.lemmas.List.{length-take}
-use Rattle.call_table.specs.Table.{kind_numbered, row}
+use Rattle.call_table.specs.Table.{row}
 use Rattle.call_table.specs.declared.kind.Kind.{Kind}
 use Rattle.call_table.specs.declared.kind.Kind.TheVariants.{Print, Send}
 use Rattle.guest_memory.specs.Memory.{Memory, bytes_from, is_inside}
 use Rattle.lib_calls.specs.declared.entry.Call.{Call}
 use Rattle.lib_calls.specs.Effects.{is_range, named, outgoing_of, sent_out}
 use Rattle.lib_calls.specs.Entry.{IsStringIf}
-use Rattle.lib_calls.specs.Kinds.{has_outgoing}
 
 -- a range that a call may name is short
 named_short : (memory : Memory) (addr len : ℕ) → length (named memory addr len) ≤ 60000
@@ -25,20 +23,18 @@ named_short memory addr len = by_test (nat_le len 60000) (is_inside memory addr 
 
 pub outgoing_short : (call : Call) (memory : Memory) → length (outgoing_of call memory) ≤ 60000
 unfolding outgoing_of
-outgoing_short call memory = by_kind (kind_numbered call.kind)
+outgoing_short call memory = by_kind call.kind
   where
-    by_kind : (o : Option Kind) → length (option_map_or (λ kind. sent_out kind call memory) o []) ≤ 60000
-    by_kind None = omega arith
-    by_kind (Some Print) = named_short memory call.a0 call.a1
-    by_kind (Some Send) = named_short memory call.a1 call.a2
-    by_kind (Some _) = omega arith
+    by_kind : (k : Kind) → length (sent_out k call memory) ≤ 60000
+    by_kind Print = named_short memory call.a0 call.a1
+    by_kind Send = named_short memory call.a1 call.a2
+    by_kind _ = omega arith
 
-pub outgoing_fits : (call : Call) (memory : Memory) → IsStringIf (has_outgoing call.kind) (outgoing_of call memory)
-unfolding has_outgoing outgoing_of
-outgoing_fits call memory = by_kind (kind_numbered call.kind)
+pub outgoing_fits : (call : Call) (memory : Memory) → IsStringIf (row call.kind).entry.outgoing (outgoing_of call memory)
+unfolding outgoing_of
+outgoing_fits call memory = by_kind call.kind
   where
-    by_kind : (o : Option Kind) → IsStringIf (option_map_or (λ kind. (row kind).entry.outgoing) o false) (option_map_or (λ kind. sent_out kind call memory) o [])
-    by_kind None = refl
-    by_kind (Some Print) = omega (arith, named_short memory call.a0 call.a1)
-    by_kind (Some Send) = omega (arith, named_short memory call.a1 call.a2)
-    by_kind (Some _) = refl
+    by_kind : (k : Kind) → IsStringIf (row k).entry.outgoing (sent_out k call memory)
+    by_kind Print = omega (arith, named_short memory call.a0 call.a1)
+    by_kind Send = omega (arith, named_short memory call.a1 call.a2)
+    by_kind _ = refl

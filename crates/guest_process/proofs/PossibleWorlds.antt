@@ -5,7 +5,6 @@ use Rattle.std.proofs.lemmas.Slice.Eq.{bytes_eq-Decides}
 use Rattle.std.proofs.lemmas.Bool.{and_parts, or_cases, eqb-true, eqb-false, leb-true, le-leb, ne_eqb}
 use Rattle.std.proofs.lemmas.List.{length-take, take_all}
 use Rattle.std.specs.Prelude.{min}
-use Rattle.call_table.specs.Table.{kind_numbered}
 use Rattle.call_table.specs.declared.kind.Kind.{Kind}
 use Rattle.call_table.specs.declared.kind.Kind.TheVariants.{Now, SleepUntil, Random, Recv, TryRecv}
 use Rattle.lamport_tag.specs.declared.Tag.{Tag}
@@ -27,7 +26,7 @@ use Rattle.guest_process.specs.OneEvent.{WorldBrings, IsThereToTake, Possible, S
 use Rattle.guest_process.specs.State.{State, is_running, thread_at}
 use Rattle.guest_process.specs.Fits.{StateFits}
 use Rattle.guest_process.proofs.FirstFailure.{all_hold, unless_none}
-use Rattle.guest_process.proofs.LegalEntries.{call_told, fits_at}
+use Rattle.guest_process.proofs.LegalEntries.{call_told}
 use Rattle.guest_process.proofs.AnswerWrites.{asked_good, given_written, not_minus_two, random_short, recv_short, taken_counted, try_recv_short}
 
 not_minus_one : (reply : ℕ) → reply ≤ 60000 → (reply == minus_one) ≡ false
@@ -118,12 +117,12 @@ module _ (again : IsReadBack) where
   first_given : (count : ℕ) (c : Call) (a : Answer) (box : List (List ℕ)) → count ≤ 16 → takes_datagram count c a ≡ true → StandsFirst a box → taken_of count c.a1 box ≡ Some a
   first_given count c a box few h first = ap (taken_of count c.a1) first.1 ∙ ap Some (cut_is count c a few h)
 
-  recv_gives : (S : State) (c : Call) (a : Answer) (box : List (List ℕ)) → S.count ≤ 16 → kind_numbered c.kind ≡ Some Recv → is_good c S.store.memory ≡ true → takes_datagram S.count c a ≡ true → HoldsUnless (a.reply == minus_one) (StandsFirst a box) → taken_of S.count c.a1 box ≡ Some a
+  recv_gives : (S : State) (c : Call) (a : Answer) (box : List (List ℕ)) → S.count ≤ 16 → c.kind ≡ Recv → is_good c S.store.memory ≡ true → takes_datagram S.count c a ≡ true → HoldsUnless (a.reply == minus_one) (StandsFirst a box) → taken_of S.count c.a1 box ≡ Some a
   recv_gives S c a box few e good h first =
       let low = taken_low S c a h (recv_short S c e good) in
       first_given S.count c a box few h (here (a.reply == minus_one) (not_minus_one a.reply low) first)
 
-  taken_gives : (S : State) (c : Call) (a : Answer) (box : List (List ℕ)) → S.count ≤ 16 → kind_numbered c.kind ≡ Some TryRecv → is_good c S.store.memory ≡ true → takes_datagram S.count c a ≡ true → HoldsUnless (a.reply == minus_one) (IsThereToTake (a.reply == minus_two) a box) → unwrap_or (taken_of S.count c.a1 box) (replies_with minus_two) ≡ a
+  taken_gives : (S : State) (c : Call) (a : Answer) (box : List (List ℕ)) → S.count ≤ 16 → c.kind ≡ TryRecv → is_good c S.store.memory ≡ true → takes_datagram S.count c a ≡ true → HoldsUnless (a.reply == minus_one) (IsThereToTake (a.reply == minus_two) a box) → unwrap_or (taken_of S.count c.a1 box) (replies_with minus_two) ≡ a
   taken_gives S c a box few e good h first =
       let low = taken_low S c a h (try_recv_short S c e good) in
       ap (λ taken. unwrap_or taken (replies_with minus_two))
@@ -139,7 +138,7 @@ module _ (again : IsReadBack) where
 
   -- ---- an answer of the world
 
-  world_gives : (k : Kind) (S : State) (t : ℕ) (c : Call) (a : Answer) (env : Env) → S.count ≤ 16 → kind_numbered c.kind ≡ Some k → need k S t c ≡ World → is_possible k S c a ≡ true → WorldBrings (Some k) a env → world_answer k c S.count env ≡ Some a
+  world_gives : (k : Kind) (S : State) (t : ℕ) (c : Call) (a : Answer) (env : Env) → S.count ≤ 16 → c.kind ≡ k → need k S t c ≡ World → is_possible k S c a ≡ true → WorldBrings k a env → world_answer k c S.count env ≡ Some a
   world_gives Now S t c a env few e w h has = ap (λ n. Some (replies_with n)) has ∙ ap Some (plain_is a h)
   world_gives SleepUntil S t c a env few e w h has =
       let parts = and_parts (is_due c.a0 a.reply) (brings_nothing a.tag a.incoming) h in
@@ -156,7 +155,7 @@ module _ (again : IsReadBack) where
   ])
   world_gives _ S t c a env few e w h has = cc
 
-  answer_given : (k : Kind) (S : State) (t : ℕ) (c : Call) (a : Answer) (env : Env) → S.count ≤ 16 → kind_numbered c.kind ≡ Some k → WorldBrings (Some k) a env → (n : Need) → need k S t c ≡ n → need_gives_answer n a (is_possible k S c a) ≡ true → answered_now n (from_world k S c env) ≡ gives (after_need n (with_answer S c a)) a
+  answer_given : (k : Kind) (S : State) (t : ℕ) (c : Call) (a : Answer) (env : Env) → S.count ≤ 16 → c.kind ≡ k → WorldBrings k a env → (n : Need) → need k S t c ≡ n → need_gives_answer n a (is_possible k S c a) ≡ true → answered_now n (from_world k S c env) ≡ gives (after_need n (with_answer S c a)) a
   answer_given k S t c a env few e has (Fixed reply S') w h =
       let parts = and_parts (a.reply == reply) (brings_nothing a.tag a.incoming) h in
       ap (gives S') (ap replies_with (sym (eqb-true a.reply reply parts.0)) ∙ plain_is a parts.1)
@@ -217,7 +216,7 @@ chosen_is k handlers signal pending only_it h =
 -- the event of a thread that stands so, told by these parts of its entry
 abbrev told : State → Entry → Waiting → ℕ → ℕ → Call → List ℕ → Event
 told S' e w signal clock call outgoing = record {
-  state = thread_goes_on w.kind S' e.thread w.strand e.reply signal clock;
+  state = thread_goes_on w.call.kind S' e.thread w.strand e.reply signal clock;
   entry = record {
     clock = clock;
     thread = e.thread;
@@ -241,14 +240,13 @@ same_told S' e w signal clock call outgoing signals clocks calls bytes =
 lived : IsReadBack → (S : State) (e : Entry) (env : Env) → StateFits S → WorldSupplies e env → (o : Option Waiting) → thread_at S e.thread ≡ o → reason_at S e o ≡ None → event_of_waiting S e.thread env o ≡ Some (record { state = next_at_thread S e o; entry = e })
 lived again S e env s has None at h = cc
 lived again S e env s has (Some w) at h =
-    let k = w.kind in
+    let k = w.call.kind in
     let a = answer_of e in
     let S' = effects_of_answer k S e.thread w.call a in
     let holds = all_hold (entry_checks S e w) h in
-    let fits = fits_at S e.thread w s at in
-    let of_kind : kind_numbered e.call.kind ≡ Some k = ap (λ (c : Call). kind_numbered c.kind) (call_told S e w holds) ∙ fits.kind in
-    let brings : WorldBrings (Some k) a env = subst (λ (o : Option Kind). WorldBrings o a env) of_kind has.brings in
-    let given = answer_given again k S e.thread w.call a env s.count fits.kind brings (need k S e.thread w.call) refl holds.reply in
+    let of_kind : e.call.kind ≡ k = ap (λ (c : Call). c.kind) (call_told S e w holds) in
+    let brings : WorldBrings k a env = subst (λ (k : Kind). WorldBrings k a env) of_kind has.brings in
+    let given = answer_given again k S e.thread w.call a env s.count refl brings (need k S e.thread w.call) refl holds.reply in
     let sent = outgoing_of w.call S.store.memory in
     ap (option_map (event S e.thread env w)) given
     ∙ ap Some (same_told S' e w (chosen_signal k S'.handlers env.pending) (next_clock_of S.clock e.tag) w.call sent
@@ -273,16 +271,16 @@ in_mailbox : (test : Bool) (a : Answer) → IsThereToTake test a (if test then [
 in_mailbox true a = refl
 in_mailbox false a = ([], refl)
 
-brought : (o : Option Kind) (a : Answer) (signal : ℕ) → WorldBrings o a (record { mailbox = mailbox_for o a; pool = a.incoming; time = a.reply; pending = λ s. s == signal; killed = false })
-brought (Some Now) a signal = refl
-brought (Some SleepUntil) a signal = refl
-brought (Some Random) a signal = unless_any (a.reply == minus_one) (take_all (length a.incoming) a.incoming (omega arith))
-brought (Some Recv) a signal = unless_any (a.reply == minus_one) ([], refl)
-brought (Some TryRecv) a signal = unless_any (a.reply == minus_one) (in_mailbox (a.reply == minus_two) a)
+brought : (k : Kind) (a : Answer) (signal : ℕ) → WorldBrings k a (record { mailbox = mailbox_for k a; pool = a.incoming; time = a.reply; pending = λ s. s == signal; killed = false })
+brought Now a signal = refl
+brought SleepUntil a signal = refl
+brought Random a signal = unless_any (a.reply == minus_one) (take_all (length a.incoming) a.incoming (omega arith))
+brought Recv a signal = unless_any (a.reply == minus_one) ([], refl)
+brought TryRecv a signal = unless_any (a.reply == minus_one) (in_mailbox (a.reply == minus_two) a)
 brought _ a signal = tt
 
 pub world_is_there : WorldIsThere
 world_is_there e shape = (
   record { time = shape.reply },
-  record { alive = refl; brings = brought (kind_numbered e.call.kind) (answer_of e) e.signal; signals = λ s low high. refl },
+  record { alive = refl; brings = brought e.call.kind (answer_of e) e.signal; signals = λ s low high. refl },
 )

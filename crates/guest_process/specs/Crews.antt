@@ -1,6 +1,5 @@
 -- What an event does to the other threads, and to the locks.
 use Rattle.std.specs.Prelude.{◌≡◌, ◌≢◌, ℕ, ◌+◌, ◌<◌, Some, None, slice_get, length}
-use Rattle.call_table.specs.Table.{kind_numbered}
 use Rattle.call_table.specs.declared.kind.Kind.TheVariants.{Spawn, Lock, Unlock}
 use Rattle.coop_threads.specs.Crew.{holder_of, most_threads}
 use Rattle.coop_threads.specs.declared.slot.Slot.TheVariants.{Kept}
@@ -24,7 +23,7 @@ OtherThreadsStay = (S : State) (e : Entry) → StateFits S → reason S e ≡ No
 pub record SpawnsThread (S : State) (e : Entry) (S' : State) : Type 0 where
   pub func : ℕ
   pub thread : Thread
-  pub kind : kind_numbered e.call.kind ≡ Some Spawn
+  pub kind : e.call.kind ≡ Spawn
   pub room : length S.crew.threads < most_threads
   pub found : handler_at S.store (narrow e.call.a0) ≡ Some func
   pub starts : new_thread S.store.«module» func (narrow e.call.a1) ≡ Some thread
@@ -42,14 +41,14 @@ OnlySpawnAdds = (S : State) (e : Entry) → StateFits S → reason S e ≡ None 
 
 -- the event takes a lock that was free for its thread
 pub record TakesLock (S : State) (e : Entry) (m : ℕ) (S' : State) : Type 0 where
-  pub kind : kind_numbered e.call.kind ≡ Some Lock
+  pub kind : e.call.kind ≡ Lock
   pub lock : narrow e.call.a0 ≡ m
   pub free : holder_of S.crew m ≡ None
   pub held : holder_of S'.crew m ≡ Some e.thread
 
 -- the event gives back a lock that its thread held
 pub record GivesLockBack (S : State) (e : Entry) (m : ℕ) (S' : State) : Type 0 where
-  pub kind : kind_numbered e.call.kind ≡ Some Unlock
+  pub kind : e.call.kind ≡ Unlock
   pub lock : narrow e.call.a0 ≡ m
   pub held : holder_of S.crew m ≡ Some e.thread
   pub free : holder_of S'.crew m ≡ None

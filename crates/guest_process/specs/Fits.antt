@@ -3,7 +3,6 @@ use Rattle.std.proofs.Common.{subst}
 use Rattle.std.proofs.lemmas.Option.{same_Some}
 use Rattle.std.specs.Prelude.{◌≡◌, ℕ, zero, suc, ◌+◌, ◌^◌, ◌<◌, ◌≤◌, List, [], ◌∷◌, length, slice_get, option_and_then, Some}
 use Rattle.guest_memory.specs.Stamps.{AreWithin}
-use Rattle.call_table.specs.Table.{kind_numbered}
 use Rattle.coop_threads.specs.Crew.{most_threads, value_of}
 use Rattle.coop_threads.specs.declared.slot.Slot.{Slot}
 use Rattle.coop_threads.specs.declared.slot.Slot.TheVariants.{Kept, Lent, Over}
@@ -13,9 +12,8 @@ use Rattle.guest_process.specs.Live.{Env}
 use Rattle.guest_process.specs.State.{State}
 use Rattle.lamport_tag.specs.Limits.{most_clock, most_processes}
 
--- a pending call is one of its kind, and its arguments are in range
+-- the arguments of a pending call are in range
 pub record WaitingFits (w : Waiting) : Type 0 where
-  pub kind : kind_numbered w.call.kind ≡ Some w.kind
   pub arguments : HasArguments w.call
 
 -- each thread that is live is such, and none is taken out

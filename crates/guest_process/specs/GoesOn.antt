@@ -33,12 +33,12 @@ argument kind n bits = if nat_lt n (row kind).signature.params then bits % 2 ^ 6
 -- the call of this kind with these arguments
 abbrev pub call_of_site : Kind → CallSite → Call
 call_of_site kind site =
-    record { kind = (row kind).number; a0 = argument kind 0 site.a0; a1 = argument kind 1 site.a1; a2 = argument kind 2 site.a2 }
+    record { kind = kind; a0 = argument kind 0 site.a0; a1 = argument kind 1 site.a1; a2 = argument kind 2 site.a2 }
 
 -- a thread that is at a call of the library
 abbrev pub stands : State → Thread → CallSite → Kind → Waiting
 stands S thread site kind =
-    record { kind = kind; call = call_of_site kind site; strand = record { «module» = S.store.«module»; thread = thread; call = Some site.func } }
+    record { call = call_of_site kind site; strand = record { «module» = S.store.«module»; thread = thread; call = Some site.func } }
 
 -- thread t has trapped, with these functions of its frames
 abbrev pub trapped_thread : State → ℕ → Trap → List ℕ → State

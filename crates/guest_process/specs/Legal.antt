@@ -1,5 +1,6 @@
 -- When an entry can be the next event, and why not.
 use Rattle.std.specs.Prelude.{ℕ, ◌==◌, ◌&&◌, ◌||◌, not, nat_le, is_some, bytes_eq, List, Bool, true, false, Option, Some, None}
+use Rattle.call_table.specs.Table.{row}
 use Rattle.call_table.specs.declared.kind.Kind.{Kind}
 use Rattle.lamport_tag.specs.Tag.{next_clock_of}
 use Rattle.lib_calls.specs.declared.entry.Call.{Call}
@@ -40,7 +41,7 @@ pub record EntryChecks : Type 0 where
 
 abbrev pub checks_by : Kind → State → Entry → Call → Answer → EntryChecks
 checks_by kind S e c a = record {
-  call = e.call.kind == c.kind;
+  call = (row e.call.kind).number == (row c.kind).number;
   arguments = same_arguments e.call c;
   bytes = bytes_eq e.outgoing (outgoing_of c S.store.memory);
   reply = need_gives_answer (need kind S e.thread c) a (is_possible kind S c a);
@@ -49,7 +50,7 @@ checks_by kind S e c a = record {
 }
 
 abbrev pub entry_checks : State → Entry → Waiting → EntryChecks
-entry_checks S e w = checks_by w.kind S e w.call (answer_of e)
+entry_checks S e w = checks_by w.call.kind S e w.call (answer_of e)
 
 abbrev pub unless_checked : Bool → Divergence → Option Divergence → Option Divergence
 unless_checked true why rest = rest

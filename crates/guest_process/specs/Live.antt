@@ -105,7 +105,7 @@ pub record Event : Type 0 where
 
 abbrev pub event_by : State → ℕ → Waiting → AnsweredCall → ℕ → ℕ → Event
 event_by S t w a signal clock = record {
-  state = thread_goes_on w.kind a.after t w.strand a.answer.reply signal clock;
+  state = thread_goes_on w.call.kind a.after t w.strand a.answer.reply signal clock;
   entry = record {
     clock = clock;
     thread = t;
@@ -119,11 +119,11 @@ event_by S t w a signal clock = record {
 }
 
 abbrev pub event : State → ℕ → Env → Waiting → AnsweredCall → Event
-event S t env w a = event_by S t w a (chosen_signal w.kind a.after.handlers env.pending) (next_clock_of S.clock a.answer.tag)
+event S t env w a = event_by S t w a (chosen_signal w.call.kind a.after.handlers env.pending) (next_clock_of S.clock a.answer.tag)
 
 abbrev pub event_of_waiting : State → ℕ → Env → Option Waiting → Option Event
 event_of_waiting S t env None = None
-event_of_waiting S t env (Some w) = option_map (event S t env w) (answered_now (need w.kind S t w.call) (from_world w.kind S w.call env))
+event_of_waiting S t env (Some w) = option_map (event S t env w) (answered_now (need w.call.kind S t w.call) (from_world w.call.kind S w.call env))
 
 -- the event of a try of this thread, or nothing where the try is idle
 abbrev pub live : State → ℕ → Env → Option Event

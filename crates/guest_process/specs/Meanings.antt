@@ -43,7 +43,7 @@ thread_frames S t = frames_by_end S.end S t
 -- the state after thread t's pending call got this answer, before it runs
 abbrev pub answered_at : State → ℕ → Answer → Option Waiting → State
 answered_at S t a None = S
-answered_at S t a (Some w) = effects_of_answer w.kind S t w.call a
+answered_at S t a (Some w) = effects_of_answer w.call.kind S t w.call a
 
 -- a signal has a handler then
 abbrev pub handles_after : State → ℕ → Answer → ℕ → Bool

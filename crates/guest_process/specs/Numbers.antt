@@ -1,6 +1,5 @@
 -- What a legal entry says in numbers, of datagrams and of random bytes.
 use Rattle.std.specs.Prelude.{◌≡◌, ◌≢◌, ◌↔◌, ◌⊎◌, ℕ, ◌<◌, ◌≤◌, length, IsTrue, Some, None}
-use Rattle.call_table.specs.Table.{kind_numbered}
 use Rattle.call_table.specs.declared.kind.Kind.{Kind}
 use Rattle.call_table.specs.declared.kind.Kind.TheVariants.{Random, Send, Recv, TryRecv}
 use Rattle.coop_threads.specs.Crew.{most_threads}
@@ -33,7 +32,7 @@ LegalNumbers = (S : State) (e : Entry) → StateFits S → reason S e ≡ None �
 
 -- the entry's call is of this kind, and its arguments are good in the memory of the process
 abbrev pub CallsWell : Kind → State → Entry → Type 0
-CallsWell kind S e = (kind_numbered e.call.kind ≡ Some kind) × IsTrue (is_good e.call S.store.memory)
+CallsWell kind S e = (e.call.kind ≡ kind) × IsTrue (is_good e.call S.store.memory)
 
 -- What goes into the group is what `send` with good arguments sends to one of its processes. A datagram is taken by `recv`
 -- with good arguments, and by `try_recv` with good arguments unless it says that none is there. Random bytes are drawn by

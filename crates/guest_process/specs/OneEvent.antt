@@ -1,7 +1,6 @@
 -- The laws over one event: those that the world can let a process have are those that are legal, and what
 -- each of them keeps.
 use Rattle.std.specs.Prelude.{◌≡◌, ℕ, ◌+◌, ◌^◌, ◌<◌, ◌≤◌, ◌==◌, Bool, true, false, if◌then◌else◌, List, [], ◌∷◌, ◌++◌, length, take, Option, Some, None}
-use Rattle.call_table.specs.Table.{kind_numbered}
 use Rattle.call_table.specs.declared.kind.Kind.{Kind}
 use Rattle.call_table.specs.declared.kind.Kind.TheVariants.{Now, SleepUntil, Random, Recv, TryRecv}
 use Rattle.lamport_tag.specs.declared.Tag.{Tag}
@@ -62,29 +61,29 @@ IsThereToTake true a mailbox = mailbox ≡ []
 IsThereToTake false a mailbox = StandsFirst a mailbox
 
 -- the world has what the answer to a call of this kind brings
-abbrev pub WorldBrings : Option Kind → Answer → Env → Type 0
-WorldBrings (Some Now) a env = env.time ≡ a.reply
-WorldBrings (Some SleepUntil) a env = env.time ≡ a.reply
-WorldBrings (Some Random) a env = HoldsUnless (a.reply == minus_one) (take (length a.incoming) env.pool ≡ a.incoming)
-WorldBrings (Some Recv) a env = HoldsUnless (a.reply == minus_one) (StandsFirst a env.mailbox)
-WorldBrings (Some TryRecv) a env = HoldsUnless (a.reply == minus_one) (IsThereToTake (a.reply == minus_two) a env.mailbox)
+abbrev pub WorldBrings : Kind → Answer → Env → Type 0
+WorldBrings Now a env = env.time ≡ a.reply
+WorldBrings SleepUntil a env = env.time ≡ a.reply
+WorldBrings Random a env = HoldsUnless (a.reply == minus_one) (take (length a.incoming) env.pool ≡ a.incoming)
+WorldBrings Recv a env = HoldsUnless (a.reply == minus_one) (StandsFirst a env.mailbox)
+WorldBrings TryRecv a env = HoldsUnless (a.reply == minus_one) (IsThereToTake (a.reply == minus_two) a env.mailbox)
 WorldBrings _ a env = Unit {0}
 
 -- and of the signals only the one that is delivered is pending
 pub record WorldSupplies (e : Entry) (env : Env) : Type 0 where
   pub alive : env.killed ≡ false
-  pub brings : WorldBrings (kind_numbered e.call.kind) (answer_of e) env
+  pub brings : WorldBrings e.call.kind (answer_of e) env
   pub signals : (s : ℕ) → 1 ≤ s → s < 1 + most_signal → env.pending s ≡ (s == e.signal)
 
 -- the mailbox out of which an answer to a call of this kind takes what it tells
-abbrev pub mailbox_for : Option Kind → Answer → List (List ℕ)
-mailbox_for (Some TryRecv) a = if a.reply == minus_two then [] else datagram_as a.tag a.incoming ∷ []
+abbrev pub mailbox_for : Kind → Answer → List (List ℕ)
+mailbox_for TryRecv a = if a.reply == minus_two then [] else datagram_as a.tag a.incoming ∷ []
 mailbox_for _ a = datagram_as a.tag a.incoming ∷ []
 
 -- the world in which an entry comes about: what its call takes is there, and nothing after it
 abbrev pub world_for : Entry → Env
 world_for e = record {
-  mailbox = mailbox_for (kind_numbered e.call.kind) (answer_of e);
+  mailbox = mailbox_for e.call.kind (answer_of e);
   pool = e.incoming;
   time = e.reply;
   pending = λ s. s == e.signal;

@@ -18,7 +18,7 @@ StandsAtKind m w kind = (func : ℕ) × (w.strand.call ≡ Some func) × ((reply
 
 pub record IsStandingAtCall (m : Module) (w : Waiting) : Type 0 where
   pub same_module : w.strand.«module» ≡ m
-  pub stands : StandsAtKind m w w.kind
+  pub stands : StandsAtKind m w w.call.kind
 
 -- the module imports functions of the library alone, each thread is one of the module, and so is each
 -- function that handles a signal

@@ -1,6 +1,5 @@
 -- How a process begins.
 use Rattle.std.specs.Prelude.{ℕ, [], Option, Some, None}
-use Rattle.call_table.specs.Table.{row}
 use Rattle.call_table.specs.declared.kind.Kind.TheVariants.{Begin}
 use Rattle.coop_threads.specs.Crew.{empty, with_live}
 use Rattle.lib_calls.specs.declared.entry.Call.{Call}
@@ -16,11 +15,11 @@ use Rattle.guest_process.specs.State.{State, awaits_event}
 
 -- the call `begin`
 abbrev pub begin : Call
-begin = record { kind = (row Begin).number; a0 = 0; a1 = 0; a2 = 0 }
+begin = record { kind = Begin; a0 = 0; a1 = 0; a2 = 0 }
 
 -- a thread that waits at `begin`
 abbrev pub waits_at_begin : Strand → Waiting
-waits_at_begin strand = record { kind = Begin; call = begin; strand = strand }
+waits_at_begin strand = record { call = begin; strand = strand }
 
 -- a thread of the module that stands there
 abbrev pub waiting_at : Module → Thread → Waiting

@@ -8,7 +8,7 @@ ghost use Rattle.wasm_types.specs.Modules.{module_of};
 ghost use Rattle.wasm_step.specs.Burst.{burst};
 ghost use Rattle.wasm_step.specs.Suits.{SuitsModule};
 ghost use Rattle.wasm_step.specs.Strand.{IsHandler};
-ghost use Rattle.guest_process.specs.inside.Advancing.{acted_by_entry, thread_gone_on, pending_kind};
+ghost use Rattle.guest_process.specs.inside.Advancing.{acted_by_entry, thread_gone_on};
 ghost use Rattle.guest_process.specs.Answers.{with_answer};
 ghost use Rattle.guest_process.specs.GoesOn.{process_after_burst, instruction_budget, handler as handler_of};
 ghost use Rattle.guest_process.specs.Legal.{reason};
@@ -58,7 +58,7 @@ impl<'m> Body<'m> {
         self.clock = entry.clock;
         self.events += 1;
         self.last_thread = Some(entry.thread);
-        if ends_process(waiting.kind) {
+        if ends_process(waiting.call.kind) {
             self.exit(entry.thread, waiting.call.a0);
             return Ok(());
         }
@@ -76,28 +76,18 @@ impl<'m> Body<'m> {
         ensures suits { OnOk result (SuitsModule self.new.store) }
     {
         let t = entry.thread;
-        match self.pending_kind(t) {
-            Some(Kind::Spawn) => self.spawn(narrow(entry.call.a0), narrow(entry.call.a1)),
-            Some(Kind::Lock) => self.lock(narrow(entry.call.a0), t),
-            Some(Kind::Unlock) => {
+        match entry.call.kind {
+            Kind::Spawn => self.spawn(narrow(entry.call.a0), narrow(entry.call.a1)),
+            Kind::Lock => self.lock(narrow(entry.call.a0), t),
+            Kind::Unlock => {
                 self.unlock(narrow(entry.call.a0), t);
                 Ok(())
             }
-            Some(Kind::OnSignal) => {
+            Kind::OnSignal => {
                 self.set_handler(narrow(entry.call.a0), narrow(entry.call.a1));
                 Ok(())
             }
             _ => self.write(entry),
-        }
-    }
-
-    // The kind of the call at which a thread stands.
-    fn pending_kind(&self, thread: u16) -> Option<Kind>
-        ensures { result ≡ pending_kind (state_of self.now) thread }
-    {
-        match self.crew.get(thread) {
-            Some(waiting) => Some(waiting.kind),
-            None => None,
         }
     }
 
@@ -118,7 +108,7 @@ impl<'m> Body<'m> {
         requires same_module { module_of self.old.«module».now ≡ self.old.store.«module» }
         requires suits { SuitsModule self.old.store }
         requires same { waiting.strand.«module» ≡ self.old.store.«module» }
-        requires stands { StandsAtKind waiting.strand.«module» waiting waiting.kind }
+        requires stands { StandsAtKind waiting.strand.«module» waiting waiting.call.kind }
         requires handlers { (signal func : ℕ) → handler_of self.old.handlers signal ≡ Some func → IsHandler self.old.store.«module» func }
         ensures state { OnOk result (state_of self.new ≡ thread_gone_on (state_of self.old) waiting.entry (entry_of entry.now)) }
         ensures same_module { OnOk result (self.new.«module» ≡ self.old.«module») }

@@ -34,10 +34,10 @@ pub fn is_due(until: u64, time: u64) -> bool
 /// The strand of a thread whose call was answered.
 #[tactic(auto, using(crate::proofs::AnsweredCalls::is_answer))]
 pub(crate) fn answered(waiting: Waiting<'_>, reply: u64) -> Result<Strand<'_>, AllocError>
-    requires { StandsAtKind waiting.strand.«module» waiting waiting.kind }
-    ensures { IfOk result (λ s. s ≡ answered_strand waiting.entry.strand (reply_value waiting.entry.kind reply)) }
+    requires { StandsAtKind waiting.strand.«module» waiting waiting.call.kind }
+    ensures { IfOk result (λ s. s ≡ answered_strand waiting.entry.strand (reply_value waiting.entry.call.kind reply)) }
 {
-    match waiting.kind {
+    match waiting.call.kind {
         Kind::Begin => Ok(waiting.strand),
         kind => waiting.strand.answer(reply_value(kind, reply)),
     }

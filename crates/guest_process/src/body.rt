@@ -72,7 +72,7 @@ impl<'m> Body<'m> {
             Pause::AtCall(strand, site) => match self.module.import_kind(site.func) {
                 Some(kind) => {
                     let call = call_of_site(kind, site);
-                    self.crew.put(thread, Waiting { kind, call, strand });
+                    self.crew.put(thread, Waiting { call, strand });
                 }
                 None => self.trap(thread, Trap::Unreachable, Vec::new(self.alloc)),
             },

@@ -17,7 +17,7 @@ pub(crate) fn call_of_site(kind: Kind, site: CallSite) -> Call
     ensures { result ≡ call_of_site kind site }
 {
     Call {
-        kind: kind.number(),
+        kind,
         a0: argument(kind, 0, site.a0),
         a1: argument(kind, 1, site.a1),
         a2: argument(kind, 2, site.a2),

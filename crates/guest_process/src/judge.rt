@@ -22,9 +22,9 @@ use signal_points::{Handlers, MOST_SIGNAL};
 impl<'m> Body<'m> {
     /// What the answer to the thread's pending call depends on.
     pub(crate) fn need(&self, thread: u16, waiting: &Waiting<'m>) -> Need
-        ensures { result ≡ plain_need (need waiting.now.kind (state_of self.now) thread waiting.now.call) }
+        ensures { result ≡ plain_need (need waiting.now.call.kind (state_of self.now) thread waiting.now.call) }
     {
-        match waiting.kind {
+        match waiting.call.kind {
             Kind::Begin | Kind::Exit | Kind::Note | Kind::Yield => Need::Fixed(0),
             Kind::Print => self.replied(&waiting.call, waiting.call.a1),
             Kind::Now | Kind::SleepUntil => Need::World,
@@ -70,7 +70,7 @@ impl<'m> Body<'m> {
     ) -> Result<(), Divergence>
         ensures { refused_for result ≡ first_failing (entry_checks (state_of self.now) (entry_of entry.now) waiting.now) }
     {
-        if entry.call.kind != waiting.call.kind {
+        if entry.call.kind.number() != waiting.call.kind.number() {
             return Err(Divergence::OtherCall);
         }
         if !same_arguments(&entry.call, &waiting.call) {
@@ -105,9 +105,9 @@ impl<'m> Body<'m> {
 
     // Whether some world gives the answer.
     fn is_possible(&self, entry: &EntryView<'_>, waiting: &Waiting<'m>) -> bool
-        ensures { result ≡ is_possible waiting.now.kind (state_of self.now) waiting.now.call (answer_of (entry_of entry.now)) }
+        ensures { result ≡ is_possible waiting.now.call.kind (state_of self.now) waiting.now.call (answer_of (entry_of entry.now)) }
     {
-        match waiting.kind {
+        match waiting.call.kind {
             Kind::Now => brings_nothing(entry),
             Kind::SleepUntil => is_due(waiting.call.a0, entry.reply) && brings_nothing(entry),
             Kind::Random => is_drawn(&waiting.call, entry),
@@ -123,9 +123,9 @@ impl<'m> Body<'m> {
     /// The handlers once a pending call was answered, however it is.
     #[tactic(auto, using(crate::proofs::HandlerCalls::same_handlers, crate::proofs::HandlerCalls::given_handlers))]
     pub(crate) fn handlers_after(&self, waiting: &Waiting<'m>) -> Handlers
-        ensures { (t : ℕ) (a : Answer) → result ≡ (effects_of_answer waiting.now.kind (state_of self.now) t waiting.now.call a).handlers }
+        ensures { (t : ℕ) (a : Answer) → result ≡ (effects_of_answer waiting.now.call.kind (state_of self.now) t waiting.now.call a).handlers }
     {
-        match waiting.kind {
+        match waiting.call.kind {
             Kind::OnSignal => self.handlers_with(narrow(waiting.call.a0), narrow(waiting.call.a1)),
             _ => self.handlers,
         }
@@ -136,7 +136,12 @@ impl<'m> Body<'m> {
         ensures { result ≡ (entry_checks (state_of self.now) (entry_of entry.now) waiting.now).handler }
     {
         // At nearly all events there is none, and the handlers need not be put together.
-        entry.signal == 0 || is_handled(waiting.kind, &self.handlers_after(waiting), entry.signal)
+        entry.signal == 0
+            || is_handled(
+                waiting.call.kind,
+                &self.handlers_after(waiting),
+                entry.signal,
+            )
     }
 }
 

@@ -102,7 +102,7 @@ impl<'m> Process<'m> {
     /// What the answer to the pending call of a thread depends on. `None` comes exactly where the
     /// process is not running or the thread is not live.
     pub fn need(&self, thread: u16) -> Option<Need>
-        ensures { result ≡ option_map (λ w. plain_need (need w.kind self.now thread w.call)) (able self.now thread) }
+        ensures { result ≡ option_map (λ w. plain_need (need w.call.kind self.now thread w.call)) (able self.now thread) }
     {
         match self.able(thread) {
             Some(waiting) => Some(self.body.need(thread, waiting)),

@@ -7,10 +7,9 @@ use lib_calls::{Call, Kind};
 use std::alloc::AllocError;
 use wasm_step::Strand;
 
-/// A thread that waits for the answer to its pending call, which is of this kind.
+/// A thread that waits for the answer to its pending call.
 #[derive(Drop)]
 pub(crate) struct Waiting<'m> {
-    pub(crate) kind: Kind,
     pub(crate) call: Call,
     pub(crate) strand: Strand<'m>,
 }
@@ -19,20 +18,18 @@ pub(crate) struct Waiting<'m> {
 pub(crate) fn beginning(strand: Strand<'_>) -> Waiting<'_>
     ensures { result ≡ waits_at_begin strand.entry }
 {
-    let kind = Kind::Begin;
     let call = Call {
-        kind: kind.number(),
+        kind: Kind::Begin,
         a0: 0,
         a1: 0,
         a2: 0,
     };
-    Waiting { kind, call, strand }
+    Waiting { call, strand }
 }
 
 impl<'m> CopyOut for Waiting<'m> {
     fn copy_out(&self) -> Result<Waiting<'m>, AllocError> {
         Ok(Waiting {
-            kind: self.kind,
             call: self.call,
             strand: self.strand.copy()?,
         })

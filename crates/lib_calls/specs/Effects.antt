@@ -2,8 +2,6 @@
 -- guest's memory.
 use Rattle.std.specs.Prelude.{◌≡◌, ℕ, ◌-◌, ◌^◌, Bool, true, ◌==◌, ◌&&◌, ◌||◌, nat_le, if◌then◌else◌, List, [], length, take, Option, Some, None}
 use Rattle.std.specs.Int.{w32, to_le_bytes}
-use Rattle.std.specs.Option.{option_map_or}
-use Rattle.call_table.specs.Table.{kind_numbered}
 use Rattle.call_table.specs.declared.kind.Kind.{Kind}
 use Rattle.call_table.specs.declared.kind.Kind.TheVariants.{Print, Random, Send, Recv, TryRecv}
 use Rattle.guest_memory.specs.Memory.{Memory, is_inside, bytes_from, with_bytes}
@@ -36,7 +34,7 @@ has_good_ranges TryRecv call memory = is_range memory call.a0 call.a1 && is_insi
 has_good_ranges _ call memory = true
 
 unfoldable pub is_good : Call → Memory → Bool
-is_good call memory = option_map_or (λ kind. has_good_ranges kind call memory) (kind_numbered call.kind) true
+is_good call memory = has_good_ranges call.kind call memory
 
 -- the bytes of a range that a call may name, and none of another
 abbrev pub named : Memory → ℕ → ℕ → List ℕ
@@ -49,7 +47,7 @@ sent_out Send call memory = named memory call.a1 call.a2
 sent_out _ call memory = []
 
 unfoldable pub outgoing_of : Call → Memory → List ℕ
-outgoing_of call memory = option_map_or (λ kind. sent_out kind call memory) (kind_numbered call.kind) []
+outgoing_of call memory = sent_out call.kind call memory
 
 -- ---- what an answer writes
 
@@ -72,7 +70,7 @@ call_brings _ call a memory = true
 
 -- the bytes that came in with an answer are those that the call lets come in
 unfoldable pub is_answer : Call → Answer → Memory → Bool
-is_answer call a memory = option_map_or (λ kind. call_brings kind call a memory) (kind_numbered call.kind) true
+is_answer call a memory = call_brings call.kind call a memory
 
 -- the sender of a datagram, or all ones where it had no tag
 abbrev pub sender_of : Option Tag → ℕ
@@ -100,8 +98,7 @@ put_in_memory _ call a memory = memory
 
 -- the memory after the answer; bad arguments write nothing
 unfoldable pub memory_after_answer : Call → Answer → Memory → Memory
-memory_after_answer call a memory =
-    if is_good call memory then option_map_or (λ kind. put_in_memory kind call a memory) (kind_numbered call.kind) memory else memory
+memory_after_answer call a memory = if is_good call memory then put_in_memory call.kind call a memory else memory
 
 -- of what the answer writes, a first part of the bytes that came in and a first part of the sender's
 pub record WritesPart (call : Call) (a : Answer) (old new : Memory) : Type 0 where

@@ -4,8 +4,7 @@ use Rattle.lamport_tag.specs.declared.Tag.{Tag}
 use Rattle.lib_calls.specs.declared.entry.Call.{Call}
 use Rattle.lib_calls.specs.declared.entry.Entry.{Entry}
 use Rattle.lib_calls.specs.declared.entry.EntryView.{EntryView}
-use Rattle.call_table.specs.Table.{kinds}
-use Rattle.lib_calls.specs.Kinds.{argument_count, has_outgoing, has_incoming, has_tag}
+use Rattle.call_table.specs.Table.{row}
 
 -- what an entry whose bytes are lent says
 abbrev pub entry_of : EntryView → Entry
@@ -38,18 +37,17 @@ IsTagIf false tag = tag ≡ None
 
 -- each argument that the kind has fits, and those that it lacks are 0
 pub record HasArguments (call : Call) : Type 0 where
-  pub first : IsNumberIf (nat_lt 0 (argument_count call.kind)) call.a0
-  pub second : IsNumberIf (nat_lt 1 (argument_count call.kind)) call.a1
-  pub third : IsNumberIf (nat_lt 2 (argument_count call.kind)) call.a2
+  pub first : IsNumberIf (nat_lt 0 (row call.kind).signature.params) call.a0
+  pub second : IsNumberIf (nat_lt 1 (row call.kind).signature.params) call.a1
+  pub third : IsNumberIf (nat_lt 2 (row call.kind).signature.params) call.a2
 
 -- the entry has the fields of its kind, within their widths, and no others
 pub record IsShaped (e : Entry) : Type 0 where
-  pub kind : e.call.kind < length kinds
   pub clock : e.clock < 2 ^ 64
   pub thread : e.thread < 2 ^ 16
   pub signal : e.signal < 2 ^ 8
   pub arguments : HasArguments e.call
   pub reply : e.reply < 2 ^ 64
-  pub outgoing : IsStringIf (has_outgoing e.call.kind) e.outgoing
-  pub incoming : IsStringIf (has_incoming e.call.kind) e.incoming
-  pub tag : IsTagIf (has_tag e.call.kind) e.tag
+  pub outgoing : IsStringIf (row e.call.kind).entry.outgoing e.outgoing
+  pub incoming : IsStringIf (row e.call.kind).entry.incoming e.incoming
+  pub tag : IsTagIf (row e.call.kind).entry.tag e.tag

@@ -1,5 +1,4 @@
 pub mod Limits
-pub mod Kinds
 pub mod Entry
 pub mod Answer
 pub mod Effects

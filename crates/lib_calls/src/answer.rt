@@ -5,7 +5,7 @@ ghost use Rattle.lib_calls.specs.Answer.{answer_of};
 ghost use Rattle.lib_calls.specs.Entry.{entry_of};
 ghost use Rattle.lib_calls.specs.Effects.{WritesPart, call_brings, with_incoming, has_good_ranges, is_answer, put_in_memory, with_received, sender_of as sender_number, memory_after_answer};
 
-use crate::arguments::has_good_ranges;
+use crate::arguments::good_arguments;
 use crate::entry::EntryView;
 use call_table::Kind;
 use guest_memory::Memory;
@@ -28,25 +28,22 @@ pub fn write_back(entry: &EntryView<'_>, memory: &mut Memory) -> Result<(), Allo
     ensures err { OnErr result (WritesPart entry.now.call (answer_of (entry_of entry.now)) memory.old memory.new) }
     ensures max { memory.new.max ≡ memory.old.max }
 {
-    let Some(kind) = Kind::from_number(entry.call.kind) else {
-        return Ok(());
-    };
     // Most calls write nothing, whatever their arguments are.
-    if !kind.has_incoming() || !has_good_ranges(kind, &entry.call, memory) {
+    if !entry.call.kind.has_incoming() || !good_arguments(&entry.call, memory) {
         return Ok(());
     }
-    write_answer(kind, entry, memory)
+    write_answer(entry, memory)
 }
 
-// Writes what an answer does to a call of this kind with good arguments.
-fn write_answer(kind: Kind, entry: &EntryView<'_>, memory: &mut Memory) -> Result<(), AllocError>
-    requires good { IsTrue (has_good_ranges kind entry.now.call memory.old) }
-    requires answer { IsTrue (call_brings kind entry.now.call (answer_of (entry_of entry.now)) memory.old) }
-    ensures ok { OnOk result (memory.new ≡ put_in_memory kind entry.now.call (answer_of (entry_of entry.now)) memory.old) }
+// Writes what an answer does to a call with good arguments.
+fn write_answer(entry: &EntryView<'_>, memory: &mut Memory) -> Result<(), AllocError>
+    requires good { IsTrue (has_good_ranges entry.now.call.kind entry.now.call memory.old) }
+    requires answer { IsTrue (call_brings entry.now.call.kind entry.now.call (answer_of (entry_of entry.now)) memory.old) }
+    ensures ok { OnOk result (memory.new ≡ put_in_memory entry.now.call.kind entry.now.call (answer_of (entry_of entry.now)) memory.old) }
     ensures err { OnErr result (WritesPart entry.now.call (answer_of (entry_of entry.now)) memory.old memory.new) }
     ensures max { memory.new.max ≡ memory.old.max }
 {
-    match kind {
+    match entry.call.kind {
         Kind::Random => put_bytes(entry, memory),
         Kind::Recv => put_datagram(entry, memory),
         Kind::TryRecv if entry.reply != NONE_THERE => put_datagram(entry, memory),

@@ -1,7 +1,7 @@
 // The bytes of the guest's memory that a call names.
 ghost use Rattle.std.specs.Prelude.{◌≡◌, ◌+◌, ◌^◌, ◌≤◌, bytes_eq, length, IfOk, IsTrue, []};
 ghost use Rattle.guest_memory.specs.Memory.{bytes_from, is_inside as is_inside_of};
-ghost use Rattle.lib_calls.specs.Effects.{has_good_ranges, is_good, is_range as is_range_of, named, outgoing_of, sent_out};
+ghost use Rattle.lib_calls.specs.Effects.{is_good, is_range as is_range_of, named, outgoing_of};
 
 use crate::entry::Call;
 use call_table::Kind;
@@ -22,17 +22,7 @@ pub(crate) const MEMORY_PAGE: u64 = 65_536;
 pub fn good_arguments(call: &Call, memory: &Memory) -> bool
     ensures { result ≡ is_good call.now memory.now }
 {
-    match Kind::from_number(call.kind) {
-        Some(kind) => has_good_ranges(kind, call, memory),
-        None => true,
-    }
-}
-
-// The same for a call of this kind.
-pub(crate) fn has_good_ranges(kind: Kind, call: &Call, memory: &Memory) -> bool
-    ensures { result ≡ has_good_ranges kind call.now memory.now }
-{
-    match kind {
+    match call.kind {
         Kind::Print | Kind::Random => is_range(memory, call.a0, call.a1),
         Kind::Send => is_range(memory, call.a1, call.a2),
         Kind::Recv | Kind::TryRecv => {
@@ -67,18 +57,7 @@ pub(crate) fn is_inside(memory: &Memory, addr: u64, len: u64) -> bool
 pub fn outgoing(alloc: Global, call: &Call, memory: &Memory) -> Result<Bytes, AllocError>
     ensures { IfOk result (λ bytes. bytes ≡ outgoing_of call.now memory.now) }
 {
-    match Kind::from_number(call.kind) {
-        Some(kind) => sent_out(alloc, kind, call, memory),
-        None => Ok(Bytes::new(alloc)),
-    }
-}
-
-// The same for a call of this kind.
-#[inline(always)]
-fn sent_out(alloc: Global, kind: Kind, call: &Call, memory: &Memory) -> Result<Bytes, AllocError>
-    ensures { IfOk result (λ bytes. bytes ≡ sent_out kind call.now memory.now) }
-{
-    match kind {
+    match call.kind {
         Kind::Print => named(alloc, memory, call.a0, call.a1),
         Kind::Send => named(alloc, memory, call.a1, call.a2),
         _ => Ok(Bytes::new(alloc)),
@@ -118,17 +97,7 @@ pub(crate) fn read(alloc: Global, memory: &Memory, addr: u64, len: u64) -> Resul
 pub fn is_outgoing(bytes: &[u8], call: &Call, memory: &Memory) -> bool
     ensures { result ≡ bytes_eq bytes.now (outgoing_of call.now memory.now) }
 {
-    match Kind::from_number(call.kind) {
-        Some(kind) => is_sent_out(bytes, kind, call, memory),
-        None => is_nothing(bytes),
-    }
-}
-
-// The same for a call of this kind.
-fn is_sent_out(bytes: &[u8], kind: Kind, call: &Call, memory: &Memory) -> bool
-    ensures { result ≡ bytes_eq bytes.now (sent_out kind call.now memory.now) }
-{
-    match kind {
+    match call.kind {
         Kind::Print => is_named(bytes, memory, call.a0, call.a1),
         Kind::Send => is_named(bytes, memory, call.a1, call.a2),
         _ => is_nothing(bytes),

@@ -2,6 +2,7 @@
 ghost use Rattle.std.specs.Prelude.{◌≡◌};
 ghost use Rattle.lib_calls.specs.Entry.{entry_of};
 
+use call_table::Kind;
 use fri_bytes::Bytes;
 use lamport_tag::Tag;
 
@@ -9,7 +10,7 @@ use lamport_tag::Tag;
 /// bits has zeros above.
 #[derive(Clone, Copy, Debug, PartialEq, Eq)]
 pub struct Call {
-    pub kind: u8,
+    pub kind: Kind,
     pub a0: u64,
     pub a1: u64,
     pub a2: u64,

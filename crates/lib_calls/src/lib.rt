@@ -5,15 +5,13 @@
 //! bytes are lent (`entry_of` of `specs/Entry`, which also says which fields a kind has). `good_arguments` and `outgoing` give
 //! what a call names and sends out of the memory, and `write_back` writes what its answer does (`specs/Effects`). `is_sent`,
 //! `is_taken`, `drawn` and `printed` read one entry (`specs/Traffic`). Each gives exactly what its definition says; copies and
-//! `write_back` may want memory. Kinds are those of `call_table`, by their numbers (`specs/Kinds`). What a call means for a
-//! process is said in `guest_process`.
+//! `write_back` may want memory. Kinds are those of `call_table`. What a call means for a process is said in `guest_process`.
 #![tactic(auto)]
 
 mod answer;
 mod arguments;
 mod entry;
 mod memory;
-mod table;
 mod traffic;
 
 pub use answer::{NONE_THERE, REFUSED, write_back};
@@ -21,5 +19,4 @@ pub use arguments::{good_arguments, is_outgoing, outgoing};
 pub use call_table::{Kind, Signature};
 pub use entry::{Call, Entry, EntryView};
 pub use memory::{memory_bytes, memory_part};
-pub use table::{kind_of, name_of, signature_of};
 pub use traffic::{drawn, is_sent, is_taken, printed};

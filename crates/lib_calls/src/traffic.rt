@@ -13,8 +13,8 @@ use call_table::Kind;
 pub fn is_sent(entry: &EntryView<'_>, count: u32) -> bool
     ensures { result ≡ is_sent_of count (entry_of entry.now) }
 {
-    match Kind::from_number(entry.call.kind) {
-        Some(Kind::Send) => entry.reply != REFUSED && entry.call.a0 < u64::from(count),
+    match entry.call.kind {
+        Kind::Send => entry.reply != REFUSED && entry.call.a0 < u64::from(count),
         _ => false,
     }
 }
@@ -24,9 +24,9 @@ pub fn is_sent(entry: &EntryView<'_>, count: u32) -> bool
 pub fn is_taken(entry: &EntryView<'_>) -> bool
     ensures { result ≡ is_taken_of (entry_of entry.now) }
 {
-    match Kind::from_number(entry.call.kind) {
-        Some(Kind::Recv) => entry.reply != REFUSED,
-        Some(Kind::TryRecv) => entry.reply != REFUSED && entry.reply != NONE_THERE,
+    match entry.call.kind {
+        Kind::Recv => entry.reply != REFUSED,
+        Kind::TryRecv => entry.reply != REFUSED && entry.reply != NONE_THERE,
         _ => false,
     }
 }
@@ -36,8 +36,8 @@ pub fn is_taken(entry: &EntryView<'_>) -> bool
 pub fn drawn(entry: &EntryView<'_>) -> usize
     ensures { result ≡ drawn_of (entry_of entry.now) }
 {
-    match Kind::from_number(entry.call.kind) {
-        Some(Kind::Random) if entry.reply != REFUSED => entry.incoming.len(),
+    match entry.call.kind {
+        Kind::Random if entry.reply != REFUSED => entry.incoming.len(),
         _ => 0,
     }
 }
@@ -47,8 +47,8 @@ pub fn drawn(entry: &EntryView<'_>) -> usize
 pub fn printed<'a>(entry: &EntryView<'a>) -> &'a [u8]
     ensures { result.now ≡ printed_of (entry_of entry.now) }
 {
-    match Kind::from_number(entry.call.kind) {
-        Some(Kind::Print) => entry.outgoing,
+    match entry.call.kind {
+        Kind::Print => entry.outgoing,
         _ => &[],
     }
 }

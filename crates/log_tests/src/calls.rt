@@ -3,10 +3,7 @@ ghost use Rattle.std.specs.Prelude.{◌≡◌};
 
 use guest_memory::Memory;
 use lamport_tag::Tag;
-use lib_calls::{
-    Call, EntryView, Signature, good_arguments, kind_of, name_of, outgoing, signature_of,
-    write_back,
-};
+use lib_calls::{Call, EntryView, Kind, Signature, good_arguments, outgoing, write_back};
 use std::alloc::AllocError;
 use std::test::Fail;
 
@@ -16,7 +13,7 @@ const RECV: Signature = Signature {
     result: 32,
 };
 
-fn call(kind: u8, a0: u64, a1: u64, a2: u64) -> Call
+fn call(kind: Kind, a0: u64, a1: u64, a2: u64) -> Call
     ensures { result ≡ record { kind = kind; a0 = a0; a1 = a1; a2 = a2 } }
 {
     Call { kind, a0, a1, a2 }
@@ -30,7 +27,7 @@ fn receive(
     incoming: &[u8],
     sender: u32,
 ) -> Result<bool, AllocError> {
-    let call = call(9, u64::from(ptr), 8, u64::from(from));
+    let call = call(Kind::Recv, u64::from(ptr), 8, u64::from(from));
     if !good_arguments(&call, memory) {
         return Ok(false);
     }
@@ -53,22 +50,23 @@ fn receive(
 
 #[test]
 fn calls_have_names_and_signatures(rt: HostRuntime) {
-    assert_eq!(rt; kind_of(b"recv"), Some(9));
-    assert_eq!(rt; kind_of(b"Recv"), None);
-    assert_eq!(rt; name_of(9), Some("recv"));
-    assert_eq!(rt; name_of(18), None);
-    assert_eq!(rt; signature_of(9), Some(RECV));
-    assert_eq!(rt; signature_of(18), None);
+    assert_eq!(rt; Kind::from_name(b"recv"), Some(Kind::Recv));
+    assert_eq!(rt; Kind::from_name(b"Recv"), None);
+    assert_eq!(rt; Kind::from_number(9), Some(Kind::Recv));
+    assert_eq!(rt; Kind::from_number(18), None);
+    assert_eq!(rt; Kind::Recv.number(), 9);
+    assert_eq!(rt; Kind::Recv.name(), "recv");
+    assert_eq!(rt; Kind::Recv.signature(), RECV);
 }
 
 #[test]
 fn calls_name_bytes_and_are_answered(rt: HostRuntime) -> Result<(), Fail> {
     let mut memory = Memory::new(rt.alloc(), 1, 1)?;
-    assert!(rt; good_arguments(&call(8, 9, 65_535, 1), &memory));
-    assert!(rt; !good_arguments(&call(8, 9, 65_536, 1), &memory));
+    assert!(rt; good_arguments(&call(Kind::Send, 9, 65_535, 1), &memory));
+    assert!(rt; !good_arguments(&call(Kind::Send, 9, 65_536, 1), &memory));
     // The bytes are in two pages of 4,096 bytes.
     assert!(rt; memory.write(4094, b"print")?);
-    let printed = outgoing(rt.alloc(), &call(3, 4094, 5, 0), &memory)?;
+    let printed = outgoing(rt.alloc(), &call(Kind::Print, 4094, 5, 0), &memory)?;
     assert_eq!(rt; printed.as_slice(), b"print".as_slice());
     // The sender stands over the payload.
     assert!(rt; receive(&mut memory, 2, 0, b"abc", 0x0102_0304)?);

@@ -4,7 +4,7 @@ ghost use Rattle.lib_calls.specs.Entry.{IsShaped, entry_of};
 
 use call_log::{LogHead, LogView, Version, entry_length, put_entry, put_head, rewrite};
 use lamport_tag::Tag;
-use lib_calls::{Call, EntryView};
+use lib_calls::{Call, EntryView, Kind};
 use std::alloc::{AllocError, Global};
 use std::test::Fail;
 
@@ -21,7 +21,7 @@ const LOG_TWO: &[u8; 37] = b"LLOG\x02\0\0\0\x01\0\0\0\0\0\0\0\x01a\
       \x06\x01\0\x02\0\x05\0";
 
 // The kind, the argument and the reply of each of its entries.
-const ENTRIES: &[(u8, u64, u64)] = &[(0, 0, 0), (4, 0, 5), (2, 5, 0)];
+const ENTRIES: &[(Kind, u64, u64)] = &[(Kind::Begin, 0, 0), (Kind::Now, 0, 5), (Kind::Note, 5, 0)];
 
 const TAG: Option<Tag> = Some(Tag {
     sender: 1,
@@ -60,7 +60,6 @@ const NO_KIND: &[u8; 66] = b"LLOG\x01\0\0\0\x01\0\0\0\0\0\0\0\x01a\
       \x14\0\0\0\x02\0\0\0\0\0\0\0\0\0\x12\0\0\0\0\0\0\0\0\0";
 
 // The entry of a recv that took these bytes.
-#[tactic(auto, unfolding(lib_calls::specs::Kinds::argument_count, lib_calls::specs::Kinds::has_incoming, lib_calls::specs::Kinds::has_outgoing, lib_calls::specs::Kinds::has_tag, call_table::specs::Table::kind_numbered))]
 fn received(incoming: &[u8], tag: Option<Tag>) -> EntryView<'_>
     requires { length incoming.now < 2 ^ 31 }
     ensures { IsShaped (entry_of result) }
@@ -70,7 +69,7 @@ fn received(incoming: &[u8], tag: Option<Tag>) -> EntryView<'_>
         thread: 2,
         signal: 0,
         call: Call {
-            kind: 9,
+            kind: Kind::Recv,
             a0: 64,
             a1: 8,
             a2: 32,
@@ -83,7 +82,6 @@ fn received(incoming: &[u8], tag: Option<Tag>) -> EntryView<'_>
 }
 
 // The entry of a send of these bytes.
-#[tactic(auto, unfolding(lib_calls::specs::Kinds::argument_count, lib_calls::specs::Kinds::has_incoming, lib_calls::specs::Kinds::has_outgoing, lib_calls::specs::Kinds::has_tag, call_table::specs::Table::kind_numbered))]
 fn sent(outgoing: &[u8]) -> EntryView<'_>
     requires { length outgoing.now < 2 ^ 31 }
     ensures { IsShaped (entry_of result) }
@@ -93,7 +91,7 @@ fn sent(outgoing: &[u8]) -> EntryView<'_>
         thread: 2,
         signal: 5,
         call: Call {
-            kind: 8,
+            kind: Kind::Send,
             a0: 1,
             a1: 64,
             a2: outgoing.len() as u64,

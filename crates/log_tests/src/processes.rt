@@ -2,7 +2,7 @@
 use crate::recorded::valid;
 use coop_threads::Status;
 use guest_process::{End, Need, Process};
-use lib_calls::{Call, EntryView};
+use lib_calls::{Call, EntryView, Kind};
 use std::alloc::{AllocError, Global};
 use std::process::Abort;
 use std::test::Fail;
@@ -16,17 +16,17 @@ const GUEST: &[u8] = b"\0asm\x01\0\0\0\x01\x15\x05`\0\x01~`\x01~\0`\0\x01\x7f`\x
     \x0a\x1b\x01\x19\0\x10\0$\0A\x10#\07\x03\0#\0\x10\x01\x10\x02\x1aA\x09\x10\x03\x1a\x0b";
 
 // An event: the kind of the call, its argument, the reply, what that depends on, and the global then.
-type Event = (u8, u64, u64, Need, u64);
+type Event = (Kind, u64, u64, Need, u64);
 
 const EVENTS: &[Event] = &[
-    (0, 0, 0, Need::Fixed(0), 7),
-    (4, 0, 5, Need::World, 5),
-    (2, 5, 0, Need::Fixed(0), 5),
-    (7, 0, 1, Need::Fixed(1), 5),
+    (Kind::Begin, 0, 0, Need::Fixed(0), 7),
+    (Kind::Now, 0, 5, Need::World, 5),
+    (Kind::Note, 5, 0, Need::Fixed(0), 5),
+    (Kind::Me, 0, 1, Need::Fixed(1), 5),
 ];
 
 const LOCK: Call = Call {
-    kind: 14,
+    kind: Kind::Lock,
     a0: 9,
     a1: 0,
     a2: 0,

@@ -2,6 +2,7 @@
 use crate::recorded::valid;
 use call_log::LogView;
 use guest_process::Process;
+use lib_calls::Kind;
 use proc_replay::{Replayer, Turn};
 use std::alloc::{AllocError, Global};
 use std::test::Fail;
@@ -29,7 +30,7 @@ fn begin<'m, 'a>(
 }
 
 // The kind of the call whose event the turn makes.
-fn kind_of(turn: Turn<'_>) -> Option<u8> {
+fn kind_of(turn: Turn<'_>) -> Option<Kind> {
     match turn {
         Turn::Event(entry) => Some(entry.call.kind),
         Turn::LogEnd | Turn::Diverged(..) => None,
@@ -37,7 +38,7 @@ fn kind_of(turn: Turn<'_>) -> Option<u8> {
 }
 
 // The kind of the call whose event comes next, how many bytes are unread, and the process.
-type Shown = (Option<u8>, u64, u32);
+type Shown = (Option<Kind>, u64, u32);
 
 fn shown(replayer: &Replayer<'_, '_>) -> Shown {
     (
@@ -63,6 +64,6 @@ fn copied(alloc: Global, module: &ValidModule) -> Result<(Shown, u64), Fail> {
 fn a_copy_takes_the_same_turn(rt: HostRuntime) -> Result<(), Fail> {
     let module = valid(rt.alloc(), GUEST)?;
     let (copied, unread) = copied(rt.alloc(), &module)?;
-    assert_eq!(rt; copied, (Some(0), unread, 0));
+    assert_eq!(rt; copied, (Some(Kind::Begin), unread, 0));
     Ok(())
 }

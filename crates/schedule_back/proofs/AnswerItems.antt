@@ -1,9 +1,8 @@
 -- What the items before a try do to a group at rest: one of them brings what the answer takes, and one the signal.
-use Rattle.std.proofs.Common.{◌≡◌, ℕ, suc, ◌<◌, ◌^◌, Bool, true, false, ◌&&◌, not, cond, List, [], ◌∷◌, ◌++◌, length, take, Option, Some, None, refl, ap, sym, subst, ◌∙◌}
+use Rattle.std.proofs.Common.{◌≡◌, ℕ, suc, ◌<◌, ◌^◌, Bool, true, false, ◌&&◌, not, cond, List, [], ◌∷◌, ◌++◌, length, take, None, refl, ap, sym, subst, ◌∙◌}
 use Rattle.std.specs.Prelude.{◌==◌}
 use Rattle.std.specs.Int.{w64, cast_signed, cast_unsigned}
 use Rattle.std.proofs.lemmas.Int.{of_z-to_z}
-use Rattle.call_table.specs.Table.{kind_numbered}
 use Rattle.call_table.specs.declared.kind.Kind.{Kind}
 use Rattle.call_table.specs.declared.kind.Kind.TheVariants.{Now, SleepUntil, Random as RandomCall, Recv, TryRecv}
 use Rattle.lib_calls.specs.declared.entry.Entry.{Entry}
@@ -40,11 +39,11 @@ pub record IsPrepared (group : GroupStart) (count : ℕ) (steps : List RunStep) 
   pub comes : Comes group steps items after
   pub given : IsGiven count (history_of_steps after) p e
 
-taken_by : (e : Entry) (k : Option Kind) → kind_numbered e.call.kind ≡ k → is_taken e ≡ takes_as k e
+taken_by : (e : Entry) (k : Kind) → e.call.kind ≡ k → is_taken e ≡ takes_as k e
 unfolding is_taken
 taken_by e k is = ap (λ k. takes_as k e) is
 
-drawn_by : (e : Entry) (k : Option Kind) → kind_numbered e.call.kind ≡ k → drawn e ≡ draws_as k e
+drawn_by : (e : Entry) (k : Kind) → e.call.kind ≡ k → drawn e ≡ draws_as k e
 unfolding drawn
 drawn_by e k is = ap (λ k. draws_as k e) is
 
@@ -52,18 +51,18 @@ module _ (group : GroupStart) (count : ℕ) (steps : List RunStep) (p : ℕ) (e 
   Prepared : List Item → Type 0
   Prepared items = IsPrepared group count steps p e items
 
-  prepared_nothing : is_taken e ≡ false → drawn e ≡ 0 → ((env : Env) → env.mailbox ≡ [] → WorldBrings (kind_numbered e.call.kind) (answer_of e) env)
+  prepared_nothing : is_taken e ≡ false → drawn e ≡ 0 → ((env : Env) → env.mailbox ≡ [] → WorldBrings e.call.kind (answer_of e) env)
       → IsPrepared group count steps p e []
   prepared_nothing taken drew brings = record { after = steps; comes = stays group steps; given = given_nothing count (history_of_steps steps) p e quiet taken drew brings }
 
-  by_kind : (k : Option Kind) → kind_numbered e.call.kind ≡ k → (env : Env) → WorldBrings k (answer_of e) env → WorldBrings (kind_numbered e.call.kind) (answer_of e) env
-  by_kind k is env brings = subst (λ (k : Option Kind). WorldBrings k (answer_of e) env) (sym is) brings
+  by_kind : (k : Kind) → e.call.kind ≡ k → (env : Env) → WorldBrings k (answer_of e) env → WorldBrings e.call.kind (answer_of e) env
+  by_kind k is env brings = subst (λ (k : Kind). WorldBrings k (answer_of e) env) (sym is) brings
 
   -- the kinds that take nothing
-  plain : (k : Option Kind) → kind_numbered e.call.kind ≡ k → takes_as k e ≡ false → draws_as k e ≡ 0 → ((env : Env) → WorldBrings k (answer_of e) env) → IsPrepared group count steps p e []
+  plain : (k : Kind) → e.call.kind ≡ k → takes_as k e ≡ false → draws_as k e ≡ 0 → ((env : Env) → WorldBrings k (answer_of e) env) → IsPrepared group count steps p e []
   plain k is taken drew brings = prepared_nothing (taken_by e k is ∙ taken) (drawn_by e k is ∙ drew) (λ env box. by_kind k is env (brings env))
 
-  timed : (k : Option Kind) → kind_numbered e.call.kind ≡ k → takes_as k e ≡ false → draws_as k e ≡ 0 → ((env : Env) → env.time ≡ e.reply → WorldBrings k (answer_of e) env)
+  timed : (k : Kind) → e.call.kind ≡ k → takes_as k e ≡ false → draws_as k e ≡ 0 → ((env : Env) → env.time ≡ e.reply → WorldBrings k (answer_of e) env)
       → IsPrepared group count steps p e (item.Clock p (cast_signed w64 e.reply) ∷ [])
   timed k is taken drew brings =
       let value = cast_unsigned w64 (cast_signed w64 e.reply) in
@@ -74,25 +73,25 @@ module _ (group : GroupStart) (count : ℕ) (steps : List RunStep) (p : ℕ) (e 
             (λ env time. by_kind k is env (brings env (time ∙ of_z-to_z w64 e.reply small)));
       }
 
-  random : kind_numbered e.call.kind ≡ Some RandomCall → IsPrepared group count steps p e (random_items p e)
+  random : e.call.kind ≡ RandomCall → IsPrepared group count steps p e (random_items p e)
   random is = by_test (e.reply == minus_one) refl where
     by_test : (bad : Bool) → (e.reply == minus_one) ≡ bad → IsPrepared group count steps p e (cond bad [] (item.Random p e.incoming ∷ []))
     by_test true bad =
-        prepared_nothing (taken_by e (Some RandomCall) is) (drawn_by e (Some RandomCall) is ∙ ap (λ b. cond b 0 (length e.incoming)) bad)
-        (λ env box. by_kind (Some RandomCall) is env (subst (λ b. HoldsUnless b (take (length e.incoming) env.pool ≡ e.incoming)) (sym bad) tt))
+        prepared_nothing (taken_by e RandomCall is) (drawn_by e RandomCall is ∙ ap (λ b. cond b 0 (length e.incoming)) bad)
+        (λ env box. by_kind RandomCall is env (subst (λ b. HoldsUnless b (take (length e.incoming) env.pool ≡ e.incoming)) (sym bad) tt))
     by_test false good = record {
       after = Did (Random p e.incoming) ∷ steps;
       comes = record { moves = λ rest n. (suc n, refl); states = λ q. refl; logs = λ q. refl };
-      given = given_bytes count (history_of_steps steps) p e e.incoming quiet (taken_by e (Some RandomCall) is)
-          (drawn_by e (Some RandomCall) is ∙ ap (λ b. cond b 0 (length e.incoming)) good)
-          (λ env pool. by_kind (Some RandomCall) is env (subst (λ b. HoldsUnless b (take (length e.incoming) env.pool ≡ e.incoming)) (sym good) (ap (take (length e.incoming)) pool ∙ whole e.incoming)));
+      given = given_bytes count (history_of_steps steps) p e e.incoming quiet (taken_by e RandomCall is)
+          (drawn_by e RandomCall is ∙ ap (λ b. cond b 0 (length e.incoming)) good)
+          (λ env pool. by_kind RandomCall is env (subst (λ b. HoldsUnless b (take (length e.incoming) env.pool ≡ e.incoming)) (sym good) (ap (take (length e.incoming)) pool ∙ whole e.incoming)));
     } where
       whole : (xs : List ℕ) → take (length xs) xs ≡ xs
       whole [] = refl
       whole (x ∷ xs) = ap (λ ys. x ∷ ys) (whole xs)
 
   -- the kinds that take datagrams: where one was taken it comes from outside
-  datagrams : (k : Option Kind) → kind_numbered e.call.kind ≡ k → draws_as k e ≡ 0
+  datagrams : (k : Kind) → e.call.kind ≡ k → draws_as k e ≡ 0
       → (takes_as k e ≡ false → (env : Env) → env.mailbox ≡ [] → WorldBrings k (answer_of e) env)
       → (takes_as k e ≡ true → (env : Env) → env.mailbox ≡ datagram_as e.tag e.incoming ∷ [] → WorldBrings k (answer_of e) env)
       → IsPrepared group count steps p e (datagram_items p e)
@@ -138,12 +137,12 @@ module _ (group : GroupStart) (count : ℕ) (steps : List RunStep) (p : ℕ) (e 
     by_test false false some = first env box
 
   -- whatever the kind, the items of the world bring what the answer takes
-  pub prepared : (k : Option Kind) → kind_numbered e.call.kind ≡ k → IsPrepared group count steps p e (world_items k p e)
-  prepared (Some Now) is = timed (Some Now) is refl refl (λ env time. time)
-  prepared (Some SleepUntil) is = timed (Some SleepUntil) is refl refl (λ env time. time)
-  prepared (Some RandomCall) is = random is
-  prepared (Some Recv) is = datagrams (Some Recv) is refl (λ none env box. recv_none none env) (λ some env box. recv_some env box)
-  prepared (Some TryRecv) is = datagrams (Some TryRecv) is refl (λ none env box. try_none none env box) (λ some env box. try_some some env box)
+  pub prepared : (k : Kind) → e.call.kind ≡ k → IsPrepared group count steps p e (world_items k p e)
+  prepared Now is = timed Now is refl refl (λ env time. time)
+  prepared SleepUntil is = timed SleepUntil is refl refl (λ env time. time)
+  prepared RandomCall is = random is
+  prepared Recv is = datagrams Recv is refl (λ none env box. recv_none none env) (λ some env box. recv_some env box)
+  prepared TryRecv is = datagrams TryRecv is refl (λ none env box. try_none none env box) (λ some env box. try_some some env box)
   prepared k is = plain k is refl refl (λ env. tt)
 
 -- ---- the signal
@@ -151,7 +150,7 @@ module _ (group : GroupStart) (count : ℕ) (steps : List RunStep) (p : ℕ) (e 
 -- the items before the try make steps after which all that the event takes is there
 pub record AreReady (group : GroupStart) (count : ℕ) (steps : List RunStep) (p : ℕ) (e : Entry) : Type 0 where
   pub after : List RunStep
-  pub comes : Comes group steps (world_items (kind_numbered e.call.kind) p e ++ signal_items p e) after
+  pub comes : Comes group steps (world_items e.call.kind p e ++ signal_items p e) after
   pub ready : IsReady count (history_of_steps after) p e
 
 signalled : (group : GroupStart) (count : ℕ) (steps : List RunStep) (p : ℕ) (e : Entry) → IsGiven count (history_of_steps steps) p e
@@ -182,10 +181,10 @@ then_comes group steps between after first second one other = record {
 
 pub are_ready : (group : GroupStart) (count : ℕ) (steps : List RunStep) (p : ℕ) (e : Entry) → AreQuiet count (history_of_steps steps) → e.reply < 2 ^ 64 → AreReady group count steps p e
 are_ready group count steps p e quiet small =
-    let world = prepared group count steps p e quiet small (kind_numbered e.call.kind) refl in
+    let world = prepared group count steps p e quiet small e.call.kind refl in
     let signal = signalled group count world.after p e world.given in
     record {
       after = signal.0;
-      comes = then_comes group steps world.after signal.0 (world_items (kind_numbered e.call.kind) p e) (signal_items p e) world.comes signal.1;
+      comes = then_comes group steps world.after signal.0 (world_items e.call.kind p e) (signal_items p e) world.comes signal.1;
       ready = signal.2;
     }

@@ -8,7 +8,6 @@ use Rattle.call_log.specs.Entry.{encodings}
 use Rattle.call_log.specs.Head.{head_bytes}
 use Rattle.call_log.specs.Limits.{most_log}
 use Rattle.call_log.specs.declared.version.Version.TheVariants.{Two}
-use Rattle.call_table.specs.Table.{kind_numbered}
 use Rattle.guest_process.specs.Live.{Env, Event, live}
 use Rattle.guest_process.specs.Next.{next}
 use Rattle.guest_process.specs.OneEvent.{Possible}
@@ -104,7 +103,7 @@ module _ (possible : Possible) (start : List Replaying) (group : GroupStart) (k 
   moves : Moves group steps (items_of p x) after
   moves rest n =
       let first = ready.comes.moves (item.Run p x.thread 1 ∷ rest) n in
-      let world = world_items (kind_numbered x.call.kind) p x in
+      let world = world_items x.call.kind p x in
       let signal = signal_items p x in
       let same : (world ++ (signal ++ item.Run p x.thread 1 ∷ [])) ++ rest ≡ (world ++ signal) ++ (item.Run p x.thread 1 ∷ rest) =
       regroup world (signal ++ item.Run p x.thread 1 ∷ []) rest ∙ ap (λ l. world ++ l) (regroup signal (item.Run p x.thread 1 ∷ []) rest) ∙ sym (regroup world signal (item.Run p x.thread 1 ∷ rest)) in

@@ -10,7 +10,6 @@ use borrow.Author.Gap.{read_sfits}
 use Rattle.fri_bytes.specs.Laws.{AreBytes}
 use Rattle.lamport_tag.specs.declared.Tag.{Tag}
 use Rattle.lamport_tag.specs.Tag.{magic, tag_bytes}
-use Rattle.call_table.specs.Table.{kind_numbered}
 use Rattle.call_table.specs.declared.kind.Kind.{Kind}
 use Rattle.call_table.specs.declared.kind.Kind.TheVariants.{Now, SleepUntil, Random as RandomCall, Recv, TryRecv}
 use Rattle.lib_calls.specs.declared.entry.Entry.{Entry}
@@ -88,12 +87,12 @@ module _ (count : ℕ) (e : NodeEvent Entry) (r : IsRanged count e) where
     by_test true = ((r.process, datagram_bytes e.entry.tag e.entry.incoming r.incoming), tt)
     by_test false = tt
 
-  world_in : (k : Option Kind) → Ranged (world_items k e.node e.entry)
-  world_in (Some Now) = clock_in
-  world_in (Some SleepUntil) = clock_in
-  world_in (Some RandomCall) = random_in
-  world_in (Some Recv) = datagram_in
-  world_in (Some TryRecv) = datagram_in
+  world_in : (k : Kind) → Ranged (world_items k e.node e.entry)
+  world_in Now = clock_in
+  world_in SleepUntil = clock_in
+  world_in RandomCall = random_in
+  world_in Recv = datagram_in
+  world_in TryRecv = datagram_in
   world_in k = tt
 
   signal_in : Ranged (signal_items e.node e.entry)
@@ -114,7 +113,7 @@ module _ (count : ℕ) (e : NodeEvent Entry) (r : IsRanged count e) where
 
   pub items_in : All (IsInRange count) (items_of e.node e.entry)
   items_in =
-      let k = kind_numbered e.entry.call.kind in
+      let k = e.entry.call.kind in
       let world = world_items k e.node e.entry in
       let signal = signal_items e.node e.entry in
       All-from_recursion (IsInRange count) (items_of e.node e.entry) (append_in world (signal ++ item.Run e.node e.entry.thread 1 ∷ []) (world_in k) (append_in signal (item.Run e.node e.entry.thread 1 ∷ []) signal_in run_in))
@@ -123,7 +122,7 @@ module _ (count : ℕ) (e : NodeEvent Entry) (r : IsRanged count e) where
 
 one_try : (p : ℕ) (e : Entry) → run_count (items_of p e) ≡ 1
 one_try p e =
-    let k = kind_numbered e.call.kind in
+    let k = e.call.kind in
     let last = item.Run p e.thread 1 ∷ [] in
     sum_by-append tries (world_items k p e) (signal_items p e ++ last)
     ∙ ap (λ n. n + run_count (signal_items p e ++ last)) (no_world k)
@@ -136,12 +135,12 @@ one_try p e =
       no_datagram true = refl
       no_datagram false = refl
 
-      no_world : (k : Option Kind) → run_count (world_items k p e) ≡ 0
-      no_world (Some Now) = refl
-      no_world (Some SleepUntil) = refl
-      no_world (Some RandomCall) = no_random (e.reply == minus_one)
-      no_world (Some Recv) = no_datagram (is_taken e)
-      no_world (Some TryRecv) = no_datagram (is_taken e)
+      no_world : (k : Kind) → run_count (world_items k p e) ≡ 0
+      no_world Now = refl
+      no_world SleepUntil = refl
+      no_world RandomCall = no_random (e.reply == minus_one)
+      no_world Recv = no_datagram (is_taken e)
+      no_world TryRecv = no_datagram (is_taken e)
       no_world k = refl
 
       no_signal : run_count (signal_items p e) ≡ 0

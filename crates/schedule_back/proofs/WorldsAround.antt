@@ -6,7 +6,6 @@ use Rattle.std.proofs.Math.Seq.{drop-append_seam}
 use Rattle.lib_calls.specs.declared.entry.Entry.{Entry}
 use Rattle.lib_calls.specs.Answer.{answer_of}
 use Rattle.lib_calls.specs.Traffic.{drawn, is_taken}
-use Rattle.call_table.specs.Table.{kind_numbered}
 use Rattle.guest_process.specs.Live.{Env}
 use Rattle.guest_process.specs.OneEvent.{WorldBrings, WorldSupplies}
 use Rattle.group_record.specs.Run.{RunStep, history_of_steps, world_around}
@@ -45,7 +44,7 @@ pub record IsGiven (count : ℕ) (h : History) (p : ℕ) (e : Entry) : Type 0 wh
   pub signals : (s : ℕ) → 1 ≤ s → is_pending h p s ≡ false
   pub alive : is_killed h p ≡ false
   pub others : OthersQuiet count h p
-  pub brings : (env : Env) → env.mailbox ≡ mailbox count h p → env.pool ≡ pool h p → env.time ≡ time h p → WorldBrings (kind_numbered e.call.kind) (answer_of e) env
+  pub brings : (env : Env) → env.mailbox ≡ mailbox count h p → env.pool ≡ pool h p → env.time ≡ time h p → WorldBrings e.call.kind (answer_of e) env
 
 -- and of the signals that one is pending which the event delivers
 pub record IsReady (count : ℕ) (h : History) (p : ℕ) (e : Entry) : Type 0 where
@@ -162,7 +161,7 @@ no_more n = omega arith
 
 -- nothing
 pub given_nothing : (count : ℕ) (h : History) (p : ℕ) (e : Entry) → AreQuiet count h → is_taken e ≡ false → drawn e ≡ 0
-    → ((env : Env) → env.mailbox ≡ [] → WorldBrings (kind_numbered e.call.kind) (answer_of e) env) → IsGiven count h p e
+    → ((env : Env) → env.mailbox ≡ [] → WorldBrings e.call.kind (answer_of e) env) → IsGiven count h p e
 given_nothing count h p e quiet taken drew brings =
     let q = quiet p in
     record {
@@ -176,7 +175,7 @@ given_nothing count h p e quiet taken drew brings =
 
 -- the wall time
 pub given_time : (count : ℕ) (h : History) (p : ℕ) (e : Entry) (value : ℕ) → AreQuiet count h → is_taken e ≡ false → drawn e ≡ 0
-    → ((env : Env) → env.time ≡ value → WorldBrings (kind_numbered e.call.kind) (answer_of e) env) → IsGiven count (Clock p value ∷ h) p e
+    → ((env : Env) → env.time ≡ value → WorldBrings e.call.kind (answer_of e) env) → IsGiven count (Clock p value ∷ h) p e
 given_time count h p e value quiet taken drew brings =
     let q = quiet p in
     record {
@@ -190,7 +189,7 @@ given_time count h p e value quiet taken drew brings =
 
 -- random bytes
 pub given_bytes : (count : ℕ) (h : History) (p : ℕ) (e : Entry) (bytes : List ℕ) → AreQuiet count h → is_taken e ≡ false → drawn e ≡ length bytes
-    → ((env : Env) → env.pool ≡ bytes → WorldBrings (kind_numbered e.call.kind) (answer_of e) env) → IsGiven count (Random p bytes ∷ h) p e
+    → ((env : Env) → env.pool ≡ bytes → WorldBrings e.call.kind (answer_of e) env) → IsGiven count (Random p bytes ∷ h) p e
 given_bytes count h p e bytes quiet taken drew brings =
     let q = quiet p in
     let all : supplied_bytes (Random p bytes ∷ h) p ≡ supplied_bytes h p ++ bytes = ap (λ b. if b then supplied_bytes h p ++ bytes else supplied_bytes h p) (itself p) in
@@ -210,7 +209,7 @@ given_bytes count h p e bytes quiet taken drew brings =
 
 -- a datagram
 pub given_datagram : (count : ℕ) (h : History) (p : ℕ) (e : Entry) (datagram : List ℕ) → AreQuiet count h → is_taken e ≡ true → drawn e ≡ 0
-    → ((env : Env) → env.mailbox ≡ datagram ∷ [] → WorldBrings (kind_numbered e.call.kind) (answer_of e) env) → IsGiven count (Inject p datagram ∷ h) p e
+    → ((env : Env) → env.mailbox ≡ datagram ∷ [] → WorldBrings e.call.kind (answer_of e) env) → IsGiven count (Inject p datagram ∷ h) p e
 given_datagram count h p e datagram quiet taken drew brings =
     let q = quiet p in
     let all : given count (Inject p datagram ∷ h) p ≡ given count h p ++ datagram ∷ [] = ap (λ b. put_last_if b (given count h p) datagram) (itself p) in

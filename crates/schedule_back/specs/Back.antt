@@ -1,8 +1,7 @@
 -- The schedule that records to the logs of a group: for each event, in the order of all, what brings about its answer and
 -- its signal, and then one try of its thread.
-use Rattle.std.specs.Prelude.{ℕ, ◌==◌, if◌then◌else◌, List, [], ◌∷◌, ◌++◌, Option, Some, flat_map}
+use Rattle.std.specs.Prelude.{ℕ, ◌==◌, if◌then◌else◌, List, [], ◌∷◌, ◌++◌, flat_map}
 use Rattle.std.specs.Int.{w64, cast_signed}
-use Rattle.call_table.specs.Table.{kind_numbered}
 use Rattle.call_table.specs.declared.kind.Kind.{Kind}
 use Rattle.call_table.specs.declared.kind.Kind.TheVariants.{Now, SleepUntil, Random as RandomCall, Recv, TryRecv}
 use Rattle.lib_calls.specs.declared.entry.Entry.{Entry}
@@ -27,12 +26,12 @@ random_items p e = if e.reply == minus_one then [] else Random p e.incoming ∷ 
 
 -- what the answer to a call of this kind takes of the world around process p: the wall time, random bytes,
 -- or a datagram
-abbrev pub world_items : Option Kind → ℕ → Entry → List Item
-world_items (Some Now) p e = Clock p (cast_signed w64 e.reply) ∷ []
-world_items (Some SleepUntil) p e = Clock p (cast_signed w64 e.reply) ∷ []
-world_items (Some RandomCall) p e = random_items p e
-world_items (Some Recv) p e = datagram_items p e
-world_items (Some TryRecv) p e = datagram_items p e
+abbrev pub world_items : Kind → ℕ → Entry → List Item
+world_items Now p e = Clock p (cast_signed w64 e.reply) ∷ []
+world_items SleepUntil p e = Clock p (cast_signed w64 e.reply) ∷ []
+world_items RandomCall p e = random_items p e
+world_items Recv p e = datagram_items p e
+world_items TryRecv p e = datagram_items p e
 world_items _ p e = []
 
 -- the signal that the event delivered
@@ -41,7 +40,7 @@ signal_items p e = if e.signal == 0 then [] else Signal p e.signal ∷ []
 
 -- what brings an event of process p about
 abbrev pub items_of : ℕ → Entry → List Item
-items_of p e = world_items (kind_numbered e.call.kind) p e ++ (signal_items p e ++ (Run p e.thread 1 ∷ []))
+items_of p e = world_items e.call.kind p e ++ (signal_items p e ++ (Run p e.thread 1 ∷ []))
 
 -- the schedule of these events, whose nodes are the processes of these lines
 abbrev pub schedule_of_events : List ProcessLine → List (NodeEvent Entry) → Schedule

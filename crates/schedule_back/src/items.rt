@@ -1,7 +1,6 @@
 // What brings an event about.
 ghost use Rattle.std.specs.Prelude.{◌≡◌, ◌++◌, flat_map, IfOk, OnOk};
 ghost use Rattle.std.specs.Option.{option_to_list};
-ghost use Rattle.call_table.specs.Table.{kind_numbered};
 ghost use Rattle.lib_calls.specs.Entry.{entry_of};
 ghost use Rattle.guest_process.specs.OneEvent.{datagram_as};
 ghost use Rattle.schedule_text.specs.Text.{item_text};
@@ -63,15 +62,15 @@ fn world_item(
     process: u32,
     entry: &EntryView<'_>,
 ) -> Result<Option<Item>, AllocError>
-    ensures { IfOk result (λ item. option_to_list item ≡ world_items (kind_numbered entry.now.call.kind) process (entry_of entry.now)) }
+    ensures { IfOk result (λ item. option_to_list item ≡ world_items entry.now.call.kind process (entry_of entry.now)) }
 {
-    match Kind::from_number(entry.call.kind) {
-        Some(Kind::Now | Kind::SleepUntil) => Ok(Some(Item::Clock {
+    match entry.call.kind {
+        Kind::Now | Kind::SleepUntil => Ok(Some(Item::Clock {
             process,
             value: entry.reply.cast_signed(),
         })),
-        Some(Kind::Random) => random_item(alloc, process, entry),
-        Some(Kind::Recv | Kind::TryRecv) => datagram_item(alloc, process, entry),
+        Kind::Random => random_item(alloc, process, entry),
+        Kind::Recv | Kind::TryRecv => datagram_item(alloc, process, entry),
         _ => Ok(None),
     }
 }

@@ -39,7 +39,7 @@ is_of_node (Some wanted) n = wanted == n
 
 abbrev pub is_of_kind : Option Kind → Entry → Bool
 is_of_kind None e = true
-is_of_kind (Some kind) e = e.call.kind == (row kind).number
+is_of_kind (Some kind) e = (row e.call.kind).number == (row kind).number
 
 abbrev pub is_event_of_kind : Option ℕ → Option Kind → Option (NodeEvent Entry) → Bool
 is_event_of_kind of_node kind None = false

@@ -24,7 +24,7 @@ fn is_of(node: Option<u32>, kind: Option<Kind>, event: &GroupEvent<'_>) -> bool
         None => true,
     };
     let of_kind = match kind {
-        Some(wanted) => event.entry.call.kind == wanted.number(),
+        Some(wanted) => event.entry.call.kind.number() == wanted.number(),
         None => true,
     };
     of_node && of_kind

@@ -1,7 +1,5 @@
 -- The world around a process of a recorder, and what a call gets from it.
-use Rattle.std.specs.Prelude.{ℕ, Bool, List, Option, Some, None, option_and_then}
-use Rattle.std.specs.Option.{option_map_or}
-use Rattle.call_table.specs.Table.{kind_numbered}
+use Rattle.std.specs.Prelude.{ℕ, Bool, List, Option, Some, None}
 use Rattle.lamport_tag.specs.declared.Tag.{Tag}
 use Rattle.lib_calls.specs.declared.entry.Call.{Call}
 use Rattle.lib_calls.specs.Answer.{Answer}
@@ -29,9 +27,9 @@ env_of w p = record {
 abbrev pub seen_datagram : Front → Option Tag × List ℕ
 seen_datagram front = (front.tag, front.payload.now)
 
--- the answer of the world to a call, which tells its kind by number
+-- the answer of the world to a call
 abbrev pub world_gives : Call → ℕ → Env → Option Answer
-world_gives c count env = option_and_then (λ kind. world_answer kind c count env) (kind_numbered c.kind)
+world_gives c count env = world_answer c.kind c count env
 
 -- the answer to a call, where it is given now
 abbrev pub answer_by : Need → Call → ℕ → Env → Option Answer
@@ -45,4 +43,4 @@ handlers_at S t a = (answered_at S t a (thread_at S t)).handlers
 
 -- the signal that is delivered with this answer to a call of thread t
 abbrev pub signal_with_answer : State → ℕ → Answer → Call → (ℕ → Bool) → ℕ
-signal_with_answer S t a c pending = option_map_or (λ kind. chosen_signal kind (handlers_at S t a) pending) (kind_numbered c.kind) 0
+signal_with_answer S t a c pending = chosen_signal c.kind (handlers_at S t a) pending

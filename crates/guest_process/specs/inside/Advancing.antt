@@ -1,5 +1,5 @@
 -- Inside: the parts of an event in the order in which the code makes them, which no law and no public call speaks of.
-use Rattle.std.specs.Prelude.{ℕ, Option, Some, option_map}
+use Rattle.std.specs.Prelude.{ℕ}
 use Rattle.call_table.specs.declared.kind.Kind.{Kind}
 use Rattle.call_table.specs.declared.kind.Kind.TheVariants.{Spawn, Lock, Unlock, OnSignal}
 use Rattle.lib_calls.specs.declared.entry.Call.{Call}
@@ -10,24 +10,20 @@ use Rattle.guest_process.specs.declared.waiting.Waiting.{Waiting}
 use Rattle.guest_process.specs.Answers.{after_need, handled, locked, narrow, spawned, unlocked, with_answer}
 use Rattle.guest_process.specs.GoesOn.{runs_handled}
 use Rattle.guest_process.specs.Kinds.{reply_value}
-use Rattle.guest_process.specs.State.{State, thread_at}
+use Rattle.guest_process.specs.State.{State}
 
 -- the state after an answer, but for the end of a thread that calls `exit`
-abbrev pub acted_on_answer : Option Kind → State → ℕ → Call → Answer → State
-acted_on_answer (Some Spawn) S t c a = after_need (spawned S (narrow c.a0) (narrow c.a1)) S
-acted_on_answer (Some Lock) S t c a = after_need (locked S (narrow c.a0) t) S
-acted_on_answer (Some Unlock) S t c a = after_need (unlocked S (narrow c.a0) t) S
-acted_on_answer (Some OnSignal) S t c a = after_need (handled S (narrow c.a0) (narrow c.a1)) S
+abbrev pub acted_on_answer : Kind → State → ℕ → Call → Answer → State
+acted_on_answer Spawn S t c a = after_need (spawned S (narrow c.a0) (narrow c.a1)) S
+acted_on_answer Lock S t c a = after_need (locked S (narrow c.a0) t) S
+acted_on_answer Unlock S t c a = after_need (unlocked S (narrow c.a0) t) S
+acted_on_answer OnSignal S t c a = after_need (handled S (narrow c.a0) (narrow c.a1)) S
 acted_on_answer _ S t c a = with_answer S c a
 
 -- the state once the thread of an entry went on, from one in which it was taken out and its answer has had its effects
 abbrev pub thread_gone_on : State → Waiting → Entry → State
-thread_gone_on S w e = runs_handled S e.thread (answered_strand w.strand (reply_value w.kind e.reply)) e.signal
-
--- the kind of the call at which it is
-abbrev pub pending_kind : State → ℕ → Option Kind
-pending_kind S t = option_map (λ w. w.kind) (thread_at S t)
+thread_gone_on S w e = runs_handled S e.thread (answered_strand w.strand (reply_value w.call.kind e.reply)) e.signal
 
 -- the state after what the answer does, but for the end of a thread that calls `exit`
 abbrev pub acted_by_entry : State → Entry → State
-acted_by_entry S e = acted_on_answer (pending_kind S e.thread) S e.thread e.call (answer_of e)
+acted_by_entry S e = acted_on_answer e.call.kind S e.thread e.call (answer_of e)

@@ -1,7 +1,7 @@
 use Rattle.std.proofs.Common.{◌≡◌, ℕ, ◌≤◌, ◌&&◌, cond, eqb, leb, true, List, length, Some, refl, sym, ap, ◌∙◌}
 use Rattle.std.proofs.lemmas.Bool.{le-leb}
 use Rattle.std.proofs.lemmas.Bool.Decides.{Decides-eqb}
-use Rattle.call_table.specs.Table.{kind_numbered}
+use Rattle.call_table.specs.declared.kind.Kind.TheVariants.{Recv}
 use Rattle.guest_memory.specs.Memory.{Memory}
 use Rattle.lib_calls.specs.Answer.{Answer}
 use Rattle.lib_calls.specs.declared.entry.Call.{Call}
@@ -9,7 +9,7 @@ use Rattle.lib_calls.specs.Effects.{is_answer, is_good, minus_one, takes_nothing
 use Rattle.log_tests.proofs.calls.receive.Goals as goal
 
 abbrev recv : ℕ → ℕ → Call
-recv ptr from = record { kind = 9; a0 = ptr; a1 = 8; a2 = from }
+recv ptr from = record { kind = Recv; a0 = ptr; a1 = 8; a2 = from }
 
 abbrev taken : ℕ → List ℕ → Answer
 taken sender incoming = record { reply = length incoming; incoming = incoming; tag = Some (record { sender = sender; clock = 1 }) }
@@ -18,7 +18,7 @@ counted : (n : ℕ) → n ≤ 8 → (eqb n n && leb n 8) ≡ true
 counted n few = rw ((Decides-eqb n n).1 refl, le-leb n 8 few) refl
 
 answered : (ptr from sender : ℕ) (incoming : List ℕ) (memory : Memory) → length incoming ≤ 8 → is_good (recv ptr from) memory ≡ true → is_answer (recv ptr from) (taken sender incoming) memory ≡ true
-unfolding is_answer is_good kind_numbered
+unfolding is_answer is_good
 answered ptr from sender incoming memory few good =
     ap (λ b. cond b (eqb (length incoming) (length incoming) && leb (length incoming) 8) (takes_nothing minus_one (taken sender incoming))) good
     ∙ counted (length incoming) few

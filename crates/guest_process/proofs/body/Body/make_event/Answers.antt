@@ -10,7 +10,6 @@ use Rattle.guest_process.specs.Kinds.{reply_value}
 use Rattle.guest_process.specs.inside.Meanings.{state_of}
 use Rattle.guest_process.specs.Sound.{StandsAtKind}
 use Rattle.guest_process.specs.State.{awaits_event, thread_at, with_thread}
-use Rattle.guest_process.specs.inside.Advancing.{pending_kind}
 use Rattle.guest_process.proofs.EventCode.{acted_events, acted_handlers, acted_module, exits, goes, goes_out, is_out, stands_at, still_live, taken_is}
 use Rattle.guest_process.proofs.LegalEntries.{is_answer_of}
 use Rattle.guest_process.proofs.body.Body.make_event.Goals as goal
@@ -23,13 +22,13 @@ pub unreachable-requires : goal.unreachable-requires
 unreachable-requires c =
     let S = state_of c.args.self.now in
     let e = entry_of c.args.entry.now in
-    still_live S e (pending_kind S e.thread) c.requires.legal (ap (λ S'. thread_at S' e.thread) (sym c.in_ok-act.ensures.state) ∙ sym c.take.ensures.value ∙ c.in_default.is)
+    still_live S e c.requires.legal (ap (λ S'. thread_at S' e.thread) (sym c.in_ok-act.ensures.state) ∙ sym c.take.ensures.value ∙ c.in_default.is)
 
 pub overflow_add-self : goal.overflow_add-self
 overflow_add-self c =
     let S = state_of c.args.self.now in
     let e = entry_of c.args.entry.now in
-    let same = ap (λ S'. S'.events) c.in_ok-act.ensures.state ∙ acted_events S e (pending_kind S e.thread) in
+    let same = ap (λ S'. S'.events) c.in_ok-act.ensures.state ∙ acted_events S e in
     omega (arith, same, c.requires.few)
 
 pub exit-requires : goal.exit-requires
@@ -44,12 +43,12 @@ returns-then-ends_process-clause-state c =
     let e = entry_of c.args.entry.now in
     let w = c.in-Some.waiting in
     let after = c.in_ok-act.ensures.state in
-    let at = taken_is S e (pending_kind S e.thread) w c.requires.legal (ap (λ S'. thread_at S' e.thread) (sym after) ∙ sym c.take.ensures.value ∙ c.in-Some.is) in
+    let at = taken_is S e w c.requires.legal (ap (λ S'. thread_at S' e.thread) (sym after) ∙ sym c.take.ensures.value ∙ c.in-Some.is) in
     let ends = sym c.ends_process.ensures ∙ c.if-ends_process.true in
     ap awaits_event (c.exit.ensures.state
     ∙ ap (λ crew. exited_process (with_event_counted (record S' { crew = crew }) e.thread e.clock) e.thread w.call.a0) c.in-Some.ensures.some
     ∙ ap (λ S'. exited_process (with_event_counted (with_thread S' e.thread Lent) e.thread e.clock) e.thread w.call.a0) after)
-    ∙ exits S e w c.requires.process.fits c.requires.legal at ends
+    ∙ exits S e w c.requires.legal at ends
 
 pub go_on-requires-clause-taken : goal.go_on-requires-clause-taken
 go_on-requires-clause-taken c =
@@ -61,7 +60,7 @@ go_on-requires-clause-same_module c =
     let S = state_of c.args.self.now in
     let e = entry_of c.args.entry.now in
     let after = c.in_ok-act.ensures.state in
-    let same = sym (acted_module S e (pending_kind S e.thread)) ∙ ap (λ S'. S'.store.«module») (sym after) in
+    let same = sym (acted_module S e) ∙ ap (λ S'. S'.store.«module») (sym after) in
     subst (λ r. module_of r.now ≡ S.store.«module») (sym c.in_ok-act.ensures.same_module) c.requires.process.same_module ∙ same
 
 pub go_on-requires-clause-same : goal.go_on-requires-clause-same
@@ -70,9 +69,9 @@ go_on-requires-clause-same c =
     let e = entry_of c.args.entry.now in
     let w = c.in-Some.waiting in
     let after = c.in_ok-act.ensures.state in
-    let at = taken_is S e (pending_kind S e.thread) w c.requires.legal (ap (λ S'. thread_at S' e.thread) (sym after) ∙ sym c.take.ensures.value ∙ c.in-Some.is) in
+    let at = taken_is S e w c.requires.legal (ap (λ S'. thread_at S' e.thread) (sym after) ∙ sym c.take.ensures.value ∙ c.in-Some.is) in
     (stands_at S e.thread w c.requires.process.sound.threads at).same_module
-    ∙ sym (acted_module S e (pending_kind S e.thread))
+    ∙ sym (acted_module S e)
     ∙ ap (λ S'. S'.store.«module») (sym after)
 
 pub go_on-requires-clause-stands : goal.go_on-requires-clause-stands
@@ -81,18 +80,17 @@ go_on-requires-clause-stands c =
     let e = entry_of c.args.entry.now in
     let w = c.in-Some.waiting in
     let after = c.in_ok-act.ensures.state in
-    let at = taken_is S e (pending_kind S e.thread) w c.requires.legal (ap (λ S'. thread_at S' e.thread) (sym after) ∙ sym c.take.ensures.value ∙ c.in-Some.is) in
+    let at = taken_is S e w c.requires.legal (ap (λ S'. thread_at S' e.thread) (sym after) ∙ sym c.take.ensures.value ∙ c.in-Some.is) in
     let is = stands_at S e.thread w c.requires.process.sound.threads at in
-    subst (λ m. StandsAtKind m w w.kind) (sym is.same_module) is.stands
+    subst (λ m. StandsAtKind m w w.call.kind) (sym is.same_module) is.stands
 
 pub go_on-requires-clause-handlers : goal.go_on-requires-clause-handlers
 go_on-requires-clause-handlers c = λ signal func h.
     let S = state_of c.args.self.now in
     let e = entry_of c.args.entry.now in
     let after = c.in_ok-act.ensures.state in
-    let o = pending_kind S e.thread in
-    let is = acted_handlers S e o c.requires.process.sound.handlers signal func (ap (λ S'. handler S'.handlers signal) (sym after) ∙ h) in
-    subst (λ m. IsHandler m func) (sym (acted_module S e o) ∙ ap (λ S'. S'.store.«module») (sym after)) is
+    let is = acted_handlers S e c.requires.process.sound.handlers signal func (ap (λ S'. handler S'.handlers signal) (sym after) ∙ h) in
+    subst (λ m. IsHandler m func) (sym (acted_module S e) ∙ ap (λ S'. S'.store.«module») (sym after)) is
 
 pub returns-clause-state : goal.returns-clause-state
 returns-clause-state c =
@@ -101,9 +99,9 @@ returns-clause-state c =
     let e = entry_of c.args.entry.now in
     let w = c.in-Some.waiting in
     let after = c.in_ok-act.ensures.state in
-    let at = taken_is S e (pending_kind S e.thread) w c.requires.legal (ap (λ S'. thread_at S' e.thread) (sym after) ∙ sym c.take.ensures.value ∙ c.in-Some.is) in
+    let at = taken_is S e w c.requires.legal (ap (λ S'. thread_at S' e.thread) (sym after) ∙ sym c.take.ensures.value ∙ c.in-Some.is) in
     let ends = sym c.ends_process.ensures ∙ c.if-ends_process.false in
     ap awaits_event (c.in_ok-go_on.ensures.state
-    ∙ ap (λ crew. runs_handled (with_event_counted (record S' { crew = crew }) e.thread e.clock) e.thread (answered_strand w.strand (reply_value w.kind e.reply)) e.signal) c.in-Some.ensures.some
-    ∙ ap (λ S'. goes_out w.kind S' e.thread w.strand e.reply e.signal e.clock) after)
-    ∙ goes S e w c.requires.process.fits c.requires.legal at ends
+    ∙ ap (λ crew. runs_handled (with_event_counted (record S' { crew = crew }) e.thread e.clock) e.thread (answered_strand w.strand (reply_value w.call.kind e.reply)) e.signal) c.in-Some.ensures.some
+    ∙ ap (λ S'. goes_out w.call.kind S' e.thread w.strand e.reply e.signal e.clock) after)
+    ∙ goes S e w c.requires.legal at ends
