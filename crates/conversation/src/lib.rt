@@ -1,6 +1,6 @@
 //! A conversation: a session that answers lines is read from a terminal, and each line is answered before more is asked for.
 //!
-//! A session is whatever answers lines (`LineSession`): a text, and whether it goes on. `converse` prints the opening, takes the input
+//! A session is whatever answers lines (`LineSession`): what it says (`Saying`), and whether it goes on. `converse` prints the opening, takes the input
 //! as it comes and answers each whole line of a piece before it asks for the next piece. It ends after a line that ends the session,
 //! at the end of the input, whose last line is answered too, or where 16,777,216 bytes were read and none of their lines ends the
 //! session.
@@ -15,7 +15,9 @@
 
 mod conversing;
 pub mod laws;
+mod saying;
 mod session;
 
 pub use conversing::converse;
+pub use saying::Saying;
 pub use session::{Go, LineSession};
