@@ -240,41 +240,49 @@ fn process_of_item(item: &Item) -> u32
 fn ended(told: Told, full: bool, name: &[u8]) -> Result<Saying, AllocError>
     ensures { IfOk result (λ said. said ≡ told.text ++ (if full then full_line name.now else counts_line told.acted told.idle)) }
 {
-    if full {
-        let mut text = told.text;
-        text.push_str("full ")?;
-        text.push_bytes(name)?;
-        text.push_str("\n")?;
-        return Ok(Saying::made(text));
+    if !full {
+        return counted(told);
     }
-    match usual_line(&told) {
-        Some(line) => Ok(Saying::fixed(line)),
-        None => Ok(Saying::made(counted(told)?)),
-    }
+    let mut text = told.text;
+    text.push_str("full ")?;
+    text.push_bytes(name)?;
+    text.push_str("\n")?;
+    Ok(Saying::made(text))
 }
 
-// What was told, and the counts, where no event was told and one try was idle or one item acted.
-fn usual_line(told: &Told) -> Option<&'static str>
-    ensures { IfSome result (λ line. line.now ≡ told.now.text ++ counts_line told.now.acted told.now.idle) }
+// What was told of an item, and its counts.
+fn counted(told: Told) -> Result<Saying, AllocError>
+    ensures { IfOk result (λ said. said ≡ told.text ++ counts_line told.acted told.idle) }
 {
-    if !told.text.bytes().is_empty() {
-        return None;
+    let mut text = told.text;
+    let Some(line) = usual_counts(told.acted, told.idle) else {
+        push_counts(&mut text, told.acted, told.idle)?;
+        return Ok(Saying::made(text));
+    };
+    if text.bytes().is_empty() {
+        return Ok(Saying::fixed(line));
     }
-    match (told.acted, told.idle) {
+    text.push_str(line)?;
+    Ok(Saying::made(text))
+}
+
+// The line of the counts, where it is that of most items.
+fn usual_counts(acted: u64, idle: u64) -> Option<&'static str>
+    ensures { IfSome result (λ line. line.now ≡ counts_line acted idle) }
+{
+    match (acted, idle) {
         (0, 1) => Some("0 acted, 1 idle\n"),
         (1, 0) => Some("1 acted, 0 idle\n"),
         _ => None,
     }
 }
 
-// What was told, and the counts.
-fn counted(told: Told) -> Result<Text, AllocError>
-    ensures { IfOk result (λ text. text ≡ told.text ++ counts_line told.acted told.idle) }
+// Adds the line of any counts.
+fn push_counts(text: &mut Text, acted: u64, idle: u64) -> Result<(), AllocError>
+    ensures { OnOk result (text.new ≡ text.old ++ counts_line acted idle) }
 {
-    let mut text = told.text;
-    text.push_u64(told.acted)?;
+    text.push_u64(acted)?;
     text.push_str(" acted, ")?;
-    text.push_u64(told.idle)?;
-    text.push_str(" idle\n")?;
-    Ok(text)
+    text.push_u64(idle)?;
+    text.push_str(" idle\n")
 }
