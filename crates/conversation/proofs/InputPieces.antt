@@ -1,8 +1,7 @@
 -- Bytes after bytes, and the pieces of an input, as a session takes them.
-use Rattle.std.proofs.Common.{◌≡◌, ℕ, ◌+◌, ◌≤◌, ◌||◌, Bool, true, false, List, [], ◌∷◌, ◌++◌, length, take, drop, Option, None, Some, refl, sym, ap, subst, ◌∙◌, append_assoc, append-nil, length-append, arith, inl, inr}
-use Rattle.std.specs.Prelude.{Err, Ok, if◌then◌else◌}
+use Rattle.std.proofs.Common.{◌≡◌, ℕ, ◌+◌, ◌≤◌, ◌||◌, Bool, true, false, List, [], ◌∷◌, ◌++◌, length, take, Option, None, Some, refl, sym, ap, subst, ◌∙◌, append_assoc, append-nil, length-append, arith, inl, inr}
+use Rattle.std.specs.Prelude.{Err, Ok, Result, if◌then◌else◌}
 use Rattle.std.specs.Io.KnownBytes.{append_known}
-use Rattle.std.proofs.lemmas.List.{take-append-drop}
 use Rattle.std.proofs.Math.Seq.{take-append-add}
 use Rattle.fri_outside.specs.Outside.{WhenTold}
 use Rattle.fri_outside.specs.Terminal.{Asking, Hearing, given_in_askings, with_asking}
@@ -20,7 +19,7 @@ use Rattle.conversation.specs.Lines.{early_lines, whole_lines}
 use Rattle.conversation.specs.Outcome.{conversation_outcome, is_large_input}
 use Rattle.conversation.specs.Talker.{Answered, AnswersSo, Talker, answers_of_lines, ends_in_lines, ends_session, is_quit, spoken_text, talker_of}
 use Rattle.conversation.specs.inside.Reader.{CameInTurn, NotesPiece, PrintsPart, SaidOfInput, SaysSome, SessionBreaks, SessionConcludes, SessionGoesOn, SessionHolds, SessionReader, SessionStands, SessionStops, SessionStopsIn, SpokeLines, StopsAtPiece, WasTold, ended_by, exchange_of, state_after_lines}
-use Rattle.conversation.proofs.WholeLines.{few_lines-open, lines_of-open, session_more}
+use Rattle.conversation.proofs.WholeLines.{FrontsText, after-append, answers-append, answers-ended, answers_front, ends-append, ends-front, lines_of-open, session_more}
 use Rattle.conversation.proofs.PrintedSoFar.{append_none, append_twice, fits_short, overruns_more, part_more, quits_more, take_front}
 
 -- ---- bytes after bytes
@@ -43,21 +42,26 @@ module _ {X S : Type 0} (stands : X → S → Type 0) (answer : S → List ℕ �
   goes_on_more a b before mid now reader here next first second = λ opening state printed taken s.
       subst (SessionStands stands (talker_of opening state answer) printed now next) (append_assoc taken a b) (second opening state printed (taken ++ a) (first opening state printed taken s))
 
-  pub stops_later : (a b more : List ℕ) (before mid now : Option (List ℕ)) (reader here : SessionReader X) (why : Ended)
-      → SessionGoesOn stands answer a before mid reader here → SessionStopsIn stands answer b mid now here why → SessionStopsIn stands answer ((a ++ b) ++ more) before now reader why
+  -- it stops in bytes after others, or in others before them
+  pub stops_after : (a b : List ℕ) (before mid now : Option (List ℕ)) (reader here : SessionReader X) (why : Ended)
+      → SessionGoesOn stands answer a before mid reader here → SessionStopsIn stands answer b mid now here why → SessionStopsIn stands answer (a ++ b) before now reader why
   unfolding SessionGoesOn SessionStopsIn
-  stops_later a b more before mid now reader here why first second = (
+  stops_after a b before mid now reader here why first second = (
     second.0,
     λ opening state printed taken s.
-        let talker = talker_of opening state answer in
-        let there = second.1 opening state printed (taken ++ a) (first opening state printed taken s) in
-        let longer = stops_more talker printed now ((taken ++ a) ++ b) more why there in
-        subst (λ (l : List ℕ). SessionStops talker printed now l why) (ap (λ (l : List ℕ). l ++ more) (append_assoc taken a b) ∙ append_assoc taken (a ++ b) more) longer,
+        subst (λ (l : List ℕ). SessionStops (talker_of opening state answer) printed now l why) (append_assoc taken a b) (second.1 opening state printed (taken ++ a) (first opening state printed taken s)),
   )
 
--- a byte of a piece, and what is before and after it
-pub piece_split : (piece : List ℕ) (i b : ℕ) → take (i + 1) piece ≡ take i piece ++ b ∷ [] → (take i piece ++ b ∷ []) ++ drop (i + 1) piece ≡ piece
-piece_split piece i b e = ap (λ (l : List ℕ). l ++ drop (i + 1) piece) (sym e) ∙ take-append-drop (i + 1) piece
+  pub stops_before : (a b : List ℕ) (before now : Option (List ℕ)) (reader : SessionReader X) (why : Ended)
+      → SessionStopsIn stands answer a before now reader why → SessionStopsIn stands answer (a ++ b) before now reader why
+  unfolding SessionStopsIn
+  stops_before a b before now reader why first = (
+    first.0,
+    λ opening state printed taken s.
+        let talker = talker_of opening state answer in
+        let longer = stops_more talker printed now (taken ++ a) b why (first.1 opening state printed taken s) in
+        subst (λ (l : List ℕ). SessionStops talker printed now l why) (append_assoc taken a b) longer,
+  )
 
 -- ---- pieces
 
@@ -164,7 +168,7 @@ module _ {X S : Type 0} (stands : X → S → Type 0) (talker : Talker S) (print
   last_state = state_after_lines talker.answer talker.state (whole_lines taken)
 
   abbrev pub last_lines : List (List ℕ)
-  last_lines = take 1 (lines_of reader.begun)
+  last_lines = lines_of reader.begun
 
   within : length taken ≤ most_input
   within = omega (arith, s.count_is, s.within)
@@ -173,7 +177,7 @@ module _ {X S : Type 0} (stands : X → S → Type 0) (talker : Talker S) (print
   fits = fits_short most_input talker taken within
 
   lines : lines_of taken ≡ whole_lines taken ++ last_lines
-  lines = lines_of-open taken reader.begun s.whole ∙ ap (λ (l : List (List ℕ)). whole_lines taken ++ l) (sym (few_lines-open reader.begun s.open_line))
+  lines = lines_of-open taken reader.begun s.whole
 
   text_is : spoken_text talker (lines_of taken) ≡ spoken_text talker (whole_lines taken) ++ answers_of_lines talker.answer last_state last_lines
   text_is = ap (spoken_text talker) lines ∙ session_more talker (whole_lines taken) last_lines s.goes_on
@@ -241,32 +245,27 @@ module _ {X S : Type 0} (stands : X → S → Type 0) (talker : Talker S) (print
 
 -- ---- a line that was answered
 
-module _ {X S : Type 0} (stands : X → S → Type 0) (answer : S → List ℕ → Answered S) (session : X) (bytes line : List ℕ) (rest : List (List ℕ)) (is : lines_of bytes ≡ line ∷ rest) (old new : Option (List ℕ)) where
-  first_line : take 1 (lines_of bytes) ≡ line ∷ []
-  first_line = ap (take 1) is
-
+module _ {X S : Type 0} (stands : X → S → Type 0) (answer : S → List ℕ → Answered S) (session : X) (line : List ℕ) (old new : Option (List ℕ)) where
   whole_answer : (state : S) (quits : Bool) → (answer state line).quits ≡ quits → answers_of_lines answer state (line ∷ []) ≡ (answer state line).text
   whole_answer state true quits = ap (λ (q : Bool). (answer state line).text ++ (if q then [] else [])) quits ∙ append-nil (answer state line).text
   whole_answer state false quits = ap (λ (q : Bool). (answer state line).text ++ (if q then [] else [])) quits ∙ append-nil (answer state line).text
 
   -- the session goes on
   pub told_on : (next : X) (text : List ℕ) (goes : Go) → ((state : S) → stands session state → AnswersSo (answer state line) (stands next) text goes) → is_quit goes ≡ false → new ≡ append_known old text
-      → WasTold stands answer session (take 1 (lines_of bytes)) old new (Ok next)
+      → WasTold stands answer session (line ∷ []) old new (Ok next)
   unfolding WasTold
   told_on next text goes said on printed = λ state stood.
       let a = said state stood in
       let quits : (answer state line).quits ≡ false = sym a.quits_is ∙ on in
-      subst (λ (ls : List (List ℕ)). (new ≡ append_known old (answers_of_lines answer state ls)) × ((ends_in_lines answer state ls ≡ false) × stands next (state_after_lines answer state ls))) (sym first_line)
       (printed ∙ ap (append_known old) (a.text_is ∙ sym (whole_answer state false quits)), (ap (λ (q : Bool). q || false) quits, a.stands_in))
 
   -- it ends
   pub told_last : (next : X) (text : List ℕ) (goes : Go) → ((state : S) → stands session state → AnswersSo (answer state line) (stands next) text goes) → is_quit goes ≡ true → new ≡ append_known old text
-      → WasTold stands answer session (take 1 (lines_of bytes)) old new (Err cause.Done)
+      → WasTold stands answer session (line ∷ []) old new (Err cause.Done)
   unfolding WasTold
   told_last next text goes said over printed = λ state stood.
       let a = said state stood in
       let quits : (answer state line).quits ≡ true = sym a.quits_is ∙ over in
-      subst (λ (ls : List (List ℕ)). (new ≡ append_known old (answers_of_lines answer state ls)) × (ends_in_lines answer state ls ≡ true)) (sym first_line)
       (printed ∙ ap (append_known old) (a.text_is ∙ sym (whole_answer state true quits)), ap (λ (q : Bool). q || false) quits)
 
   spoke_part : (state : S) (n : ℕ) (text : List ℕ) → text ≡ (answer state line).text → new ≡ append_known old (take n text) → PrintsPart answer state (line ∷ []) old new
@@ -274,13 +273,13 @@ module _ {X S : Type 0} (stands : X → S → Type 0) (answer : S → List ℕ �
       let f = take_front n (answer state line).text (answers_of_lines answer state (line ∷ [])) (if (answer state line).quits then [] else [], refl) in
       (f.0, e ∙ ap (λ (t : List ℕ). append_known old (take n t)) said ∙ ap (append_known old) f.1)
 
-  spoke_by : (state : S) (e : WriteError) → PrintsPart answer state (line ∷ []) old new → SpokeLines stands answer state (take 1 (lines_of bytes)) old new (Err (ended_by e))
-  spoke_by state writing.Failed part = subst (λ (l : List (List ℕ)). PrintsPart answer state l old new) (sym first_line) part
-  spoke_by state writing.NoMemory part = subst (λ (l : List (List ℕ)). PrintsPart answer state l old new) (sym first_line) part
+  spoke_by : (state : S) (e : WriteError) → PrintsPart answer state (line ∷ []) old new → SpokeLines stands answer state (line ∷ []) old new (Err (ended_by e))
+  spoke_by state writing.Failed part = part
+  spoke_by state writing.NoMemory part = part
 
   -- the answer could not be said whole
   pub told_part : (next : X) (text : List ℕ) (goes : Go) (n : ℕ) (e : WriteError) → ((state : S) → stands session state → AnswersSo (answer state line) (stands next) text goes) → new ≡ append_known old (take n text)
-      → WasTold stands answer session (take 1 (lines_of bytes)) old new (Err (ended_by e))
+      → WasTold stands answer session (line ∷ []) old new (Err (ended_by e))
   unfolding WasTold
   told_part next text goes n e said printed = λ state stood.
       let a = said state stood in spoke_by state e (spoke_part state n text a.text_is printed)
@@ -296,8 +295,66 @@ module _ {X S : Type 0} (stands : X → S → Type 0) (answer : S → List ℕ �
   told_nothing lines printed = λ state stood. spoke_nothing state lines printed
 
   -- there was no line
-  pub told_none : (lines : List (List ℕ)) (printed : Option (List ℕ)) → lines ≡ [] → WasTold stands answer session lines printed printed (Ok session)
+  pub told_none : (printed : Option (List ℕ)) → WasTold stands answer session [] printed printed (Ok session)
   unfolding WasTold
-  told_none lines printed none = λ state stood.
-      subst (λ (ls : List (List ℕ)). (printed ≡ append_known printed (answers_of_lines answer state ls)) × ((ends_in_lines answer state ls ≡ false) × stands session (state_after_lines answer state ls))) (sym none)
-      (sym (append_none printed), (refl, stood))
+  told_none printed = λ state stood. (sym (append_none printed), (refl, stood))
+
+-- ---- lines that were answered
+
+module _ {X S : Type 0} (stands : X → S → Type 0) (answer : S → List ℕ → Answered S) (session : X) (front behind : List (List ℕ)) (old mid : Option (List ℕ)) where
+  -- a part of the answers, of which these are the front
+  front_part : (state : S) (whole : List (List ℕ)) (now : Option (List ℕ)) → FrontsText (answers_of_lines answer state front) (answers_of_lines answer state whole) → PrintsPart answer state front old now → PrintsPart answer state whole old now
+  front_part state whole now f p =
+      let k = take_front p.0 (answers_of_lines answer state front) (answers_of_lines answer state whole) f in
+      (k.0, p.1 ∙ ap (append_known old) k.1)
+
+  later_part : (state : S) (now : Option (List ℕ)) → ends_in_lines answer state front ≡ false → mid ≡ append_known old (answers_of_lines answer state front)
+      → PrintsPart answer (state_after_lines answer state front) behind mid now → PrintsPart answer state (front ++ behind) old now
+  later_part state now on said p =
+      let first = answers_of_lines answer state front in
+      let later = answers_of_lines answer (state_after_lines answer state front) behind in (
+        length first + p.0,
+        p.1 ∙ ap (λ (k : Option (List ℕ)). append_known k (take p.0 later)) said
+            ∙ append_twice old first (take p.0 later)
+            ∙ ap (append_known old) (sym (take-append-add first later p.0) ∙ ap (take (length first + p.0)) (sym (answers-append answer state front behind on))),
+      )
+
+  later_text : (state : S) (now : Option (List ℕ)) → ends_in_lines answer state front ≡ false → mid ≡ append_known old (answers_of_lines answer state front)
+      → now ≡ append_known mid (answers_of_lines answer (state_after_lines answer state front) behind) → now ≡ append_known old (answers_of_lines answer state (front ++ behind))
+  later_text state now on said e =
+      let first = answers_of_lines answer state front in
+      let later = answers_of_lines answer (state_after_lines answer state front) behind in
+      e ∙ ap (λ (k : Option (List ℕ)). append_known k later) said ∙ append_twice old first later ∙ ap (append_known old) (sym (answers-append answer state front behind on))
+
+  spoke_more : (state : S) (now : Option (List ℕ)) (result : Result X Ended) → ends_in_lines answer state front ≡ false → mid ≡ append_known old (answers_of_lines answer state front)
+      → SpokeLines stands answer (state_after_lines answer state front) behind mid now result → SpokeLines stands answer state (front ++ behind) old now result
+  spoke_more state now (Ok next) on said spoke = (
+    later_text state now on said spoke.0,
+    (ends-append answer state front behind on ∙ spoke.1.0, subst (stands next) (sym (after-append answer state front behind)) spoke.1.1),
+  )
+  spoke_more state now (Err cause.Done) on said spoke = (later_text state now on said spoke.0, ends-append answer state front behind on ∙ spoke.1)
+  spoke_more state now (Err cause.TooLarge) on said spoke = spoke
+  spoke_more state now (Err cause.ReadFault) on said spoke = spoke
+  spoke_more state now (Err cause.WriteFault) on said spoke = later_part state now on said spoke
+  spoke_more state now (Err cause.NoMemory) on said spoke = later_part state now on said spoke
+
+  -- lines were answered after these
+  pub told_more : (here : X) (now : Option (List ℕ)) (result : Result X Ended) → WasTold stands answer session front old mid (Ok here) → WasTold stands answer here behind mid now result
+      → WasTold stands answer session (front ++ behind) old now result
+  unfolding WasTold
+  told_more here now result first second = λ state stood.
+      let f = first state stood in
+      spoke_more state now result f.1.0 f.0 (second (state_after_lines answer state front) f.1.1)
+
+  spoke_ended : (state : S) (why : Ended) → SpokeLines stands answer state front old mid (Err why) → SpokeLines stands answer state (front ++ behind) old mid (Err why)
+  spoke_ended state cause.Done spoke =
+      (spoke.0 ∙ ap (append_known old) (sym (answers-ended answer state front behind spoke.1)), ends-front answer state front behind spoke.1)
+  spoke_ended state cause.TooLarge spoke = spoke
+  spoke_ended state cause.ReadFault spoke = spoke
+  spoke_ended state cause.WriteFault spoke = front_part state (front ++ behind) mid (answers_front answer state front behind) spoke
+  spoke_ended state cause.NoMemory spoke = front_part state (front ++ behind) mid (answers_front answer state front behind) spoke
+
+  -- the session stopped in these
+  pub told_stopped : (why : Ended) → WasTold stands answer session front old mid (Err why) → WasTold stands answer session (front ++ behind) old mid (Err why)
+  unfolding WasTold
+  told_stopped why first = λ state stood. spoke_ended state why (first state stood)

@@ -1,5 +1,5 @@
 -- What a session has printed where bytes are taken, and its outcome then.
-use Rattle.std.proofs.Common.{◌≡◌, ℕ, ◌+◌, ◌-◌, ◌≤◌, ◌<◌, Bool, true, false, List, [], ◌∷◌, ◌++◌, length, take, Option, Some, None, refl, sym, ap, subst, ◌∙◌, append_assoc, append-nil, length-append, arith, inl, inr}
+use Rattle.std.proofs.Common.{◌≡◌, ℕ, ◌+◌, ◌-◌, ◌≤◌, ◌<◌, Bool, true, false, List, [], ◌++◌, length, take, Option, Some, None, refl, sym, ap, subst, ◌∙◌, append_assoc, append-nil, length-append, arith, inl, inr}
 use Rattle.std.specs.Prelude.{◌&&◌, not, nat_lt, if◌then◌else◌, Ok, Err}
 use Rattle.std.specs.List.{list_any}
 use Rattle.std.specs.Io.KnownBytes.{append_known}
@@ -14,7 +14,7 @@ use Rattle.conversation.specs.Lines.{early_lines, whole_lines, whole_part}
 use Rattle.conversation.specs.Outcome.{conversation_outcome, input_name, is_large_input, spoken_work}
 use Rattle.conversation.specs.Talker.{Talker, answers_of_lines, ends_in_lines, ends_session, spoken_text}
 use Rattle.conversation.specs.inside.Reader.{PrintsPart, InputOverruns, SessionQuits, SaysPart, SessionStands, SessionReader, state_after_lines}
-use Rattle.conversation.proofs.WholeLines.{Fronts, FrontsText, after-append, ends-append, has_feed-append, ends_fronts, few_lines-ended, lines_front, session_ended, session_front, session_more, whole_lines-ended, whole_lines-same, whole_lines_front, whole_part-append_none, whole_part-ended}
+use Rattle.conversation.proofs.WholeLines.{Fronts, FrontsText, IsWhole, after-append, ends-append, has_feed-append, ends_fronts, lines_front, session_ended, session_front, session_more, whole_lines-ended, whole_lines-same, whole_lines_front, whole_part-append_none, whole_part-append_some}
 
 -- ---- what a sink took
 
@@ -114,102 +114,104 @@ overruns_more talker printed now got more o = record {
   text = λ rest. o.text (more ++ rest) ∙ ap (λ (l : List ℕ). append_known printed (spoken_text talker (early_lines l))) (sym (append_assoc got more rest));
 }
 
--- ---- a byte is taken
+-- ---- bytes are taken
 
--- one more byte of the line that has begun
-abbrev pub with_byte : {X : Type 0} → SessionReader X → ℕ → SessionReader X
-with_byte reader b = record { session = reader.session; begun = reader.begun ++ b ∷ []; count = reader.count + 1 }
+-- more bytes of the line that has begun
+abbrev pub with_bytes : {X : Type 0} → SessionReader X → List ℕ → SessionReader X
+with_bytes reader bytes = record { session = reader.session; begun = reader.begun ++ bytes; count = reader.count + length bytes }
 
--- the byte that ends it, and its answer
-abbrev pub at_line_end : {X : Type 0} → SessionReader X → X → SessionReader X
-at_line_end reader next = record { session = next; begun = []; count = reader.count + 1 }
+-- bytes that end it, and what answered the lines that they end
+abbrev pub at_line_end : {X : Type 0} → SessionReader X → List ℕ → X → SessionReader X
+at_line_end reader bytes next = record { session = next; begun = []; count = reader.count + length bytes }
 
 -- what was printed so far
 pub part_so_far : {X S : Type 0} (stands : X → S → Type 0) (talker : Talker S) (printed now : Option (List ℕ)) (reader : SessionReader X) (taken : List ℕ) → SessionStands stands talker printed now reader taken → SaysPart talker printed now taken
 part_so_far stands talker printed now reader taken s = part_of talker printed now taken (length (spoken_text talker (whole_lines taken))) (omega (arith, s.count_is, s.within))
     (s.text ∙ ap (append_known printed) (sym (take-length (spoken_text talker (whole_lines taken)))))
 
-module _ {X S : Type 0} (stands : X → S → Type 0) (talker : Talker S) (printed now : Option (List ℕ)) (reader : SessionReader X) (taken : List ℕ) (s : SessionStands stands talker printed now reader taken) (b : ℕ) where
-  -- a byte that ends no line
-  pub stands_other : is_line_feed b ≡ false → reader.count < most_input → SessionStands stands talker printed now (with_byte reader b) (taken ++ b ∷ [])
-  stands_other other room =
-      let none : list_any is_line_feed (b ∷ []) ≡ false = rw other refl in
-      let part = whole_part-append_none taken (b ∷ []) none in
-      let lines = whole_lines-same taken (b ∷ []) none in
+module _ {X S : Type 0} (stands : X → S → Type 0) (talker : Talker S) (printed now : Option (List ℕ)) (reader : SessionReader X) (taken : List ℕ) (s : SessionStands stands talker printed now reader taken) (bytes : List ℕ) where
+  counted : reader.count + length bytes ≡ length (taken ++ bytes)
+  counted = rw length-append (ap (λ (n : ℕ). n + length bytes) s.count_is)
+
+  -- bytes that end no line
+  pub stands_open : list_any is_line_feed bytes ≡ false → reader.count + length bytes ≤ most_input → SessionStands stands talker printed now (with_bytes reader bytes) (taken ++ bytes)
+  stands_open none room =
+      let part = whole_part-append_none taken bytes none in
+      let lines = whole_lines-same taken bytes none in
       record {
-        whole = ap (λ (l : List ℕ). l ++ b ∷ []) s.whole ∙ append_assoc (whole_part taken) reader.begun (b ∷ []) ∙ ap (λ (l : List ℕ). l ++ (reader.begun ++ b ∷ [])) (sym part);
-        open_line = has_feed-append reader.begun (b ∷ []) ∙ (rw (s.open_line, other) refl);
+        whole = ap (λ (l : List ℕ). l ++ bytes) s.whole ∙ append_assoc (whole_part taken) reader.begun bytes ∙ ap (λ (l : List ℕ). l ++ (reader.begun ++ bytes)) (sym part);
+        open_line = has_feed-append reader.begun bytes ∙ (rw (s.open_line, none) refl);
         stands_in = subst (λ (l : List (List ℕ)). stands reader.session (state_after_lines talker.answer talker.state l)) (sym lines) s.stands_in;
         goes_on = ap (ends_session talker) lines ∙ s.goes_on;
         text = s.text ∙ ap (λ (l : List (List ℕ)). append_known printed (spoken_text talker l)) (sym lines);
-        count_is = rw length-append (ap (λ (n : ℕ). n + 1) s.count_is);
-        within = omega (arith, room);
+        count_is = counted;
+        within = room;
       }
 
-  -- the state in which the session is told the line that a line feed ends
+  -- the state in which the session is told the lines that they end
   abbrev pub there : S
   there = state_after_lines talker.answer talker.state (whole_lines taken)
 
   abbrev pub told : List (List ℕ)
-  told = take 1 (lines_of (reader.begun ++ b ∷ []))
+  told = lines_of (reader.begun ++ bytes)
 
-  -- the line that a line feed ends
-  module _ (new : Option (List ℕ)) (feed : is_line_feed b ≡ true) (room : reader.count < most_input) where
-    lines : whole_lines (taken ++ b ∷ []) ≡ whole_lines taken ++ told
-    lines = whole_lines-ended taken reader.begun b s.whole feed ∙ ap (λ (l : List (List ℕ)). whole_lines taken ++ l) (sym (few_lines-ended reader.begun b s.open_line feed))
+  -- bytes that end with a line feed
+  module _ (new : Option (List ℕ)) (whole : IsWhole bytes) (some : list_any is_line_feed bytes ≡ true) (room : reader.count + length bytes ≤ most_input) where
+    lines : whole_lines (taken ++ bytes) ≡ whole_lines taken ++ told
+    lines = whole_lines-ended taken reader.begun bytes s.whole whole some
 
-    fits : length (taken ++ b ∷ []) ≤ most_input
-    fits = rw length-append (omega (arith, room, s.count_is))
+    fits : length (taken ++ bytes) ≤ most_input
+    fits = omega (arith, room, counted)
 
-    ends_is : ends_session talker (whole_lines (taken ++ b ∷ [])) ≡ ends_in_lines talker.answer there told
+    ends_is : ends_session talker (whole_lines (taken ++ bytes)) ≡ ends_in_lines talker.answer there told
     ends_is = ap (ends_session talker) lines ∙ ends-append talker.answer talker.state (whole_lines taken) told s.goes_on
 
-    text_is : spoken_text talker (whole_lines (taken ++ b ∷ [])) ≡ spoken_text talker (whole_lines taken) ++ answers_of_lines talker.answer there told
+    text_is : spoken_text talker (whole_lines (taken ++ bytes)) ≡ spoken_text talker (whole_lines taken) ++ answers_of_lines talker.answer there told
     text_is = ap (spoken_text talker) lines ∙ session_more talker (whole_lines taken) told s.goes_on
 
-    printed_is : new ≡ append_known now (answers_of_lines talker.answer there told) → new ≡ append_known printed (spoken_text talker (whole_lines (taken ++ b ∷ [])))
+    printed_is : new ≡ append_known now (answers_of_lines talker.answer there told) → new ≡ append_known printed (spoken_text talker (whole_lines (taken ++ bytes)))
     printed_is e = e ∙ ap (λ (k : Option (List ℕ)). append_known k (answers_of_lines talker.answer there told)) s.text
         ∙ append_twice printed (spoken_text talker (whole_lines taken)) (answers_of_lines talker.answer there told)
         ∙ ap (append_known printed) (sym text_is)
 
     pub stands_ended : (next : X) → new ≡ append_known now (answers_of_lines talker.answer there told) → ends_in_lines talker.answer there told ≡ false
-        → stands next (state_after_lines talker.answer there told) → SessionStands stands talker printed new (at_line_end reader next) (taken ++ b ∷ [])
+        → stands next (state_after_lines talker.answer there told) → SessionStands stands talker printed new (at_line_end reader bytes next) (taken ++ bytes)
     stands_ended next e on after = record {
-      whole = sym (append-nil _ ∙ whole_part-ended taken b feed);
+      whole = sym (append-nil _ ∙ whole_part-append_some taken bytes some ∙ ap (λ (l : List ℕ). taken ++ l) whole);
       open_line = refl;
       stands_in = subst (stands next) (sym (ap (state_after_lines talker.answer talker.state) lines ∙ after-append talker.answer talker.state (whole_lines taken) told)) after;
       goes_on = ends_is ∙ on;
       text = printed_is e;
-      count_is = rw length-append (ap (λ (n : ℕ). n + 1) s.count_is);
-      within = omega (arith, room);
+      count_is = counted;
+      within = room;
     }
 
-    pub quits_ended : new ≡ append_known now (answers_of_lines talker.answer there told) → ends_in_lines talker.answer there told ≡ true → SessionQuits talker printed new (taken ++ b ∷ [])
+    pub quits_ended : new ≡ append_known now (answers_of_lines talker.answer there told) → ends_in_lines talker.answer there told ≡ true → SessionQuits talker printed new (taken ++ bytes)
     quits_ended e ended =
         let over = ends_is ∙ ended in
         record {
           ended = over;
-          fits = λ rest. fits_ended most_input talker (taken ++ b ∷ []) rest fits over;
-          text = λ rest. printed_is e ∙ ap (append_known printed) (sym (session_ended talker (whole_lines (taken ++ b ∷ [])) (lines_of ((taken ++ b ∷ []) ++ rest)) (lines_front (taken ++ b ∷ []) rest) over));
+          fits = λ rest. fits_ended most_input talker (taken ++ bytes) rest fits over;
+          text = λ rest. printed_is e ∙ ap (append_known printed) (sym (session_ended talker (whole_lines (taken ++ bytes)) (lines_of ((taken ++ bytes) ++ rest)) (lines_front (taken ++ bytes) rest) over));
         }
 
-    pub part_ended : PrintsPart talker.answer there told now new → SaysPart talker printed new (taken ++ b ∷ [])
+    pub part_ended : PrintsPart talker.answer there told now new → SaysPart talker printed new (taken ++ bytes)
     part_ended p =
         let said = spoken_text talker (whole_lines taken) in
         let more = answers_of_lines talker.answer there told in
-        part_of talker printed new (taken ++ b ∷ []) (length said + p.0) fits
+        part_of talker printed new (taken ++ bytes) (length said + p.0) fits
         (p.1 ∙ ap (λ (k : Option (List ℕ)). append_known k (take p.0 more)) s.text
         ∙ append_twice printed said (take p.0 more)
         ∙ ap (append_known printed) (sym (take-append-add said more p.0) ∙ ap (take (length said + p.0)) (sym text_is)))
 
   -- nothing more was printed
-  pub part_kept : SaysPart talker printed now (taken ++ b ∷ [])
-  part_kept = part_more talker printed now taken (b ∷ []) (part_so_far stands talker printed now reader taken s)
+  pub part_kept : SaysPart talker printed now (taken ++ bytes)
+  part_kept = part_more talker printed now taken bytes (part_so_far stands talker printed now reader taken s)
 
-  pub overruns : most_input ≤ reader.count → InputOverruns talker printed now (taken ++ b ∷ [])
-  overruns full =
+  pub overruns : most_input ≤ reader.count → 0 < length bytes → InputOverruns talker printed now (taken ++ bytes)
+  overruns full some =
       let at : length taken ≡ most_input = omega (arith, s.count_is, s.within) in
       record {
-        large = λ rest. ap (is_large_input talker) (append_assoc taken (b ∷ []) rest) ∙ large_past most_input talker taken (b ∷ rest) at (omega arith) s.goes_on;
-        text = λ rest. s.text ∙ ap (λ (l : List (List ℕ)). append_known printed (spoken_text talker l)) (sym (ap early_lines (append_assoc taken (b ∷ []) rest) ∙ early_at most_input taken (b ∷ rest) at));
+        large = λ rest. ap (is_large_input talker) (append_assoc taken bytes rest) ∙ large_past most_input talker taken (bytes ++ rest) at (rw length-append (omega (arith, some))) s.goes_on;
+        text = λ rest. s.text ∙ ap (λ (l : List (List ℕ)). append_known printed (spoken_text talker l)) (sym (ap early_lines (append_assoc taken bytes rest) ∙ early_at most_input taken (bytes ++ rest) at));
       }

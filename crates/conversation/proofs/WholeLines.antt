@@ -1,9 +1,10 @@
 -- The whole lines of bytes to which more are added, and what a session answers to them.
-use Rattle.std.proofs.Common.{◌≡◌, ℕ, ◌<◌, Bool, true, false, ◌||◌, List, [], ◌∷◌, ◌++◌, length, take, refl, sym, ap, ◌∙◌, append_assoc, append-nil, arith, inl, inr}
+use Rattle.std.proofs.Common.{◌≡◌, ℕ, zero, suc, ◌+◌, ◌<◌, ◌≤◌, Bool, true, false, ◌||◌, List, [], ◌∷◌, ◌++◌, length, get_or, take, refl, sym, ap, ◌∙◌, append_assoc, append-nil, arith, inl, inr}
 use Rattle.std.specs.Prelude.{map, if◌then◌else◌}
 use Rattle.std.specs.List.{list_any, onto_first}
 use Rattle.std.specs.Str.Lines.{strip_carriage_return}
 use Rattle.std.proofs.lemmas.Bool.{cases_Bool}
+use Rattle.std.proofs.lemmas.List.{append_cancel_left}
 use Rattle.fri_text.specs.Line.{is_line_feed, pieces_of, lines_of}
 use Rattle.conversation.specs.Lines.{whole_lines, whole_part}
 use Rattle.conversation.specs.Talker.{Answered, Talker, answers_of_lines, ends_in_lines, ends_session, spoken_text}
@@ -51,6 +52,12 @@ whole_part-front (c ∷ t) =
       | inl some ↦ (ih.0, (whole_part-kept c t some (ih.0) ih.1.0, ih.1.1))
       | inr none ↦ (c ∷ t, (ap (λ (l : List ℕ). l ++ (c ∷ t)) (sym (whole_part-none (c ∷ t) none)), none))
     ]
+
+pub open_behind : (bytes front behind : List ℕ) → front ≡ whole_part bytes → bytes ≡ front ++ behind → list_any is_line_feed behind ≡ false
+open_behind bytes front behind is parts =
+    let f = whole_part-front bytes in
+    let same : front ++ behind ≡ front ++ f.0 = sym parts ∙ f.1.0 ∙ ap (λ (l : List ℕ). l ++ f.0) (sym is) in
+    ap (list_any is_line_feed) (append_cancel_left front behind f.0 same) ∙ f.1.1
 
 -- ---- the lines of bytes that end with a line feed, or have none, and of more
 
@@ -115,58 +122,57 @@ lines_of-append w v whole =
 pub lines_of-open : (t begun : List ℕ) → t ≡ whole_part t ++ begun → lines_of t ≡ whole_lines t ++ lines_of begun
 lines_of-open t begun e = ap lines_of e ∙ lines_of-append (whole_part t) begun (whole_part-whole t)
 
--- ---- at most one line
-
-pub pieces_of-open : (b : ℕ) (bytes : List ℕ) → list_any is_line_feed (b ∷ bytes) ≡ false → pieces_of (b ∷ bytes) ≡ (b ∷ bytes) ∷ []
-pieces_of-open b [] none =
-    elim (cases_Bool (is_line_feed b)) [
-      | inl feed ↦ (let e : true ≡ false = rw feed at none in absurd cc)
-      | inr other ↦ rw other refl
-    ]
-pieces_of-open b (c ∷ bytes) none =
-    elim (cases_Bool (is_line_feed b)) [
-      | inl feed ↦ (let e : true ≡ false = rw feed at none in absurd cc)
-      | inr other ↦ (let more : list_any is_line_feed (c ∷ bytes) ≡ false = rw other at none in rw other (ap (onto_first b) (pieces_of-open c bytes more)))
-    ]
-
-pub few_lines-open : (begun : List ℕ) → list_any is_line_feed begun ≡ false → take 1 (lines_of begun) ≡ lines_of begun
-few_lines-open [] none = refl
-few_lines-open (b ∷ bytes) none = ap (λ (ps : List (List ℕ)). take 1 (map strip_carriage_return ps)) (pieces_of-open b bytes none)
-    ∙ sym (ap (map strip_carriage_return) (pieces_of-open b bytes none))
-
-pieces_of-ended : (begun : List ℕ) (b : ℕ) → list_any is_line_feed begun ≡ false → is_line_feed b ≡ true → pieces_of (begun ++ b ∷ []) ≡ begun ∷ []
-pieces_of-ended [] b none feed = rw feed refl
-pieces_of-ended (c ∷ begun) b none feed =
-    elim (cases_Bool (is_line_feed c)) [
-      | inl also ↦ (let e : true ≡ false = rw also at none in absurd cc)
-      | inr other ↦ (let more : list_any is_line_feed begun ≡ false = rw other at none in rw other (ap (onto_first c) (pieces_of-ended begun b more feed)))
-    ]
-
-pub few_lines-ended : (begun : List ℕ) (b : ℕ) → list_any is_line_feed begun ≡ false → is_line_feed b ≡ true → take 1 (lines_of (begun ++ b ∷ [])) ≡ lines_of (begun ++ b ∷ [])
-few_lines-ended begun b none feed = ap (λ (ps : List (List ℕ)). take 1 (map strip_carriage_return ps)) (pieces_of-ended begun b none feed)
-    ∙ sym (ap (map strip_carriage_return) (pieces_of-ended begun b none feed))
-
 -- ---- the whole lines where bytes are added
 
 pub whole_lines-same : (t b : List ℕ) → list_any is_line_feed b ≡ false → whole_lines (t ++ b) ≡ whole_lines t
 whole_lines-same t b none = ap lines_of (whole_part-append_none t b none)
 
-one_feed : (b : ℕ) → is_line_feed b ≡ true → list_any is_line_feed (b ∷ []) ≡ true
-one_feed b feed = rw feed refl
+-- if there are any such bytes, one is a line feed
+pub whole-has_feed : (w : List ℕ) → IsWhole w → 0 < length w → list_any is_line_feed w ≡ true
+whole-has_feed w whole some =
+    elim (cases_Bool (list_any is_line_feed w)) [
+      | inl feed ↦ feed
+      | inr none ↦ (let e : w ≡ [] = sym whole ∙ whole_part-none w none in absurd (omega (arith, some, ap length e)))
+    ]
 
-one_other : (b : ℕ) → is_line_feed b ≡ false → list_any is_line_feed (b ∷ []) ≡ false
-one_other b other = rw other refl
+-- bytes that end with a line feed end the line that has begun, and more of their own
+pub whole_lines-ended : (t begun w : List ℕ) → t ≡ whole_part t ++ begun → IsWhole w → list_any is_line_feed w ≡ true → whole_lines (t ++ w) ≡ whole_lines t ++ lines_of (begun ++ w)
+whole_lines-ended t begun w e whole some =
+    ap lines_of (whole_part-append_some t w some ∙ ap (λ (l : List ℕ). t ++ l) whole)
+    ∙ ap (λ (l : List ℕ). lines_of (l ++ w)) e
+    ∙ ap lines_of (append_assoc (whole_part t) begun w)
+    ∙ lines_of-append (whole_part t) (begun ++ w) (whole_part-whole t)
 
-pub whole_part-ended : (t : List ℕ) (b : ℕ) → is_line_feed b ≡ true → whole_part (t ++ b ∷ []) ≡ t ++ b ∷ []
-whole_part-ended t b feed = whole_part-append_some t (b ∷ []) (one_feed b feed) ∙ ap (λ (l : List ℕ). t ++ l) (rw feed refl)
+-- ---- the place of the last line feed
 
--- a line feed ends the line that has begun
-pub whole_lines-ended : (t begun : List ℕ) (b : ℕ) → t ≡ whole_part t ++ begun → is_line_feed b ≡ true → whole_lines (t ++ b ∷ []) ≡ whole_lines t ++ lines_of (begun ++ b ∷ [])
-whole_lines-ended t begun b e feed =
-    ap lines_of (whole_part-ended t b feed)
-    ∙ ap (λ (l : List ℕ). lines_of (l ++ b ∷ [])) e
-    ∙ ap lines_of (append_assoc (whole_part t) begun (b ∷ []))
-    ∙ lines_of-append (whole_part t) (begun ++ b ∷ []) (whole_part-whole t)
+has_feed-none : (bytes : List ℕ) → ((k : ℕ) → k < length bytes → is_line_feed (get_or bytes k 0) ≡ false) → list_any is_line_feed bytes ≡ false
+has_feed-none [] other = refl
+has_feed-none (b ∷ bytes) other =
+    let first : is_line_feed b ≡ false = other 0 (omega arith) in
+    rw first (has_feed-none bytes (λ k lt. other (suc k) (omega (arith, lt))))
+
+has_feed-some : (bytes : List ℕ) (n : ℕ) → n < length bytes → is_line_feed (get_or bytes n 0) ≡ true → list_any is_line_feed bytes ≡ true
+has_feed-some [] n within here = absurd (omega (arith, within))
+has_feed-some (b ∷ bytes) zero within here = rw here refl
+has_feed-some (b ∷ bytes) (suc n) within here =
+    let later = has_feed-some bytes n (omega (arith, within)) here in
+    elim (cases_Bool (is_line_feed b)) [
+      | inl feed ↦ rw feed refl
+      | inr other ↦ rw other later
+    ]
+
+pub whole_part-nowhere : (bytes : List ℕ) → ((k : ℕ) → k < length bytes → is_line_feed (get_or bytes k 0) ≡ false) → whole_part bytes ≡ []
+whole_part-nowhere bytes other = whole_part-none bytes (has_feed-none bytes other)
+
+pub whole_part-at : (bytes : List ℕ) (n : ℕ) → n < length bytes → is_line_feed (get_or bytes n 0) ≡ true
+    → ((k : ℕ) → n + 1 ≤ k → k < length bytes → is_line_feed (get_or bytes k 0) ≡ false) → whole_part bytes ≡ take (suc n) bytes
+whole_part-at [] n within here after = absurd (omega (arith, within))
+whole_part-at (b ∷ bytes) zero within here after =
+    let some = has_feed-some (b ∷ bytes) zero within here in
+    rw some (ap (λ (rest : List ℕ). b ∷ rest) (whole_part-nowhere bytes (λ k lt. after (suc k) (omega arith) (omega (arith, lt)))))
+whole_part-at (b ∷ bytes) (suc n) within here after =
+    let some = has_feed-some (b ∷ bytes) (suc n) within here in
+    rw some (ap (λ (rest : List ℕ). b ∷ rest) (whole_part-at bytes n (omega (arith, within)) here (λ k le lt. after (suc k) (omega (arith, le)) (omega (arith, lt)))))
 
 -- ---- a front of bytes has a front of the lines
 
@@ -239,7 +245,7 @@ module _ {S : Type 0} (answer : S → List ℕ → Answered S) where
       let next = (answer state line).state in
       said_ended (answer state line).quits (ends_in_lines answer next a) (answer state line).text (answers_of_lines answer next a) (answers_of_lines answer next (a ++ b)) ended (λ more. answers-ended next a b more)
 
-  answers_front : (state : S) (a b : List (List ℕ)) → FrontsText (answers_of_lines answer state a) (answers_of_lines answer state (a ++ b))
+  pub answers_front : (state : S) (a b : List (List ℕ)) → FrontsText (answers_of_lines answer state a) (answers_of_lines answer state (a ++ b))
   answers_front state a b =
       elim (cases_Bool (ends_in_lines answer state a)) [
         | inl ended ↦ ([], answers-ended state a b ended ∙ sym (append-nil (answers_of_lines answer state a)))

@@ -127,7 +127,7 @@ module _ {X S : Type 0} (stands : X → S → Type 0) (answer : S → List ℕ �
         let f = read input told in
         f.whole ∙ ap (λ (l : List ℕ). taken ++ l) (last.1 f.rest f.left ∙ sym last.0)
 
-    pub listens_all : (session : X) → end.hearing ≡ new.hearing → WasTold stands answer heard.reader.session (take 1 (lines_of heard.reader.begun)) new.taken end.taken (Ok session)
+    pub listens_all : (session : X) → end.hearing ≡ new.hearing → WasTold stands answer heard.reader.session (lines_of heard.reader.begun) new.taken end.taken (Ok session)
         → SessionHoldsFrom stands answer old end reader cause.Done
     unfolding ListensFrom SessionHearsFrom SessionHoldsFrom WasTold adds
     listens_all session same told = λ opening state printed s.
@@ -140,7 +140,7 @@ module _ {X S : Type 0} (stands : X → S → Type 0) (answer : S → List ℕ �
         subst (λ (n : Hearing). SessionHolds talker (record old { taken = printed }) (record end { hearing = n }) cause.Done) (sym same)
         (holds_all stands talker printed new.taken end.taken heard.reader (t.taken ++ h.piece) h.stands_so old.hearing new.hearing old.faults end.faults all.read (last_told t.taken h.piece t.read (h.at_end none)) all.turns spoke.0)
 
-    pub listens_error : (why : Ended) → end.hearing ≡ new.hearing → WasTold stands answer heard.reader.session (take 1 (lines_of heard.reader.begun)) new.taken end.taken (Err why)
+    pub listens_error : (why : Ended) → end.hearing ≡ new.hearing → WasTold stands answer heard.reader.session (lines_of heard.reader.begun) new.taken end.taken (Err why)
         → SessionHoldsFrom stands answer old end reader why
     unfolding ListensFrom SessionHearsFrom SessionHoldsFrom WasTold adds
     listens_error why same told = λ opening state printed s.

@@ -1,8 +1,9 @@
 // A session that is read from an input, and answered line by line.
-ghost use Rattle.std.specs.Prelude.{◌≡◌, ◌∷◌, ◌≤◌, ◌<◌, ◌+◌, [], length, take, IfOk, IfErr, IsTrue, MatchResult};
+ghost use Rattle.std.specs.Prelude.{◌≡◌, ◌∷◌, ◌++◌, ◌≤◌, ◌<◌, ◌+◌, [], length, IfOk, IfErr, IsTrue, MatchResult};
 ghost use Rattle.fri_text.specs.Line.{lines_of};
 ghost use Rattle.conversation.specs.declared.conversing.Ended.TheVariants as cause;
 ghost use Rattle.conversation.specs.Conversing.{Converses, terminal_at};
+ghost use Rattle.conversation.specs.Lines.{whole_part};
 ghost use Rattle.conversation.specs.Talker.{talker_of};
 ghost use Rattle.conversation.specs.inside.Reader.{FailsAtOpening, HeldSession, InputReadsOn, SessionBreaksFrom, SessionGoesOn, SessionHearsFrom, SessionHoldsFrom, SessionOpens, SessionOpensPart, SessionStopsIn, WasTold, session_begun, ended_by, exchange_of, failed_says_of_session, heard_of, listened_after, session_reader_of, why_session_ended};
 
@@ -94,31 +95,121 @@ fn begin<S: LineSession, K: Sink>(
     })
 }
 
-// Answers the line of these bytes, if they have one.
+// Answers a line.
 fn answer<S: LineSession, K: Sink>(
     alloc: Global,
     session: S,
-    bytes: &[u8],
+    line: &[u8],
     out: &mut K,
 ) -> Result<S, Ended>
-    ensures said { WasTold S.stands S.answer session (take 1 (lines_of bytes.now)) (K.taken out.old) (K.taken out.new) result }
+    ensures said { WasTold S.stands S.answer session (line.now ∷ []) (K.taken out.old) (K.taken out.new) result }
     ensures reads { IfErr result InputReadsOn }
     ensures counted { K.faults out.new ≡ failed_says_of_session (K.faults out.old) result }
     ensures heard { K.hearing out.new ≡ K.hearing out.old }
 {
-    let Some(line) = next_line(&mut Cursor::new(bytes)) else {
-        return Ok(session);
-    };
-    let (session, text, goes) = session.answer_line(alloc, line)?;
-    write_whole(out, text.bytes())?;
+    let (session, said, goes) = session.answer_line(alloc, line)?;
+    write_whole(out, said.bytes())?;
     match goes {
         Go::On => Ok(session),
         Go::Quit => Err(Ended::Done),
     }
 }
 
-// Takes the bytes of a piece, and answers each line that ends in it. The session itself moves only where a line ends, and the
-// bytes of a line are kept where it or the piece ends: those from `from` on are still in the piece alone.
+// Answers each line of these bytes.
+fn answer_lines<S: LineSession, K: Sink>(
+    alloc: Global,
+    session: S,
+    bytes: &[u8],
+    out: &mut K,
+) -> Result<S, Ended>
+    ensures said { WasTold S.stands S.answer session (lines_of bytes.now) (K.taken out.old) (K.taken out.new) result }
+    ensures reads { IfErr result InputReadsOn }
+    ensures counted { K.faults out.new ≡ failed_says_of_session (K.faults out.old) result }
+    ensures heard { K.hearing out.new ≡ K.hearing out.old }
+{
+    let mut session = session;
+    let mut lines = Cursor::new(bytes);
+    while let Some(line) = next_line(&mut lines) {
+        session = answer(alloc, session, line, out)?;
+    }
+    Ok(session)
+}
+
+// The bytes up to the last line feed and with it, and those behind it.
+fn split_whole(bytes: &[u8]) -> (&[u8], &[u8])
+    ensures whole { result.0.now ≡ whole_part bytes.now }
+    ensures parts { bytes.now ≡ result.0.now ++ result.1.now }
+{
+    match bytes.iter().rposition(|b| *b == b'\n') {
+        Some(last) => bytes.split_at(last + 1),
+        None => (&[], bytes),
+    }
+}
+
+// Takes bytes that are empty or end with a line feed, and answers the lines that end in them.
+fn end_lines<S: LineSession, K: Sink>(
+    alloc: Global,
+    reader: LineReader<S>,
+    whole: &[u8],
+    out: &mut K,
+) -> Result<LineReader<S>, Ended>
+    requires whole { whole_part whole.now ≡ whole.now }
+    requires room { reader.count + length whole.now ≤ MOST_INPUT }
+    ensures said { MatchResult result
+        (λ next. SessionGoesOn S.stands S.answer whole.now (K.taken out.old) (K.taken out.new) (session_reader_of reader) (session_reader_of next))
+        (SessionStopsIn S.stands S.answer whole.now (K.taken out.old) (K.taken out.new) (session_reader_of reader)) }
+    ensures count { IfOk result (λ new. new.count ≡ reader.count + length whole.now) }
+    ensures counted { K.faults out.new ≡ failed_says_of_session (K.faults out.old) result }
+    ensures heard { K.hearing out.new ≡ K.hearing out.old }
+{
+    if whole.is_empty() {
+        return Ok(reader);
+    }
+    let LineReader {
+        session,
+        mut begun,
+        count,
+    } = reader;
+    begun.extend_from_slice(whole)?;
+    let session = answer_lines(alloc, session, begun.as_slice(), out)?;
+    begun.clear();
+    Ok(LineReader {
+        session,
+        begun,
+        count: count + whole.len(),
+    })
+}
+
+// Takes bytes for which there is room, answers the lines that end in them, and keeps those of the line that is open then.
+fn take_bytes<S: LineSession, K: Sink>(
+    alloc: Global,
+    reader: LineReader<S>,
+    bytes: &[u8],
+    out: &mut K,
+) -> Result<LineReader<S>, Ended>
+    requires room { reader.count + length bytes.now ≤ MOST_INPUT }
+    ensures said { MatchResult result
+        (λ next. SessionGoesOn S.stands S.answer bytes.now (K.taken out.old) (K.taken out.new) (session_reader_of reader) (session_reader_of next))
+        (SessionStopsIn S.stands S.answer bytes.now (K.taken out.old) (K.taken out.new) (session_reader_of reader)) }
+    ensures count { IfOk result (λ new. new.count ≡ reader.count + length bytes.now) }
+    ensures counted { K.faults out.new ≡ failed_says_of_session (K.faults out.old) result }
+    ensures heard { K.hearing out.new ≡ K.hearing out.old }
+{
+    let (whole, open_line) = split_whole(bytes);
+    let LineReader {
+        session,
+        mut begun,
+        count,
+    } = end_lines(alloc, reader, whole, out)?;
+    begun.extend_from_slice(open_line)?;
+    Ok(LineReader {
+        session,
+        begun,
+        count: count + open_line.len(),
+    })
+}
+
+// Takes the bytes of a piece, as many as there is room for, and answers each line that ends in these.
 fn take_piece<S: LineSession, K: Sink>(
     alloc: Global,
     reader: LineReader<S>,
@@ -134,32 +225,13 @@ fn take_piece<S: LineSession, K: Sink>(
     ensures counted { K.faults out.new ≡ failed_says_of_session (K.faults out.old) result }
     ensures heard { K.hearing out.new ≡ K.hearing out.old }
 {
-    let LineReader {
-        mut session,
-        mut begun,
-        count,
-    } = reader;
-    let room = MOST_INPUT - count;
-    let (mut from, mut at) = (0, 0);
-    for b in piece {
-        if at >= room {
-            return Err(Ended::TooLarge);
-        }
-        at += 1;
-        if *b != b'\n' {
-            continue;
-        }
-        begun.extend_from_slice(&piece[from..at])?;
-        session = answer(alloc, session, begun.as_slice(), out)?;
-        begun.clear();
-        from = at;
+    let room = piece.len().min(MOST_INPUT - reader.count);
+    let (within, past) = piece.split_at(room);
+    let reader = take_bytes(alloc, reader, within, out)?;
+    if !past.is_empty() {
+        return Err(Ended::TooLarge);
     }
-    begun.extend_from_slice(&piece[from..])?;
-    Ok(LineReader {
-        session,
-        begun,
-        count: count + at,
-    })
+    Ok(reader)
 }
 
 // Reads a piece of the input and takes it. False comes at the end of the input, where there is none.
@@ -203,7 +275,7 @@ fn read_lines<S: LineSession, T: Terminal>(
         let room = INPUT_PIECE.min(MOST_INPUT + 1 - reader.count);
         let (next, more) = read_piece(alloc, reader, &mut piece[..room], io)?;
         if !more {
-            answer(alloc, next.session, next.begun.as_slice(), io)?;
+            answer_lines(alloc, next.session, next.begun.as_slice(), io)?;
             return Ok(());
         }
         reader = next;

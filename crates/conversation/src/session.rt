@@ -2,7 +2,7 @@
 ghost use Rattle.std.specs.Prelude.{List, ℕ, IfOk};
 ghost use Rattle.conversation.specs.Talker.{Answered, AnswersSo};
 
-use fri_text::Text;
+use crate::saying::Saying;
 use std::alloc::{AllocError, Global};
 
 /// Whether a session goes on.
@@ -21,6 +21,6 @@ pub trait LineSession: Sized + Drop {
     ghost stands: { Self → State → Type 0 };
 
     /// The answer of a line, without its line feed, and whether the session goes on.
-    fn answer_line(self, alloc: Global, line: &[u8]) -> Result<(Self, Text, Go), AllocError>
+    fn answer_line(self, alloc: Global, line: &[u8]) -> Result<(Self, Saying, Go), AllocError>
         ensures { IfOk result (λ said. (state : State) → stands self state → AnswersSo (answer state line.now) (stands said.0) said.1 said.2) };
 }

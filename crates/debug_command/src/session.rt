@@ -8,7 +8,7 @@ ghost use Rattle.debug_command.specs.Debug.{shell_answer, shell_talker};
 
 use command_run::Status;
 use conversation::laws::ends_unbegun;
-use conversation::{Go, LineSession, converse};
+use conversation::{Go, LineSession, Saying, converse};
 use fri_outside::Terminal;
 use fri_text::Text;
 use friday_shell::Session;
@@ -32,10 +32,10 @@ impl<'m, 'a, L: Ledger> LineSession for Debugger<'m, 'a, L> {
 
     ghost stands = { λ debugger state. debugger.session ≡ state };
 
-    fn answer_line(self, alloc: Global, line: &[u8]) -> Result<(Self, Text, Go), AllocError> {
+    fn answer_line(self, alloc: Global, line: &[u8]) -> Result<(Self, Saying, Go), AllocError> {
         let Debugger { session, mut steps } = self;
         let (session, text, goes) = session.answer_line(alloc, line, &mut steps)?;
-        Ok((Debugger { session, steps }, text, goes))
+        Ok((Debugger { session, steps }, Saying::made(text), goes))
     }
 }
 

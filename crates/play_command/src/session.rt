@@ -1,5 +1,5 @@
 // What each line does to a play, and answers.
-ghost use Rattle.std.specs.Prelude.{◌≡◌, ◌≤◌, ◌+◌, ◌++◌, IfOk, OnOk, false, length, map, if◌then◌else◌};
+ghost use Rattle.std.specs.Prelude.{◌≡◌, ◌≤◌, ◌+◌, ◌++◌, IfOk, IfSome, OnOk, false, length, map, if◌then◌else◌};
 ghost use Rattle.wasm_types.specs.Modules.{module_of};
 ghost use Rattle.schedule_text.specs.Limits.{most_runs};
 ghost use Rattle.schedule_text.specs.Schedule.{IsInRange, run_count, tries as tries_of_item};
@@ -17,7 +17,7 @@ use crate::shown::{
     show_datagram, show_memory, show_printed, show_processes, show_threads, show_value,
 };
 use crate::told::Told;
-use conversation::{Go, LineSession};
+use conversation::{Go, LineSession, Saying};
 use fri_bytes::Bytes;
 use fri_text::Text;
 use group_record::{LiveGroup, RecordError};
@@ -70,18 +70,18 @@ impl<'m> Playing<'m> {
     }
 
     // Does an item, unless there would be too many tries, or a log was full before.
-    fn play_item(self, alloc: Global, item: &Item) -> Result<(Playing<'m>, Text), AllocError>
+    fn play_item(self, alloc: Global, item: &Item) -> Result<(Playing<'m>, Saying), AllocError>
         requires { IsInRange (length self.play.value.names.items) item.now }
         ensures { IfOk result (λ said. AnswersOnce self.entry.play.value (λ state. plays_item state item.now) said.0.play.value said.1) }
     {
         let tries = self.play.tries + item.tries();
         if tries > MOST_RUNS {
             let text = refused_play(alloc, PlayRefusal::TooManyTries)?;
-            return Ok((self, text));
+            return Ok((self, Saying::made(text)));
         }
         if self.play.full {
             let text = refused_play(alloc, PlayRefusal::Full)?;
-            return Ok((self, text));
+            return Ok((self, Saying::made(text)));
         }
         self.do_item(alloc, item, tries)
     }
@@ -92,7 +92,7 @@ impl<'m> Playing<'m> {
         alloc: Global,
         item: &Item,
         tries: u64,
-    ) -> Result<(Playing<'m>, Text), AllocError>
+    ) -> Result<(Playing<'m>, Saying), AllocError>
         requires in_range { IsInRange (length self.play.value.names.items) item.now }
         requires room { self.play.value.full ≡ false }
         requires tries { tries ≡ self.play.value.tries + tries_of_item item.now }
@@ -100,8 +100,8 @@ impl<'m> Playing<'m> {
         ensures { IfOk result (λ said. AnswersOnce self.entry.play.value (λ state. plays_item state item.now) said.0.play.value said.1) }
     {
         let Playing { mut play } = self;
-        let text = play.take_item(alloc, item, tries)?;
-        Ok((Playing { play }, text))
+        let saying = play.take_item(alloc, item, tries)?;
+        Ok((Playing { play }, saying))
     }
 
     // What a command answers, and whether the session goes on. Apart, so that items pay nothing for what it needs.
@@ -110,18 +110,18 @@ impl<'m> Playing<'m> {
         self,
         alloc: Global,
         command: &PlayerCommand,
-    ) -> Result<(Playing<'m>, Text, Go), AllocError>
+    ) -> Result<(Playing<'m>, Saying, Go), AllocError>
         ensures { IfOk result (λ said. AnswersPlay self.entry.play.value (λ state. command_in_play state (player_command command.now)) said.0.play.value said.1 said.2) }
     {
         match command {
             PlayerCommand::Again => {
                 let (playing, text) = self.again(alloc)?;
-                Ok((playing, text, Go::On))
+                Ok((playing, Saying::made(text), Go::On))
             }
-            PlayerCommand::Quit => Ok((self, Text::new(alloc), Go::Quit)),
+            PlayerCommand::Quit => Ok((self, Saying::fixed(""), Go::Quit)),
             _ => {
                 let text = self.shown(alloc, command)?;
-                Ok((self, text, Go::On))
+                Ok((self, Saying::made(text), Go::On))
             }
         }
     }
@@ -148,7 +148,7 @@ impl<'m> Playing<'m> {
 
 impl<'m> Play<'m> {
     // Does an item, with which there are so many tries. After want of memory the group may have no process.
-    fn take_item(&mut self, alloc: Global, item: &Item, tries: u64) -> Result<Text, AllocError>
+    fn take_item(&mut self, alloc: Global, item: &Item, tries: u64) -> Result<Saying, AllocError>
         requires playing { IsPlaying self.old.schedule.now (map module_of self.old.modules.now) self.old.names.items self.old.live self.old.tries }
         requires in_range { IsInRange (length self.old.names.items) item.now }
         requires room { self.old.full ≡ false }
@@ -160,10 +160,10 @@ impl<'m> Play<'m> {
         let mut told = Told::new(alloc, true);
         let full = perform(&mut self.live, &self.names, item, &mut told)?;
         let name = self.names[process_of_item(item) as usize].as_slice();
-        let text = ended(told, full, name)?;
+        let saying = ended(told, full, name)?;
         self.tries = tries;
         self.full = full;
-        Ok(text)
+        Ok(saying)
     }
 }
 
@@ -181,17 +181,17 @@ impl<'m> LineSession for Playing<'m> {
         self,
         alloc: Global,
         line: &[u8],
-    ) -> Result<(Playing<'m>, Text, Go), AllocError> {
+    ) -> Result<(Playing<'m>, Saying, Go), AllocError> {
         schedule_text::laws::exact_item_lines();
         match read_play_line(alloc, line, &self.play.names)? {
-            PlayLine::Silent => Ok((self, Text::new(alloc), Go::On)),
+            PlayLine::Silent => Ok((self, Saying::fixed(""), Go::On)),
             PlayLine::Refused(why) => {
                 let text = refused_play(alloc, why)?;
-                Ok((self, text, Go::On))
+                Ok((self, Saying::made(text), Go::On))
             }
             PlayLine::Plays(item) => {
-                let (playing, text) = self.play_item(alloc, &item)?;
-                Ok((playing, text, Go::On))
+                let (playing, saying) = self.play_item(alloc, &item)?;
+                Ok((playing, saying, Go::On))
             }
             PlayLine::Does(command) => self.command(alloc, &command),
         }
@@ -237,19 +237,52 @@ fn process_of_item(item: &Item) -> u32
 }
 
 // What was told of an item, and its counts, or that the log of the process with this name has no room.
-fn ended(told: Told, full: bool, name: &[u8]) -> Result<Text, AllocError>
-    ensures { IfOk result (λ text. text ≡ told.text ++ (if full then full_line name.now else counts_line told.acted told.idle)) }
+fn ended(told: Told, full: bool, name: &[u8]) -> Result<Saying, AllocError>
+    ensures { IfOk result (λ said. said ≡ told.text ++ (if full then full_line name.now else counts_line told.acted told.idle)) }
+{
+    if !full {
+        return counted(told);
+    }
+    let mut text = told.text;
+    text.push_str("full ")?;
+    text.push_bytes(name)?;
+    text.push_str("\n")?;
+    Ok(Saying::made(text))
+}
+
+// What was told of an item, and its counts.
+fn counted(told: Told) -> Result<Saying, AllocError>
+    ensures { IfOk result (λ said. said ≡ told.text ++ counts_line told.acted told.idle) }
 {
     let mut text = told.text;
-    if full {
-        text.push_str("full ")?;
-        text.push_bytes(name)?;
-        text.push_str("\n")?;
-    } else {
-        text.push_u64(told.acted)?;
-        text.push_str(" acted, ")?;
-        text.push_u64(told.idle)?;
-        text.push_str(" idle\n")?;
+    let Some(line) = usual_counts(told.acted, told.idle) else {
+        push_counts(&mut text, told.acted, told.idle)?;
+        return Ok(Saying::made(text));
+    };
+    if text.bytes().is_empty() {
+        return Ok(Saying::fixed(line));
     }
-    Ok(text)
+    text.push_str(line)?;
+    Ok(Saying::made(text))
+}
+
+// The line of the counts, where it is that of most items.
+fn usual_counts(acted: u64, idle: u64) -> Option<&'static str>
+    ensures { IfSome result (λ line. line.now ≡ counts_line acted idle) }
+{
+    match (acted, idle) {
+        (0, 1) => Some("0 acted, 1 idle\n"),
+        (1, 0) => Some("1 acted, 0 idle\n"),
+        _ => None,
+    }
+}
+
+// Adds the line of any counts.
+fn push_counts(text: &mut Text, acted: u64, idle: u64) -> Result<(), AllocError>
+    ensures { OnOk result (text.new ≡ text.old ++ counts_line acted idle) }
+{
+    text.push_u64(acted)?;
+    text.push_str(" acted, ")?;
+    text.push_u64(idle)?;
+    text.push_str(" idle\n")
 }

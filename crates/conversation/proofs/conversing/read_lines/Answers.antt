@@ -37,49 +37,49 @@ returns-in_err-next-clause-counted g c =
     let p = err_from_is_err_and c.from_residual.result c.from_residual.ensures.1 in
     rw (p.1, p.2) (c.in_err-next.ensures.counted ∙ ap (λ (n : ℕ). failed_says_of_session {T = ℕ} n (Err c.in_err-next.field-0.0)) c.hearing.invariant.counted)
 
-pub returns-in_err-answer-clause-said : goal.returns-in_err-answer-clause-said
-returns-in_err-answer-clause-said g c =
-    let p = err_from_is_err_and c.from_residual-in_err-answer.result c.from_residual-in_err-answer.ensures.1 in
-    let why = c.in_err-answer.field-0.0 in
+pub returns-in_err-answer_lines-clause-said : goal.returns-in_err-answer_lines-clause-said
+returns-in_err-answer_lines-clause-said g c =
+    let p = err_from_is_err_and c.from_residual-in_err-answer_lines.result c.from_residual-in_err-answer_lines.ensures.1 in
+    let why = c.in_err-answer_lines.field-0.0 in
     let terminal = terminal_at g.T.Sink.hearing g.T.Sink.taken g.T.Sink.faults in
     let next = c.in_ok-next.next in
     let old = g.T.Sink.taken c.read_piece.new.io in
-    let new = g.T.Sink.taken c.answer.new.out in
+    let new = g.T.Sink.taken c.answer_lines.new.out in
     let size = length (take c.min-room.result c.hearing.piece) in
     let short : size ≤ 4096 = omega (arith, length-take c.min-room.result c.hearing.piece, c.min-room.ensures) in
     rw (p.1, p.2) (listens_error g.S.LineSession.stands g.S.LineSession.answer (terminal c.args.io.now) (terminal c.hearing.io) (session_reader_of c.args.reader) (session_reader_of c.hearing.reader) c.hearing.invariant.stands
-    (terminal c.read_piece.new.io) (heard_of (next, c.in_ok-next.more)) size short c.if-not-more.true c.in_ok-next.ensures.said (terminal c.answer.new.out) why c.answer.ensures.heard
-    (subst (λ (l : List ℕ). WasTold g.S.LineSession.stands g.S.LineSession.answer next.session (take 1 (lines_of l)) old new (Err why)) c.as_slice.ensures.value c.in_err-answer.ensures.said))
+    (terminal c.read_piece.new.io) (heard_of (next, c.in_ok-next.more)) size short c.if-not-more.true c.in_ok-next.ensures.said (terminal c.answer_lines.new.out) why c.answer_lines.ensures.heard
+    (subst (λ (l : List ℕ). WasTold g.S.LineSession.stands g.S.LineSession.answer next.session (lines_of l) old new (Err why)) c.as_slice.ensures.value c.in_err-answer_lines.ensures.said))
 
-pub returns-in_err-answer-clause-reads : goal.returns-in_err-answer-clause-reads
-returns-in_err-answer-clause-reads g c =
-    let p = err_from_is_err_and c.from_residual-in_err-answer.result c.from_residual-in_err-answer.ensures.1 in
-    let why = c.in_err-answer.field-0.0 in
-    rw (p.1, p.2) (ap (λ (h : Hearing). h.faults) c.answer.ensures.heard ∙ c.in_ok-next.ensures.reads ∙ c.hearing.invariant.reads
-    ∙ sym (none_counted ℕ (g.T.Sink.hearing c.args.io.now).faults why (λ is. reads_on why c.in_err-answer.ensures.reads is)))
+pub returns-in_err-answer_lines-clause-reads : goal.returns-in_err-answer_lines-clause-reads
+returns-in_err-answer_lines-clause-reads g c =
+    let p = err_from_is_err_and c.from_residual-in_err-answer_lines.result c.from_residual-in_err-answer_lines.ensures.1 in
+    let why = c.in_err-answer_lines.field-0.0 in
+    rw (p.1, p.2) (ap (λ (h : Hearing). h.faults) c.answer_lines.ensures.heard ∙ c.in_ok-next.ensures.reads ∙ c.hearing.invariant.reads
+    ∙ sym (none_counted ℕ (g.T.Sink.hearing c.args.io.now).faults why (λ is. reads_on why c.in_err-answer_lines.ensures.reads is)))
 
-pub returns-in_err-answer-clause-counted : goal.returns-in_err-answer-clause-counted
-returns-in_err-answer-clause-counted g c =
-    let p = err_from_is_err_and c.from_residual-in_err-answer.result c.from_residual-in_err-answer.ensures.1 in
-    rw (p.1, p.2) (c.in_err-answer.ensures.counted ∙ ap (λ (n : ℕ). failed_says_of_session {T = ℕ} n (Err c.in_err-answer.field-0.0)) (c.in_ok-next.ensures.counted ∙ c.hearing.invariant.counted))
+pub returns-in_err-answer_lines-clause-counted : goal.returns-in_err-answer_lines-clause-counted
+returns-in_err-answer_lines-clause-counted g c =
+    let p = err_from_is_err_and c.from_residual-in_err-answer_lines.result c.from_residual-in_err-answer_lines.ensures.1 in
+    rw (p.1, p.2) (c.in_err-answer_lines.ensures.counted ∙ ap (λ (n : ℕ). failed_says_of_session {T = ℕ} n (Err c.in_err-answer_lines.field-0.0)) (c.in_ok-next.ensures.counted ∙ c.hearing.invariant.counted))
 
 pub returns-then-not-more-clause-said : goal.returns-then-not-more-clause-said
 returns-then-not-more-clause-said g c =
     let terminal = terminal_at g.T.Sink.hearing g.T.Sink.taken g.T.Sink.faults in
     let next = c.in_ok-next.next in
     let old = g.T.Sink.taken c.read_piece.new.io in
-    let new = g.T.Sink.taken c.answer.new.out in
+    let new = g.T.Sink.taken c.answer_lines.new.out in
     let size = length (take c.min-room.result c.hearing.piece) in
     let short : size ≤ 4096 = omega (arith, length-take c.min-room.result c.hearing.piece, c.min-room.ensures) in
     listens_all g.S.LineSession.stands g.S.LineSession.answer (terminal c.args.io.now) (terminal c.hearing.io) (session_reader_of c.args.reader) (session_reader_of c.hearing.reader) c.hearing.invariant.stands
-    (terminal c.read_piece.new.io) (heard_of (next, c.in_ok-next.more)) size short c.if-not-more.true c.in_ok-next.ensures.said (terminal c.answer.new.out) c.in_ok-answer.field-0 c.answer.ensures.heard
-    (subst (λ (l : List ℕ). WasTold g.S.LineSession.stands g.S.LineSession.answer next.session (take 1 (lines_of l)) old new (Ok c.in_ok-answer.field-0)) c.as_slice.ensures.value c.in_ok-answer.ensures.said)
+    (terminal c.read_piece.new.io) (heard_of (next, c.in_ok-next.more)) size short c.if-not-more.true c.in_ok-next.ensures.said (terminal c.answer_lines.new.out) c.in_ok-answer_lines.field-0 c.answer_lines.ensures.heard
+    (subst (λ (l : List ℕ). WasTold g.S.LineSession.stands g.S.LineSession.answer next.session (lines_of l) old new (Ok c.in_ok-answer_lines.field-0)) c.as_slice.ensures.value c.in_ok-answer_lines.ensures.said)
 
 pub returns-then-not-more-clause-reads : goal.returns-then-not-more-clause-reads
-returns-then-not-more-clause-reads g c = ap (λ (h : Hearing). h.faults) c.answer.ensures.heard ∙ c.in_ok-next.ensures.reads ∙ c.hearing.invariant.reads
+returns-then-not-more-clause-reads g c = ap (λ (h : Hearing). h.faults) c.answer_lines.ensures.heard ∙ c.in_ok-next.ensures.reads ∙ c.hearing.invariant.reads
 
 pub returns-then-not-more-clause-counted : goal.returns-then-not-more-clause-counted
-returns-then-not-more-clause-counted g c = c.in_ok-answer.ensures.counted ∙ c.in_ok-next.ensures.counted ∙ c.hearing.invariant.counted
+returns-then-not-more-clause-counted g c = c.in_ok-answer_lines.ensures.counted ∙ c.in_ok-next.ensures.counted ∙ c.hearing.invariant.counted
 
 pub hearing-preserved : goal.hearing-preserved
 hearing-preserved g c =

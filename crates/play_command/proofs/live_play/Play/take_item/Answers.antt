@@ -17,5 +17,5 @@ returns-clause-answers c =
     let old = c.args.self.now in
     let goes = subst (λ (names : List (List ℕ)). (number : ℕ) → GoesOnBy names (λ group. after_item group number c.args.item.now) old.live c.new-told.result c.perform.new.live c.perform.new.told c.in_ok-full.full) c.deref.ensures.value c.in_ok-full.ensures.goes in
     let at = subst (λ (p : ℕ). c.index.result.now ≡ slice_index_or old.names.items p c.index.result.now) c.process_of_item.ensures c.index.ensures in
-    plays_on old _ c.args.item.now c.new-told.result c.perform.new.told c.as_slice-name.result.now c.in_ok-text.text refl refl refl c.requires.room c.requires.tries c.requires.few
-    c.new-told.ensures.text c.new-told.ensures.tells c.new-told.ensures.acted c.new-told.ensures.idle goes (λ state s. c.as_slice-name.ensures ∙ name_at state.group old.names.items (process_of_item c.args.item.now) c.index.result.now s.names (in_group (length old.names.items) c.args.item.now c.requires.in_range) at) c.in_ok-text.ensures
+    plays_on old _ c.args.item.now c.new-told.result c.perform.new.told c.as_slice-name.result.now c.in_ok-saying.saying refl refl refl c.requires.room c.requires.tries c.requires.few
+    c.new-told.ensures.text c.new-told.ensures.tells c.new-told.ensures.acted c.new-told.ensures.idle goes (λ state s. c.as_slice-name.ensures ∙ name_at state.group old.names.items (process_of_item c.args.item.now) c.index.result.now s.names (in_group (length old.names.items) c.args.item.now c.requires.in_range) at) c.in_ok-saying.ensures
