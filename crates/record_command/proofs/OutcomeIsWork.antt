@@ -11,7 +11,9 @@ use Rattle.group_record.specs.Answer.{first_states, first_states_from, group_of,
 use Rattle.group_record.specs.Run.{run}
 use Rattle.command_run.specs.Laws.{ReadsModules}
 use Rattle.command_run.specs.Outcome.{CommandStop, CommandWork, and_then}
-use Rattle.record_command.specs.Expected.{group_outcome, modules_of, record_outcome, schedule_in, schedule_or_refusal}
+use Rattle.record_command.specs.Agreement.{IsRecordable}
+use Rattle.record_command.specs.Expected.{KeepsSchedule, modules_of, record_outcome, schedule_in, schedule_or_refusal}
+use Rattle.record_command.specs.ExpectedLaws.{outcome_is_run}
 use Rattle.schedule_text.specs.Limits.{most_schedule}
 use Rattle.record_command.specs.Record.{outcome_by_room, recorded_work}
 use Rattle.record_command.specs.Valid.{AreModuleFiles, IsScheduleFile, RecordsWhole, modules_in}
@@ -39,17 +41,23 @@ module _ (modules : ReadsModules) (schedules : GivesSchedules) where
       ap (λ (o : Option State). with_first_state o p (first_states_from count (suc p) (modules_in folder count (suc p) lines files.1))) files.0.1.1
       ∙ ap (with_first_state (Some files.0.1.0) p) (states_stand folder count (suc p) lines files.1)
 
-  pub recording_works : (images : Bool) (schedule_name : List ℕ) (folder : Folder) → RecordsWhole folder schedule_name → (work : CommandWork) × (record_outcome images schedule_name folder ≡ Ok work)
-  recording_works images schedule_name folder h =
+  pub recording_works : (images : Bool) (schedule_name : List ℕ) (folder : Folder) (h : RecordsWhole folder schedule_name) → KeepsSchedule images schedule_name h.schedule → (work : CommandWork) × (record_outcome images schedule_name folder ≡ Ok work)
+  recording_works images schedule_name folder h kept =
       let schedule = h.schedule in
       let count = length schedule.processes in
       let ms = modules_in folder count 0 schedule.processes h.files in
       let first = states_in folder count 0 schedule.processes h.files in
       let group = group_of schedule first in
-      let begins : first_states schedule ms ≡ Ok first = states_stand folder count 0 schedule.processes h.files in (
+      let begins : first_states schedule ms ≡ Ok first = states_stand folder count 0 schedule.processes h.files in
+      let recordable : IsRecordable folder schedule_name = record {
+        schedule = schedule;
+        spelled = schedule_stands folder schedule_name schedule h.file;
+        modules = ms;
+        found = modules_stand folder count 0 schedule.processes h.files;
+        first = first;
+        begins = begins;
+      } in (
         recorded_work images group (run group schedule.items),
-        ap (λ (r : Result Schedule CommandStop). and_then r (λ schedule. and_then (modules_of folder schedule.processes) (λ modules. group_outcome images schedule_name schedule (first_states schedule modules)))) (schedule_stands folder schedule_name schedule h.file)
-            ∙ ap (λ (r : Result (List Module) CommandStop). and_then r (λ modules. group_outcome images schedule_name schedule (first_states schedule modules))) (modules_stand folder count 0 schedule.processes h.files)
-            ∙ ap (group_outcome images schedule_name schedule) begins
+        outcome_is_run images recordable kept
             ∙ ap (outcome_by_room images schedule_name group (run group schedule.items)) (h.room first begins),
       )

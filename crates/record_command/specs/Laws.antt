@@ -6,21 +6,22 @@ use Rattle.group_record.specs.Images.{images_of}
 use Rattle.fri_outside.specs.Several.{with_files}
 use Rattle.command_run.specs.Outcome.{CommandWork, writes_of}
 use Rattle.record_command.specs.Agreement.{AgreesWithRun, IsAtMomentOfRun, IsStoppedInHeads, IsRecordable, LeavesLogs, LeavesMoment, group_in, run_in, steps_in}
-use Rattle.record_command.specs.Expected.{record_outcome}
+use Rattle.record_command.specs.Expected.{KeepsSchedule, record_outcome}
 use Rattle.record_command.specs.Valid.{RecordsWhole}
 
--- what can be recorded whole has an outcome that is work
+-- what can be recorded whole has an outcome that is work, unless its schedule's own file would be made
 abbrev pub RecordingsWork : Type 0
-RecordingsWork = (images : Bool) (schedule_name : List ℕ) (folder : Folder) → RecordsWhole folder schedule_name
+RecordingsWork = (images : Bool) (schedule_name : List ℕ) (folder : Folder) (h : RecordsWhole folder schedule_name) → KeepsSchedule images schedule_name h.schedule
     → (work : CommandWork) × (record_outcome images schedule_name folder ≡ Ok work)
 
 -- the logs of each recording agree with its run
 abbrev pub RecordingsAgree : Type 0
 RecordingsAgree = (folder : Folder) (schedule_name : List ℕ) → AgreesWithRun schedule_name folder
 
--- a folder in which the files of the outcome are made has the log of each process, of the whole run
+-- a folder in which the files of the outcome are made has the log of each process, of the whole run, unless the schedule's own
+-- file would be one of them
 abbrev pub RecordingsLeaveLogs : Type 0
-RecordingsLeaveLogs = (images : Bool) (schedule_name : List ℕ) (before after : Folder) (r : IsRecordable before schedule_name)
+RecordingsLeaveLogs = (images : Bool) (schedule_name : List ℕ) (before after : Folder) (r : IsRecordable before schedule_name) → KeepsSchedule images schedule_name r.schedule
     → Some after ≡ with_files (writes_of (record_outcome images schedule_name before)) (Some before) → LeavesLogs (group_in r) (steps_in r) after
 
 -- before anything is made a folder stands as at a moment of the run
