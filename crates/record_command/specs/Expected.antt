@@ -8,7 +8,7 @@ use Rattle.schedule_text.specs.Reading.{ScheduleRefusal, BadLineAt, TooManyRuns,
 use Rattle.schedule_text.specs.Schedule.{Schedule}
 use Rattle.guest_process.specs.State.{State}
 use Rattle.process_files.specs.Images.{mem_name, out_name}
-use Rattle.group_record.specs.Answer.{first_states, group_of, names_of}
+use Rattle.group_record.specs.Answer.{first_states, group_of}
 use Rattle.group_record.specs.Logs.{log_name}
 use Rattle.group_record.specs.Run.{run}
 use Rattle.command_run.specs.Apart.{AreApart, unless_over_input}
@@ -52,10 +52,13 @@ abbrev pub inputs_in : Folder → List ℕ → Result (Schedule × List Module) 
 inputs_in folder schedule_name =
     and_then (schedule_in folder schedule_name) (λ schedule. and_then (modules_of folder schedule.processes) (λ modules. Ok (schedule, modules)))
 
--- the names of the logs, and of the images where they are asked for
+-- the names of the images, where they are asked for
+abbrev pub image_names : Bool → List ProcessLine → List (List ℕ)
+image_names images lines = if images then map (λ line. mem_name line.name) lines ++ map (λ line. out_name line.name) lines else []
+
+-- the names of the files that are made: the logs, and the images
 abbrev pub made_names : Bool → Schedule → List (List ℕ)
-made_names images schedule =
-    map log_name (names_of schedule) ++ (if images then map mem_name (names_of schedule) ++ map out_name (names_of schedule) else [])
+made_names images schedule = map (λ line. log_name line.name) schedule.processes ++ image_names images schedule.processes
 
 -- the schedule's own file is none of these. No module's can be, as a schedule names none that ends so
 abbrev pub KeepsSchedule : Bool → List ℕ → Schedule → Type 0

@@ -4,7 +4,7 @@ ghost use Rattle.fri_outside.specs.Outside.{Counts};
 ghost use Rattle.schedule_text.specs.Schedule.{IsProcess};
 ghost use Rattle.command_run.specs.Apart.{unless_over_input};
 ghost use Rattle.command_run.specs.Call.{RaisesCount, TellsResult, reads_after, writes_after};
-ghost use Rattle.record_command.specs.Expected.{made_names};
+ghost use Rattle.record_command.specs.Expected.{image_names, made_names};
 
 use command_run::{StopCause, keep_apart};
 use process_files::process_file;
@@ -27,6 +27,23 @@ fn push_names(
     Ok(())
 }
 
+// Adds the names of the images, where they are asked for.
+fn push_images(
+    alloc: Global,
+    images: bool,
+    lines: &[ProcessLine],
+    names: &mut Vec<String>,
+) -> Result<(), AllocError>
+    requires { All IsProcess lines.now }
+    ensures { OnOk result (map string_bytes names.new.items ≡ map string_bytes names.old.items ++ image_names images lines.now) }
+{
+    if !images {
+        return Ok(());
+    }
+    push_names(alloc, lines, ".mem", names)?;
+    push_names(alloc, lines, ".out", names)
+}
+
 fn made_names(
     alloc: Global,
     images: bool,
@@ -37,10 +54,7 @@ fn made_names(
     let lines = schedule.processes();
     let mut names = Vec::new(alloc);
     push_names(alloc, lines, ".log", &mut names)?;
-    if images {
-        push_names(alloc, lines, ".mem", &mut names)?;
-        push_names(alloc, lines, ".out", &mut names)?;
-    }
+    push_images(alloc, images, lines, &mut names)?;
     Ok(names)
 }
 
