@@ -106,12 +106,15 @@ module _ (process event : ℕ) (pairs : List Pair) (told : Option Folder) (past 
 -- ---- the files of a group whose process has the event
 
 -- what is made has the name of the file of a log that is cut
+named_later : (first name : List ℕ) (names : List (List ℕ)) → Contains names name → Contains (first ∷ names) name
+named_later first name names (k, below, at) = (suc k, omega (arith, below), at)
+
 made_of_log : (start : List Replaying) (kept : List ℕ) (name : List ℕ) → Contains (map (λ file. file.0) (cut_files start kept)) name → Contains (map (λ r. cut_name r.head.name) start) name
 made_of_log [] kept name (k, below, at) = absurd (omega (arith, below))
 made_of_log (r ∷ start) [] name (k, below, at) = absurd (omega (arith, below))
 made_of_log (r ∷ start) (n ∷ kept) name (zero, below, at) = (0, omega arith, at)
 made_of_log (r ∷ start) (n ∷ kept) name (suc k, below, at) =
-    let rest = made_of_log start kept name (k, omega (arith, below), at) in (suc rest.0, omega (arith, rest.1.0), rest.1.1)
+    named_later (cut_name r.head.name) name (map (λ r. cut_name r.head.name) start) (made_of_log start kept name (k, omega (arith, below), at))
 
 pub cuts_work : OpensGroups → CutsWork
 cuts_work opens process event pairs folder h =
