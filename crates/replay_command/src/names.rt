@@ -29,7 +29,23 @@ fn image_names(
     Ok(names)
 }
 
-/// Refuses a file of these pairs if one of its name would be made for an image.
+// Refuses a file of these pairs if an image of its name would be made.
+fn keep_from_images(
+    alloc: Global,
+    pairs: &[Pair<'_>],
+    replayers: &[Replayer<'_, '_>],
+) -> Result<(), StopCause>
+    requires { All (λ r. IsHead r.head) replayers.now }
+    ensures answer { TellsResult (λ done. done) (unless_over_input (names_of_pairs (map pair_of pairs.now)) (map (λ file. file.0) (images_in replayers.now))) result }
+    ensures cause { (old new : Counts) → IfErr result (RaisesCount old new) }
+    ensures still { (n : ℕ) → (reads_after n result ≡ n) × (writes_after n result ≡ n) }
+{
+    let read = file_names(alloc, pairs)?;
+    let made = image_names(alloc, replayers)?;
+    keep_apart(alloc, &read, &made)
+}
+
+/// The same where images are asked for.
 pub(crate) fn keep_pairs(
     alloc: Global,
     images: bool,
@@ -41,10 +57,9 @@ pub(crate) fn keep_pairs(
     ensures cause { (old new : Counts) → IfErr result (RaisesCount old new) }
     ensures still { (n : ℕ) → (reads_after n result ≡ n) × (writes_after n result ≡ n) }
 {
-    if !images {
-        return Ok(());
+    if images {
+        keep_from_images(alloc, pairs, replayers)
+    } else {
+        Ok(())
     }
-    let read = file_names(alloc, pairs)?;
-    let made = image_names(alloc, replayers)?;
-    keep_apart(alloc, &read, &made)
 }

@@ -2,7 +2,7 @@ use Rattle.std.proofs.Common.{◌≡◌, ◌∙◌, ap, map, string_bytes, sym}
 use Rattle.log_pairs.specs.Meanings.{pair_of}
 use Rattle.log_pairs.specs.Pairs.{names_of_pairs}
 use Rattle.replay_command.specs.Report.{images_in}
-use Rattle.replay_command.proofs.names.keep_pairs.Goals as goal
+use Rattle.replay_command.proofs.names.keep_from_images.Goals as goal
 
 pub returns-clause-answer : goal.returns-clause-answer
 returns-clause-answer c =
