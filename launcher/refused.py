@@ -16,7 +16,7 @@ HERE = os.path.dirname(os.path.dirname(os.path.realpath(__file__)))
 CHECK_MODULE = os.path.join(HERE, "guests", "check-module")
 MOST_LINES = 3
 # Reasons of which the page says what to do beyond what is told of the files.
-ADVISED = ("OtherGroup", "SameProcess", "SameName", "Incomplete", "TooManyEvents", "TooLong", "Grown", "OverInput")
+ADVISED = ("OtherGroup", "SameProcess", "SameName", "Incomplete", "TooManyEvents", "TooLong", "Grown")
 IMAGES = ".mem", ".out"
 MOST_OF = {"MODULE": MOST_MODULE, "LOG": MOST_LOG, "SCHEDULE": MOST_SCHEDULE}
 LARGE_INPUT = "input", "TooLarge", ["standard input has more than %d bytes before the session ends" % MOST_SCHEDULE]
@@ -121,7 +121,7 @@ def made_of(again, data):
 def over_input(again, made):
     """The first of the names to be made that the call reads, or None."""
     clash = next((name for name in made if name in again.files), None)
-    return clash and (clash, "14 OverInput", ["%s is read by this call, which would make a file of that name" % clash])
+    return clash and (clash, "14 OverInput", [])
 
 
 def full_log(data):
