@@ -175,8 +175,6 @@ def refused_onto_logs(script):
     for log in ping_and_pong():
         script.file(log.name + ".cut", digits(log.spelled()))
     onto = "cut 1 2 ping.wasm ping.cut pong.wasm pong.cut"
-    script.fail("files", READS)
-    script.run(onto, "ReadFault")
     script.fail("files", READS + 1)
     script.run(onto, *refused("ping.cut", OVER_INPUT))
     script.run(onto, "ReadFault")
