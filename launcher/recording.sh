@@ -39,9 +39,11 @@ before_recording() {
     names=$(names_of "$schedule" | awk '!seen[$0]++ { printf "%s ", $0 }')
     for name in $names; do
         for kind in $kinds; do
+            # The program refuses a schedule of such a name, and does not know it under another one.
+            [ "$schedule" != "$name.$kind" ] || return 0
             # shellcheck disable=SC3013 # dash has -ef, as bash has.
             if [ "$schedule" -ef "$name.$kind" ]; then
-                say "$name.$kind would be written over the schedule $schedule: give that another name"
+                say "$name.$kind is the schedule $schedule under another name, and would be made anew: give it another name"
                 return 2
             fi
         done

@@ -17,6 +17,7 @@ CHECK_MODULE = os.path.join(HERE, "guests", "check-module")
 MOST_LINES = 3
 # Reasons of which the page says what to do beyond what is told of the files.
 ADVISED = ("OtherGroup", "SameProcess", "SameName", "Incomplete", "TooManyEvents", "TooLong", "Grown")
+IMAGES = ".mem", ".out"
 MOST_OF = {"MODULE": MOST_MODULE, "LOG": MOST_LOG, "SCHEDULE": MOST_SCHEDULE}
 LARGE_INPUT = "input", "TooLarge", ["standard input has more than %d bytes before the session ends" % MOST_SCHEDULE]
 
@@ -51,6 +52,8 @@ def find(again):
     if not again.pairs:
         return of_schedule(again)
     found = again.refusal(again.of_pairs("debug"))
+    if found is None and name == "replay":
+        return over_input(again, [told.name + ending for told in again.report() for ending in IMAGES])
     if found or name in ("replay", "streams"):
         return found
     if name == "cut":
@@ -78,7 +81,7 @@ def of_play(again):
 
 
 def of_schedule(again):
-    """Of `record`, and of any command that takes a schedule."""
+    """Of `record`, and of any command that takes a schedule. Only `record` makes files."""
     path = again.files[0]
     if size_of(path) > MOST_SCHEDULE:
         return path, "TooLarge"
@@ -98,21 +101,39 @@ def of_schedule(again):
     reasons = [(module, again.of_module(module)) for module in dict.fromkeys(modules_of(path))]
     first = [(module, reason) for module, reason in reasons if reason and not reason.startswith("7 ")]
     late = [(module, reason) for module, reason in reasons if reason]
-    if late:
-        return (first or late)[0]
+    clash = over_input(again, made_of(again, data)) if again.command.name == "record" and not first else None
+    if clash or late:
+        return clash or (first or late)[0]
     return path, "item N LogFull", [full_log(data)]
+
+
+def names_in(data):
+    """The names of a schedule's processes."""
+    return [line.split()[1].decode() for line in data.split(b"\n") if line.split()[:1] == [b"process"]]
+
+
+def made_of(again, data):
+    """The names of the files that a recording of this schedule makes."""
+    endings = (".log", *IMAGES) if "--images" in again.words else (".log",)
+    return [name + ending for name in names_in(data) for ending in endings]
+
+
+def over_input(again, made):
+    """The first of the names to be made that the call reads, or None."""
+    clash = next((name for name in made if name in again.files), None)
+    return clash and (clash, "14 OverInput", [])
 
 
 def full_log(data):
     """Whose log has no room left, by the files that the recording has made."""
-    names = [line.split()[1].decode() for line in data.split(b"\n") if line.split()[:1] == [b"process"]]
+    names = names_in(data)
     sizes = [(size_of(name + ".log") or 0, name) for name in names]
     size, name = max(sizes)
     return "%s.log has %d bytes, and its next event would take it past %d; the number of the item stands in the line on standard output" % (name, size, MOST_LOG)
 
 
 def of_cut(again):
-    """Which of the two reasons of `cut` it is: the pairs are accepted."""
+    """Which of the reasons of `cut` it is: the pairs are accepted."""
     process, number = (int(word) for word in again.words[1:3])
     heads = [head_of(log) for _, log in again.pairs]
     events = {told.name: told.events for told in again.report()}
@@ -121,6 +142,8 @@ def of_cut(again):
     if place is None:
         return again.pairs[0][1], "12 NoProcess", ["no log of process %d is given; those that are given: %s" % (process, counts)]
     name = heads[place].name
+    if number <= events.get(name, 0):
+        return over_input(again, [head.name + ".cut" for head in sorted(heads, key=lambda head: head.process)])
     told = "%s has %d events, so there is no event %d; those that are given: %s" % (name, events.get(name, 0), number, counts)
     return again.pairs[place][1], "13 NoEvent", [told]
 

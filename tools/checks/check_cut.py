@@ -12,6 +12,7 @@ least past is looked for among all fronts too.
 
 import argparse
 import os
+import shutil
 import sys
 import tempfile
 from dataclasses import replace
@@ -38,6 +39,13 @@ CUTS = 2
 def cut_words(pairs):
     """The modules and the logs that were made."""
     return [word for module, log in pairs for word in (module, log.name + ".cut")]
+
+
+def copies_of_cuts(folder, pairs):
+    """The same under other names, as no file is made in the place of one that is read."""
+    for _, log in pairs:
+        shutil.copy(os.path.join(folder, log.name + ".cut"), os.path.join(folder, log.name + ".again"))
+    return [word for module, log in pairs for word in (module, log.name + ".again")]
 
 
 def paths(folder, words):
@@ -118,7 +126,7 @@ def check_event(program, draw, folder, pairs, event):
     lengths = past_of(logs, *event)
     again, same = cut_of([replace(log, entries=log.entries[:length]) for log, length in zip(logs, lengths)], *event)
     assert same == files
-    check_call(program, folder, cut_words(draw.sample(pairs, len(pairs))), event, again, files)
+    check_call(program, folder, copies_of_cuts(folder, draw.sample(pairs, len(pairs))), event, again, files)
     check_shown(program, folder, pairs, lengths)
 
 

@@ -1,5 +1,5 @@
 #!/usr/bin/env python3
-"""Checks what ./friday says where something is refused, 83 calls and 63 lines of the debugger, and what it says of traps: with what
+"""Checks what ./friday says where something is refused, 88 calls and 63 lines of the debugger, and what it says of traps: with what
 stands on standard output and on standard error, as refusals.txt has it. Then the launcher's own reading of schedules and of lines of
 the debugger is held against the program's, on some that are drawn at random, and a session is typed on a terminal. A program is given,
 so that nothing is built.
@@ -89,7 +89,7 @@ def all_told(program, room):
             given[name] = file.read()
     lines = Case("lines of the debugger", "debug " + PAIRS, {"lines": "\n".join(LINES) + "\n"}, "< lines")
     cases = (*BAD_LINES, *MANY, *MODULES, *cases_of_logs(given["ping.log"], given["pong.log"]), *FILES, *WORDS)
-    assert len(cases) == 83
+    assert len(cases) == 88
     for number, case in enumerate((*cases, *TRAPS, lines)):
         folder = os.path.join(room, "%d" % number)
         # Logs in the folder of a recording would be told of as well.

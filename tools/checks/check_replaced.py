@@ -1,6 +1,7 @@
 #!/usr/bin/env python3
 """Checks that an old file stands until the new one is whole: of calls that are killed at moments drawn at random, of calls whose
-writes fail, since a file may have only so many bytes, and where nothing can be made; and what a new file takes over from the old one.
+writes fail, since a file may have only so many bytes, and where nothing can be made; what a new file takes over from the old one; and
+that no file is made in the place of one that the call reads.
 
 check_replaced.py [--kills N] [--seed N] [PROGRAM]
                 (200 of each command, the program that answers ./friday, if none is given)
@@ -196,6 +197,35 @@ def check_takes_over(group):
     assert left_beside(group.folder) == []
 
 
+def over_inputs(group):
+    """Calls that would make a file in the place of one that they read: which one, and the files of that place. Other words make it."""
+    schedule = read(os.path.join(group.folder, "schedule"))
+    ping, pong = (read(os.path.join(group.folder, name + ".wasm")) for name in ("ping", "pong"))
+    logs = {name: read(os.path.join(group.folder, name + ".log")) for name in ("ping", "pong")}
+    return (
+        ("cut 1 2 ping.cut ping.log pong.wasm pong.log", "ping.cut", {"ping.cut": ping}),
+        ("cut 1 2 ping.wasm ping.log pong.wasm pong.cut", "pong.cut", {"pong.cut": logs["pong"]}),
+        ("record ping.log", "ping.log", {"ping.log": schedule}),
+        ("record --images pong.log", "pong.log", {"pong.log": schedule}),
+        ("record --images ping.mem", "ping.mem", {"ping.mem": schedule}),
+        ("record --images pong.out", "pong.out", {"pong.out": schedule}),
+        ("replay --images ping.wasm ping.log pong.mem pong.log", "pong.mem", {"pong.mem": pong}),
+        ("replay --images ping.wasm ping.out pong.wasm pong.log", "ping.out", {"ping.out": logs["ping"]}),
+    )
+
+
+def check_over_inputs(group):
+    for words, clash, files in over_inputs(group):
+        stood = held(group.folder, [name for name in os.listdir(group.folder) if os.path.isfile(os.path.join(group.folder, name))])
+        put(group.folder, files)
+        before = held(group.folder, stood | files)
+        done = subprocess.run([group.program, *words.split()], cwd=group.folder, stdin=subprocess.DEVNULL, stdout=subprocess.PIPE)
+        assert (done.returncode, done.stdout.decode()) == (3, "friday: refused %s: 14 OverInput\n" % clash), (words, done)
+        assert held(group.folder, before) == before and set(os.listdir(group.folder)) >= set(before), words
+        put(group.folder, {name: stood.get(name, OLD) for name in files})
+    assert call(group.program, group.folder, "record --images schedule") == 0
+
+
 def main():
     parser = argparse.ArgumentParser(description=__doc__, formatter_class=argparse.RawDescriptionHelpFormatter, allow_abbrev=False)
     parser.add_argument("--kills", type=int, default=200)
@@ -205,6 +235,7 @@ def main():
     program = program_of(chosen.program)
     with tempfile.TemporaryDirectory() as folder:
         group = Group(os.path.realpath(program), folder)
+        check_over_inputs(group)
         check_takes_over(group)
         check_full(group)
         check_closed_folder(group)

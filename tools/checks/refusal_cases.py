@@ -132,6 +132,9 @@ def cases_of_logs(ping, pong):
         Case("log: not whole", "schedule ping.wasm cut.log pong.wasm pong.log", {"cut.log": ping[:-1]}),
         Case("log: no such process", "cut 7 1 " + PAIRS),
         Case("log: no such event", "cut 1 99 " + PAIRS),
+        Case("over an input: a module of a cut", "cut 1 2 ping.cut ping.log pong.wasm pong.log", {"ping.cut": contents_of("examples", "pingpong", "ping.wasm")}),
+        Case("over an input: a log of a cut", "cut 1 2 ping.wasm ping.log pong.wasm pong.cut", {"pong.cut": pong}),
+        Case("over an input: a log of a replay", "replay --images ping.wasm ping.out pong.wasm pong.log", {"ping.out": ping}),
         Case("exchanged: the first pair", "replay ping.log ping.wasm pong.wasm pong.log"),
         Case("exchanged: the second pair", "debug ping.wasm ping.log pong.log pong.wasm"),
         Case("another recording: one log", "replay ping.wasm ping.log pong.wasm old.log", {"old.log": of(second, entries=second.entries[:1])}, "> report"),
@@ -151,6 +154,8 @@ def changed(log):
 
 
 FILES = (
+    Case("over an input: a schedule", "record a.log", {"a.log": "friday 1\nprocess a ping.wasm\nrun 0 0\n"}),
+    Case("over an input: a schedule and an image", "record --images a.mem", {"a.mem": "friday 1\nprocess a ping.wasm\nrun 0 0\n"}),
     Case("absent: the schedule", "record schedul"),
     Case("absent: the schedule of a play", "play schedul"),
     Case("absent: a log", "replay ping.wasm ping.lgo"),

@@ -1,3 +1,4 @@
+pub mod Clashes
 pub mod CommandEnds
 pub mod ModuleFaults
 pub mod KeptModules

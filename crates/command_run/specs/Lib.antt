@@ -3,6 +3,8 @@ pub mod Fault
 pub mod Limits
 pub mod Outcome
 pub mod OutcomeLaws
+pub mod Apart
+pub mod ApartLaws
 pub mod Inputs
 pub mod Kept
 pub mod Call

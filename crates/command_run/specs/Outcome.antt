@@ -68,6 +68,7 @@ reason_text reason.TooManyEvents = codes "10 TooManyEvents"
 reason_text reason.TooLong = codes "11 TooLong"
 reason_text reason.NoProcess = codes "12 NoProcess"
 reason_text reason.NoEvent = codes "13 NoEvent"
+reason_text reason.OverInput = codes "14 OverInput"
 
 abbrev pub usage_line : List ℕ
 usage_line = codes "friday: these words are not a command\n"

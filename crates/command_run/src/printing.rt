@@ -49,6 +49,7 @@ fn push_reason(text: &mut Text, reason: Reason) -> Result<(), AllocError>
         Reason::TooLong => text.push_str("11 TooLong"),
         Reason::NoProcess => text.push_str("12 NoProcess"),
         Reason::NoEvent => text.push_str("13 NoEvent"),
+        Reason::OverInput => text.push_str("14 OverInput"),
     }
 }
 

@@ -45,6 +45,8 @@ pub enum Reason {
     NoProcess,
     /// The log has fewer accepted events.
     NoEvent,
+    /// A file that was read would be made.
+    OverInput,
 }
 
 /// What a command prints at the end of its work, at which a log may have diverged.

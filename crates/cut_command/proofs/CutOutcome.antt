@@ -1,6 +1,6 @@
 -- The outcome of a cut, from what was read and made.
-use Rattle.std.proofs.Common.{◌≡◌, ◌∙◌, ◌≤◌, ℕ, Bool, cond, List, [], length, map, Option, Some, None, option_map, Result, Ok, Err, ap, refl, subst, sym}
-use Rattle.std.specs.Prelude.{⊤, MatchResult, slice_index_or}
+use Rattle.std.proofs.Common.{◌≡◌, ◌∙◌, ◌≤◌, ◌<◌, ℕ, zero, suc, Bool, cond, List, [], ◌∷◌, arith, length, map, Option, Some, None, option_map, Result, Ok, Err, ap, refl, subst, sym}
+use Rattle.std.specs.Prelude.{⊤, Contains, MatchResult, slice_index_or}
 use Rattle.std.proofs.lemmas.Bool.{le-leb}
 use Rattle.std.proofs.lemmas.Option.{get_or_from_slice_get, slice_get-map}
 use Rattle.fri_outside.specs.Outside.{Folder, WhenTold}
@@ -13,15 +13,16 @@ use Rattle.command_run.specs.declared.refusal.StopCause.{StopCause}
 use Rattle.command_run.specs.declared.refusal.StopCause.TheVariants as refusal
 use Rattle.command_run.specs.Call.{MakesWholeFiles, MakesAllFiles, StopsAsCause, TellsOutcome}
 use Rattle.command_run.specs.Outcome.{CommandOutcome, CommandStop, and_then, writes_of}
+use Rattle.command_run.specs.ApartLaws.{apart_goes_on, apart_works}
 use Rattle.command_run.specs.OutcomeLaws.{result_follows, outcome_when_told, same_Ok_value}
 use Rattle.log_pairs.specs.declared.pairs.Loaded.{Loaded as LoadedFiles}
 use Rattle.log_pairs.specs.Finding.{log_file}
 use Rattle.log_pairs.specs.Laws.{OpensGroups}
-use Rattle.log_pairs.specs.Pairs.{Loaded, NoneOpened, Pair, WasOpened, loaded_pairs, replays_of, replays_of_pairs, sort_replays}
+use Rattle.log_pairs.specs.Pairs.{Loaded, NoneOpened, Pair, WasOpened, loaded_pairs, names_of_pairs, replays_of, replays_of_pairs, sort_replays}
 use Rattle.log_pairs.specs.Meanings.{AreLoadedPairs, WereLoaded}
 use Rattle.cut_command.specs.declared.fronts.Front.{Front}
 use Rattle.cut_command.specs.declared.past.Past.{Past}
-use Rattle.cut_command.specs.Cut.{cut_of_replays, cut_outcome, cut_work, unless_few_events, unless_other_process}
+use Rattle.cut_command.specs.Cut.{cut_files, cut_name, cut_of_pairs, cut_of_replays, cut_outcome, cut_work, unless_few_events, unless_other_process}
 use Rattle.cut_command.specs.Laws.{CutsToPast, CutsWork, IsCutLog}
 use Rattle.cut_command.specs.inside.Meanings.{front_file, work_of_past}
 
@@ -29,14 +30,14 @@ use Rattle.cut_command.specs.inside.Meanings.{front_file, work_of_past}
 
 -- the outcome of pairs that were read to these replays is what is made of these
 opened : (process event : ℕ) (folder : Folder) (pairs : List Pair) (ls : List Loaded) (start : List Replaying) → loaded_pairs folder [] pairs ≡ Ok ls → replays_of_pairs folder pairs ≡ Ok start
-    → cut_outcome process event pairs folder ≡ cut_of_replays pairs ls process event start
+    → cut_outcome process event pairs folder ≡ cut_of_pairs pairs ls process event start
 opened process event folder pairs ls start loaded is =
     let after : and_then (replays_of ls) (λ rs. Ok (sort_replays [] rs)) ≡ Ok start =
     ap (λ (r : Result (List Loaded) CommandStop). and_then r (λ ls. and_then (replays_of ls) (λ rs. Ok (sort_replays [] rs)))) (sym loaded) ∙ is in
     let f = result_follows (replays_of ls) (λ rs. Ok (sort_replays [] rs)) start after in
-    ap (λ (r : Result (List Loaded) CommandStop). and_then r (λ ls. and_then (replays_of ls) (λ rs. cut_of_replays pairs ls process event (sort_replays [] rs)))) loaded
-    ∙ ap (λ (r : Result (List Replaying) CommandStop). and_then r (λ rs. cut_of_replays pairs ls process event (sort_replays [] rs))) f.is_given
-    ∙ ap (cut_of_replays pairs ls process event) (same_Ok_value (Ok (sort_replays [] f.given)) (sort_replays [] f.given) start refl f.comes)
+    ap (λ (r : Result (List Loaded) CommandStop). and_then r (λ ls. and_then (replays_of ls) (λ rs. cut_of_pairs pairs ls process event (sort_replays [] rs)))) loaded
+    ∙ ap (λ (r : Result (List Replaying) CommandStop). and_then r (λ rs. cut_of_pairs pairs ls process event (sort_replays [] rs))) f.is_given
+    ∙ ap (cut_of_pairs pairs ls process event) (same_Ok_value (Ok (sort_replays [] f.given)) (sort_replays [] f.given) start refl f.comes)
 
 stop_or : {A : Type 0} → CommandStop → Result A CommandStop → CommandStop
 stop_or default (Ok value) = default
@@ -50,10 +51,10 @@ unfolding stop_or
 same_stop s stop is = ap (λ (s : CommandStop). Err s) (ap (stop_or s) is)
 
 stop_too : (process event : ℕ) (pairs : List Pair) (a : Result (List Loaded) CommandStop) (stop : CommandStop) → and_then a (λ ls. and_then (replays_of ls) (λ rs. Ok (sort_replays [] rs))) ≡ Err stop
-    → and_then a (λ ls. and_then (replays_of ls) (λ rs. cut_of_replays pairs ls process event (sort_replays [] rs))) ≡ Err stop
+    → and_then a (λ ls. and_then (replays_of ls) (λ rs. cut_of_pairs pairs ls process event (sort_replays [] rs))) ≡ Err stop
 stop_too process event pairs (Err s) stop is = same_stop s stop is
 stop_too process event pairs (Ok ls) stop is = by_replays (replays_of ls) is where
-  by_replays : (b : Result (List Replaying) CommandStop) → and_then b (λ rs. Ok (sort_replays [] rs)) ≡ Err stop → and_then b (λ rs. cut_of_replays pairs ls process event (sort_replays [] rs)) ≡ Err stop
+  by_replays : (b : Result (List Replaying) CommandStop) → and_then b (λ rs. Ok (sort_replays [] rs)) ≡ Err stop → and_then b (λ rs. cut_of_pairs pairs ls process event (sort_replays [] rs)) ≡ Err stop
   by_replays (Ok rs) is = absurd (cc)
   by_replays (Err s) is = same_stop s stop is
 
@@ -70,7 +71,7 @@ opening_stops process event pairs told e none folder is = stops_too process even
 
 -- the outcome of the replays
 pub found_past : (process event : ℕ) (pairs : List Pair) (told : Option Folder) (all : List LoadedFiles) (start : List Replaying) (found : Result Past StopCause) → WereLoaded pairs told all → WasOpened pairs told start
-    → ((ls : List Loaded) → AreLoadedPairs all ls → MatchResult found (λ past. cut_of_replays pairs ls process event start ≡ Ok (work_of_past past)) (StopsAsCause (cut_of_replays pairs ls process event start)))
+    → ((ls : List Loaded) → AreLoadedPairs all ls → MatchResult found (λ past. cut_of_pairs pairs ls process event start ≡ Ok (work_of_past past)) (StopsAsCause (cut_of_pairs pairs ls process event start)))
     → WhenTold told (λ folder. MatchResult found (λ past. cut_outcome process event pairs folder ≡ Ok (work_of_past past)) (StopsAsCause (cut_outcome process event pairs folder)))
 found_past process event pairs told all start found loaded begun answer folder is =
     let l = loaded folder is in
@@ -104,6 +105,17 @@ module _ (process event : ℕ) (pairs : List Pair) (told : Option Folder) (past 
 
 -- ---- the files of a group whose process has the event
 
+-- what is made has the name of the file of a log that is cut
+named_later : (first name : List ℕ) (names : List (List ℕ)) → Contains names name → Contains (first ∷ names) name
+named_later first name names (k, below, at) = (suc k, omega (arith, below), at)
+
+made_of_log : (start : List Replaying) (kept : List ℕ) (name : List ℕ) → Contains (map (λ file. file.0) (cut_files start kept)) name → Contains (map (λ r. cut_name r.head.name) start) name
+made_of_log [] kept name (k, below, at) = absurd (omega (arith, below))
+made_of_log (r ∷ start) [] name (k, below, at) = absurd (omega (arith, below))
+made_of_log (r ∷ start) (n ∷ kept) name (zero, below, at) = (0, omega arith, at)
+made_of_log (r ∷ start) (n ∷ kept) name (suc k, below, at) =
+    named_later (cut_name r.head.name) name (map (λ r. cut_name r.head.name) start) (made_of_log start kept name (k, omega (arith, below), at))
+
 pub cuts_work : OpensGroups → CutsWork
 cuts_work opens process event pairs folder h =
     let group = opens folder pairs h.group in
@@ -114,9 +126,11 @@ cuts_work opens process event pairs folder h =
     let lengths : Lengths = record { kept = least_past start has.node event; accepted = accepted_counts start } in
     let count : slice_index_or (accepted_counts start) has.node 0 ≡ length (entries_ahead has.replay) =
     get_or_from_slice_get (accepted_counts start) has.node (length (entries_ahead has.replay)) 0 (slice_get-map (λ r. length (entries_ahead r)) start has.node ∙ ap (option_map (λ r. length (entries_ahead r))) has.is) in
-    let within : event ≤ slice_index_or (accepted_counts start) has.node 0 = subst (λ (n : ℕ). event ≤ n) (sym count) has.within in (
+    let within : event ≤ slice_index_or (accepted_counts start) has.node 0 = subst (λ (n : ℕ). event ≤ n) (sym count) has.within in
+    let found : cut_of_replays pairs ls process event start ≡ Ok (cut_work start lengths) =
+    ap (unless_other_process pairs ls process event start) has.at
+    ∙ ap (λ (b : Bool). unless_few_events (log_file pairs ls process) start (cond b (Some lengths) None)) (le-leb event (slice_index_or (accepted_counts start) has.node 0) within) in
+    let kept = apart_goes_on (names_of_pairs pairs) (map (λ file. file.0) (cut_files start lengths.kept)) (λ name here there. h.apart start group.1 name here (made_of_log start lengths.kept name there)) in (
       cut_work start lengths,
-      opened process event folder pairs ls start ls_of.is_given group.1
-          ∙ ap (unless_other_process pairs ls process event start) has.at
-          ∙ ap (λ (b : Bool). unless_few_events (log_file pairs ls process) start (cond b (Some lengths) None)) (le-leb event (slice_index_or (accepted_counts start) has.node 0) within),
+      opened process event folder pairs ls start ls_of.is_given group.1 ∙ apart_works (names_of_pairs pairs) (cut_of_replays pairs ls process event start) (cut_work start lengths) found kept,
     )

@@ -4,9 +4,10 @@ use Rattle.fri_outside.specs.Outside.{Folder}
 use Rattle.call_log.specs.Log.{entries_of, rewritten_log}
 use Rattle.proc_replay.specs.Replaying.{Replaying}
 use Rattle.command_run.specs.declared.refusal.Reason.TheVariants as reason
+use Rattle.command_run.specs.Apart.{apart_work}
 use Rattle.command_run.specs.Outcome.{CommandOutcome, CommandWork, and_then, refuses_at_once}
 use Rattle.log_pairs.specs.Finding.{first_log, log_file}
-use Rattle.log_pairs.specs.Pairs.{Loaded, Pair, loaded_pairs, replays_of, sort_replays}
+use Rattle.log_pairs.specs.Pairs.{Loaded, Pair, loaded_pairs, names_of_pairs, replays_of, sort_replays}
 use Rattle.causal_cut.specs.Past.{Lengths, lengths_or_none}
 
 -- ---- the work
@@ -57,6 +58,10 @@ unless_other_process pairs ls process event start (Some node) = unless_few_event
 abbrev pub cut_of_replays : List Pair → List Loaded → ℕ → ℕ → List Replaying → CommandOutcome
 cut_of_replays pairs ls process event start = unless_other_process pairs ls process event start (node_of_process process start)
 
+-- and a file of the pairs that would be made
+abbrev pub cut_of_pairs : List Pair → List Loaded → ℕ → ℕ → List Replaying → CommandOutcome
+cut_of_pairs pairs ls process event start = and_then (cut_of_replays pairs ls process event start) (apart_work (names_of_pairs pairs))
+
 abbrev pub cut_outcome : ℕ → ℕ → List Pair → Folder → CommandOutcome
 cut_outcome process event pairs folder =
-    and_then (loaded_pairs folder [] pairs) (λ ls. and_then (replays_of ls) (λ rs. cut_of_replays pairs ls process event (sort_replays [] rs)))
+    and_then (loaded_pairs folder [] pairs) (λ ls. and_then (replays_of ls) (λ rs. cut_of_pairs pairs ls process event (sort_replays [] rs)))

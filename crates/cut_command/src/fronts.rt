@@ -1,13 +1,15 @@
 // The first parts of a group's logs that are kept.
-ghost use Rattle.std.specs.Prelude.{◌≡◌, ◌++◌, ◌≤◌, IfOk, OnOk, length, map};
+ghost use Rattle.std.specs.Prelude.{◌≡◌, ◌++◌, ◌≤◌, All, IfOk, OnOk, length, map, string_bytes};
 ghost use Rattle.std.specs.List.{flat_map};
 ghost use Rattle.lamport_tag.specs.Limits.{most_processes};
+ghost use Rattle.call_log.specs.Head.{IsHead};
 ghost use Rattle.cut_command.specs.Cut.{cut_line};
-ghost use Rattle.cut_command.specs.inside.Meanings.{fronts_of, front_line, log_of_replay};
+ghost use Rattle.cut_command.specs.inside.Meanings.{front_file, front_line, fronts_of, log_of_replay};
 
 use call_log::LogView;
 use causal_cut::Cut;
 use fri_text::Text;
+use process_files::process_file;
 use proc_replay::Replayer;
 use std::alloc::{AllocError, Global};
 
@@ -58,6 +60,18 @@ pub(crate) fn fronts_of<'m>(
         })?;
     }
     Ok(fronts)
+}
+
+/// The names of the files that are made of these logs.
+pub(crate) fn cut_names(alloc: Global, fronts: &[Front<'_>]) -> Result<Vec<String>, AllocError>
+    requires { All (λ front. IsHead front.log.head) fronts.now }
+    ensures { IfOk result (λ names. map string_bytes names.items ≡ map (λ file. file.0) (map front_file fronts.now)) }
+{
+    let mut names = Vec::new(alloc);
+    for front in fronts {
+        names.push(process_file(alloc, front.log.head().name, ".cut")?)?;
+    }
+    Ok(names)
 }
 
 // Adds the line of a log.

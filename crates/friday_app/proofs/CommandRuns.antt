@@ -13,7 +13,7 @@ use Rattle.command_run.specs.declared.refusal.WorkText.TheVariants as answered
 use Rattle.command_run.specs.declared.refusal.StopCause.{StopCause}
 use Rattle.command_run.specs.Call.{CountsFaults, DivergesOnlyIf, IsAnswerStatus, KeepsFolder, MakesWholeFiles, MakesWorkFiles, RaisesCount, TellsOutcome}
 use Rattle.command_run.specs.FileLaws.{whole_first, whole_makes}
-use Rattle.command_run.specs.Outcome.{CommandOutcome, NotACommand, outcome_text, writes_of}
+use Rattle.command_run.specs.Outcome.{CommandOutcome, NotACommand, outcome_status, outcome_text, writes_of}
 use Rattle.command_run.specs.Run.{CallEnds, FinishedCommand, LeavesInput, LeavesWholeFiles, Outside, PerformedCommand, expected_by_folder, file_state}
 use Rattle.record_command.specs.Agreement.{IsRecordable, LeavesMoment}
 use Rattle.record_command.specs.Expected.{record_outcome}
@@ -89,11 +89,12 @@ run_finished command ended answer old new f promised = record {
 
 -- what a recording left is shown
 left_shown : LeftIsShown → (images : Bool) (name : List ℕ) (answer : Status) (old new : Outside)
+    → WhenTold old.told (λ before. IsAnswerStatus answer → answer ≡ outcome_status (record_outcome images name before))
     → (IsAnswerStatus answer → WhenTold old.told (λ before. new.told ≡ with_files (writes_of (record_outcome images name before)) old.told))
     → WhenTold old.told (λ before. LeavesMoment images name before new.told)
-    → WhenTold old.told (λ before. WhenTold new.told (λ after. (r : IsRecordable before name) → ShowsRun r answer after))
-left_shown law images name answer old new made moment before is after here =
-    law images name answer before after (λ answers. sym here ∙ made answers before is ∙ ap (with_files (writes_of (record_outcome images name before))) is)
+    → WhenTold old.told (λ before. WhenTold new.told (λ after. (r : IsRecordable before name) → ShowsRun images r answer after))
+left_shown law images name answer old new status made moment before is after here =
+    law images name answer before after (status before is) (λ answers. sym here ∙ made answers before is ∙ ap (with_files (writes_of (record_outcome images name before))) is)
     (subst (LeavesMoment images name before) here (moment before is))
 
 pub record_promises : RecordingsAgree → LeftIsShown → (images : Bool) (name : List ℕ) (ended : Result WorkText StopCause) (answer : Status) (old new : Outside)
@@ -103,7 +104,8 @@ record_promises agree law images name ended answer old new f moment = record {
   input = f.input;
   recorded = λ before told. agree before name;
   moment = moment;
-  shown = left_shown law images name answer old new (λ answers before told. (f.call.files (record_outcome images name before) (ap (option_map (record_outcome images name)) told)).whole answers) moment;
+  shown = left_shown law images name answer old new (λ before told. f.call.status (record_outcome images name before) (ap (option_map (record_outcome images name)) told))
+      (λ answers before told. (f.call.files (record_outcome images name before) (ap (option_map (record_outcome images name)) told)).whole answers) moment;
 }
 
 -- the first of the files were made
@@ -215,7 +217,7 @@ run_stopped agree rest law plays command o answer is call = subst (λ (a : Statu
     input = unread;
     recorded = λ before told. agree before name;
     moment = untouched images name;
-    shown = left_shown law images name ends.NoMemory o o (λ h. absurd h) (untouched images name);
+    shown = left_shown law images name ends.NoMemory o o (λ before told h. absurd h) (λ h. absurd h) (untouched images name);
   }
   promised (Some (Replay images pairs)) = record { input = unread; whole = λ folder told. (0, refl) }
   promised (Some (Debug pairs)) = record { input = inl (refl, not_done); answered = λ e. absurd cc; refused = λ e. absurd cc }

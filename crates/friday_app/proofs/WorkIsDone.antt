@@ -47,7 +47,7 @@ module _ (recordings : RecordingsWork) (replays : ReplaysWork) (sessions : Sessi
   -- what is valid has an outcome that is work
   has_work : (command : Command) (folder : Folder) (left : Option (List ℕ)) → IsValidCall (Some command) folder left
       → (work : CommandWork) × ((expected (Some command) (Some folder) left).outcome ≡ Some (Ok work))
-  has_work (Record images schedule_name) folder left h = let w = recordings images schedule_name folder h in (w.0, ap Some w.1)
+  has_work (Record images schedule_name) folder left h = let w = recordings.work images schedule_name folder h in (w.0, ap Some w.1)
   has_work (Replay images pairs) folder left h = let w = replays images pairs folder h in (w.0, ap Some w.1)
   has_work (Debug pairs) folder left h = sessions pairs folder left h
   has_work (Drill rounds) folder left h = (drill_work rounds (drill_run rounds), ap (λ full. Some (drill_by_room rounds (drill_run rounds) full)) h)

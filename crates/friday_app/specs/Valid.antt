@@ -2,7 +2,8 @@
 use Rattle.std.specs.Prelude.{◌≡◌, ℕ, List, Option, Some, None}
 use Rattle.fri_outside.specs.Outside.{Folder}
 use Rattle.log_pairs.specs.Valid.{IsGroup}
-use Rattle.record_command.specs.Valid.{RecordsWhole}
+use Rattle.record_command.specs.Valid.{RecordsApart}
+use Rattle.replay_command.specs.Valid.{CanBeReplayed}
 use Rattle.debug_command.specs.Valid.{IsSession}
 use Rattle.drill_command.specs.Drill.{drill_run}
 use Rattle.migrate_command.specs.Valid.{IsMigration}
@@ -13,8 +14,8 @@ use Rattle.friday_app.specs.Command.{Command, Cut, Debug, Drill, Migrate, Play, 
 
 abbrev pub IsValidCall : Option Command → Folder → Option (List ℕ) → Type 0
 IsValidCall None folder left = ⊥
-IsValidCall (Some (Record images schedule_name)) folder left = RecordsWhole folder schedule_name
-IsValidCall (Some (Replay images pairs)) folder left = IsGroup folder pairs
+IsValidCall (Some (Record images schedule_name)) folder left = RecordsApart images folder schedule_name
+IsValidCall (Some (Replay images pairs)) folder left = CanBeReplayed images folder pairs
 IsValidCall (Some (Debug pairs)) folder left = IsSession folder pairs left
 IsValidCall (Some (Drill rounds)) folder left = (drill_run rounds).full ≡ None
 IsValidCall (Some (Migrate log_name new_name)) folder left = IsMigration folder log_name

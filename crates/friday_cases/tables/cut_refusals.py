@@ -2,7 +2,7 @@
 
 import logs
 from common import refused
-from cuts import PAIR, begin, cut, front, fronts, text_of
+from cuts import OVER_INPUT, PAIR, begin, cut, front, fronts, text_of
 from modules import LEAST, start
 from pair_refusals import FAR
 from pairs import ping_and_pong, put, sent, three, words
@@ -168,19 +168,18 @@ def failing(script):
         cut(script, given, 1, 2, [2, 2])
 
 
-def failing_onto_logs(script):
-    """A log that is to be written over stands until the new one is whole."""
-    given = ping_and_pong()
-    made = fronts(given, 1, 2)
-    for call in range(READS + 1, READS + 3):
-        script.case("a cut onto the logs themselves, whose call %d on files fails" % call)
-        modules(script, kept(script, PAIR))
-        for log in given:
-            script.file(log.name + ".cut", digits(log.spelled()))
-        script.fail("files", call)
-        script.run("cut 1 2 ping.wasm ping.cut pong.wasm pong.cut", "WriteFault")
-        for log, stands, before in zip(made, after_failing(call, made), given):
-            script.show(log.name + ".cut", before.spelled() if stands == b"old" else stands)
+def refused_onto_logs(script):
+    """A log in the place of which a new one would stand is refused once all files are read, and no call on files comes after."""
+    script.case("a cut onto the logs themselves, of which the next call on files would fail")
+    modules(script, kept(script, PAIR))
+    for log in ping_and_pong():
+        script.file(log.name + ".cut", digits(log.spelled()))
+    onto = "cut 1 2 ping.wasm ping.cut pong.wasm pong.cut"
+    script.fail("files", READS + 1)
+    script.run(onto, *refused("ping.cut", OVER_INPUT))
+    script.run(onto, "ReadFault")
+    for log in ping_and_pong():
+        script.show(log.name + ".cut", log.spelled())
 
 
 def failing_output(script):
@@ -210,5 +209,5 @@ def none_needed(script):
 
 def table(script):
     script.title("Events to which no logs are cut")
-    for part in (usage, no_process, no_event, files, failing, failing_onto_logs, failing_output, none_needed):
+    for part in (usage, no_process, no_event, files, failing, refused_onto_logs, failing_output, none_needed):
         part(script)

@@ -14,6 +14,7 @@ from straight import note, put_modules, send, straight, take
 
 PAIR = ("ping", "pong")
 HI = b"hi"
+OVER_INPUT = "14 OverInput"
 
 # ---- what an event needs
 
@@ -68,8 +69,11 @@ def replayed(script, made):
 
 
 def cut_again(script, made, process, event):
-    """The files that were made come to themselves."""
-    script.run("cut %d %d %s" % (process, event, cut_words(made)), "Done", *text_of(made, made))
+    """The files that were made come to themselves, under other names."""
+    for log in made:
+        script.file(log.name + ".again", digits(log.spelled()))
+    again = " ".join("%s.wasm %s.again" % (log.module, log.name) for log in made)
+    script.run("cut %d %d %s" % (process, event, again), "Done", *text_of(made, made))
     for log in made:
         script.show(log.name + ".cut", log.spelled())
 
@@ -287,34 +291,40 @@ def most_processes(script):
 # ---- the files
 
 
-def made_onto(script, line):
-    """The files that are made, onto some that are read, by pairs of which the logs are those of ping and pong."""
+def onto_inputs(script):
+    """No file is made in the place of one that was read: the first that would be is refused, behind all other refusals."""
     given = ping_and_pong()
-    made = fronts(given, 1, 2)
-    script.run("cut 1 2 " + line, "Done", *text_of(given, made))
-    for log in made:
-        script.show(log.name + ".cut", log.spelled())
-
-
-def onto_logs(script):
-    """All files are read before one is made, so one of them may have the name of what is made."""
-    ping, pong = (digits(log.spelled()) for log in ping_and_pong())
-    script.case("logs in the places of which the new ones stand")
+    ping, pong = (digits(log.spelled()) for log in given)
+    script.case("logs in the places of which the new ones would stand")
     modules(script, kept(script, PAIR))
     script.file("ping.cut", ping)
     script.file("pong.cut", pong)
-    made_onto(script, "ping.wasm ping.cut pong.wasm pong.cut")
+    put(script, given)
+    for line, clash in (
+        ("ping.wasm ping.cut pong.wasm pong.cut", "ping.cut"),
+        ("pong.wasm pong.cut ping.wasm ping.cut", "ping.cut"),
+        ("ping.wasm ping.log pong.wasm pong.cut", "pong.cut"),
+        ("ping.wasm ping.cut pong.wasm pong.log", "ping.cut"),
+    ):
+        script.run("cut 1 2 " + line, *refused(clash, OVER_INPUT))
+    script.run("cut 1 6 ping.wasm ping.cut pong.wasm pong.cut", *refused("pong.cut", "13 NoEvent"))
+    for log in given:
+        script.show(log.name + ".cut", log.spelled())
     script.case("each log in the place of the other one's new one")
     modules(script, kept(script, PAIR))
     script.file("pong.cut", ping)
     script.file("ping.cut", pong)
-    made_onto(script, "pong.wasm ping.cut ping.wasm pong.cut")
-    script.case("modules in the places of which the new logs stand")
-    put(script, ping_and_pong())
+    script.run("cut 1 2 pong.wasm ping.cut ping.wasm pong.cut", *refused("ping.cut", OVER_INPUT))
+    script.case("modules in the places of which the new logs would stand")
+    put(script, given)
     for name in PAIR:
+        script.file(name + ".wasm", script.kept(name))
         script.file(name + ".cut", script.kept(name))
-    made_onto(script, "ping.cut ping.log pong.cut pong.log")
-    script.run("cut 1 2 ping.cut ping.log pong.cut pong.log", *refused("ping.cut", "1 Malformed"))
+    script.run("cut 1 2 ping.cut ping.log pong.cut pong.log", *refused("ping.cut", OVER_INPUT))
+    script.run("cut 1 2 ping.wasm ping.log pong.cut pong.log", *refused("pong.cut", OVER_INPUT))
+    script.run("cut 1 2 pong.cut pong.log ping.cut ping.log", *refused("ping.cut", OVER_INPUT))
+    # The log of a process that is not given is not made.
+    script.run("cut 1 1 ping.cut pong.log", "Done", "pong: 1 of 1 events")
 
 
 def old_files(script):
@@ -363,5 +373,5 @@ def table(script):
     script.title("Logs that are cut to what an event needs")
     for part in (worked, each_of_pair, written_words, versions, not_given, chain, back_and_forth, tags_of_any_event, forged, crossed):
         part(script)
-    for part in (diverging, most_processes, onto_logs, old_files, under_any_names, least_group):
+    for part in (diverging, most_processes, onto_inputs, old_files, under_any_names, least_group):
         part(script)

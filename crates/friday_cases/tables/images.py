@@ -1,7 +1,7 @@
 """Images: the memory of each process and what it printed, as a recording and a replay leave them."""
 
 import groups, logs
-from common import FRONT, begin, report, summary
+from common import begin, report, summary
 from modules import start
 from pairs import ping_and_pong
 import pairs
@@ -211,20 +211,6 @@ def killed(script):
             shown(script, name, memory(1, (0, data)), printed)
 
 
-def over_inputs(script):
-    """All inputs are read before an image is made, so an image may take the place of one."""
-    module = digits(start("", '(memory 1) (data (i32.const 3) "x")'))
-    script.case("images in the place of a module, of a log and of a schedule")
-    script.file("a.mem", module)
-    script.file("a.out", digits(logs.log([])))
-    script.run("replay --images a.mem a.out", "Done", *report(1, "finished"))
-    shown(script, "a", memory(1, (3, b"x")), b"")
-    script.file("a.wasm", module)
-    script.file("a.out", text(FRONT + "run 0 0\n"))
-    script.run("record --images a.out", "Done", *summary(1, "finished", 1, 0))
-    shown(script, "a", memory(1, (3, b"x")), b"")
-
-
 def none(script):
     """A recording that is refused or absent makes no images."""
     script.case("no images of what is refused or absent")
@@ -268,5 +254,5 @@ def table(script):
     script.title("Images")
     for log in ping_and_pong():
         script.keep(log.name + ".log", log.spelled())
-    for part in (alone, untagged, of_two_threads, of_accepted_prints, of_a_group, not_asked, killed, over_inputs, none, failing):
+    for part in (alone, untagged, of_two_threads, of_accepted_prints, of_a_group, not_asked, killed, none, failing):
         part(script)

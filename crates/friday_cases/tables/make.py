@@ -11,7 +11,7 @@ import sys
 
 import commands, crowds, cut_refusals, cuts, debug_conditions, debug_frames, debug_inputs, debug_pauses, debug_points, debug_programs, debug_returns, debugger, drills, groups
 import guests, hostile, images, large_memories, large_modules, limits, long_bytes, long_schedules, long_sessions, long_streams, many_datagrams
-import many_events, migrates, most_events, pair_refusals, pairs, play_inputs, play_refusals, plays, point_refusals, program_limits
+import many_events, migrates, most_events, over_inputs, pair_refusals, pairs, play_inputs, play_refusals, plays, point_refusals, program_limits
 import program_refusals, program_values
 import program_walks, refusals, replays, schedule_refusals, schedules, schedules_of_calls, schedules_of_logs
 import shell_refusals, shell_values, stopped, streams, threads, turned
@@ -19,7 +19,7 @@ from script import Script
 
 PARTS = (
     *(commands, schedules, groups, stopped, pairs, pair_refusals, images, hostile, replays, migrates, turned, refusals, guests, threads, limits),
-    *(schedules_of_logs, schedules_of_calls, schedule_refusals, cuts, cut_refusals, streams),
+    *(schedules_of_logs, schedules_of_calls, schedule_refusals, cuts, cut_refusals, over_inputs, streams),
     *(debugger, debug_points, debug_returns, debug_conditions, debug_frames, shell_values, shell_refusals, point_refusals, debug_inputs),
     *(debug_programs, program_walks, program_values, program_refusals, program_limits, debug_pauses),
     *(plays, play_refusals, play_inputs),

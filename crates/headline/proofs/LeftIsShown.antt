@@ -1,9 +1,12 @@
 -- What a recording leaves is shown.
-use Rattle.std.proofs.Common.{◌⊎◌, ◌∙◌, ◌<◌, ℕ, List, [], ◌∷◌, Some, ap, append-nil, inl, inr, refl, sym}
+use Rattle.std.proofs.Common.{◌⊎◌, ◌∙◌, ◌<◌, ℕ, List, [], ◌∷◌, Some, ap, append-nil, inl, inr, refl, subst, sym}
 use Rattle.std.specs.List.{AllByRecursion}
 use Rattle.fri_outside.specs.Outside.{Folder}
 use Rattle.group_record.specs.Run.{IsMoment, RunStep, log_of, processes_in_group}
 use Rattle.record_command.specs.Agreement.{IsAtMomentOfRun, IsStoppedInHeads, IsRecordable, LeavesCut, MayFollowLog, Nothing, group_in, steps_in}
+use Rattle.command_run.specs.Call.{IsAnswerStatus}
+use Rattle.record_command.specs.Expected.{KeepsSchedule}
+use Rattle.record_command.specs.ExpectedLaws.{done_is_kept}
 use Rattle.record_command.specs.Laws.{RecordingsLeaveLogs, RecordingsStand}
 use Rattle.log_pairs.specs.Pairs.{Pair}
 use Rattle.headline.specs.Headline.{AreHeld, Headline, LeftIsShown, ShowsMoment, ShowsSteps, logs_in, logs_of_run, run_to}
@@ -31,12 +34,18 @@ shows_steps law {before} {name} r steps moment cut after follows left ps are fol
     law before name r steps moment cut ps are (all_follow r steps cut after folder follows ps are.within) folder pairs (holds r steps cut after folder left ps pairs are.within has)
 
 pub left_is_shown_so : Headline → RecordingsLeaveLogs → RecordingsStand → LeftIsShown
-left_is_shown_so law leave stand images name answer before after made moment r = record {
-  whole = λ answers.
-      shows_steps law r (steps_in r) ([], refl) no_cut after (λ p below. Nothing refl)
-      (λ p below. leave images name before after r (made answers) p below ∙ ap (λ (bytes : List ℕ). Some bytes) (sym (append-nil (log_of (group_in r) (steps_in r) p))));
+left_is_shown_so law leave stand images name answer before after status made moment r = record {
+  done = λ done.
+      let answers : IsAnswerStatus answer = subst IsAnswerStatus (sym done) tt in
+      whole answers (done_is_kept images r (sym (status answers) ∙ done));
+  whole = whole;
   stopped = by_place (stand images name before after r (moment r));
 } where
   by_place : IsStoppedInHeads (group_in r) before after ⊎ IsAtMomentOfRun (group_in r) (steps_in r) after → IsStoppedInHeads (group_in r) before after ⊎ ShowsMoment r after
   by_place (inl heads) = inl heads
   by_place (inr at) = inr (record { at = at; shown = shows_steps law r at.steps at.is_moment at.cut after at.may_follow at.logs })
+
+  whole : IsAnswerStatus answer → KeepsSchedule images name r.schedule → ShowsSteps r (steps_in r) no_cut after
+  whole answers kept =
+      shows_steps law r (steps_in r) ([], refl) no_cut after (λ p below. Nothing refl)
+      (λ p below. leave images name before after r kept (made answers) p below ∙ ap (λ (bytes : List ℕ). Some bytes) (sym (append-nil (log_of (group_in r) (steps_in r) p))))

@@ -30,8 +30,9 @@ use Rattle.embed_cmds.specs.Variables.{variable_value}
 use Rattle.shell_points.specs.Firing.{place_at}
 use Rattle.shell_points.specs.Laws.{ExactFiring}
 use Rattle.command_run.specs.Laws.{ReadsModules}
-use Rattle.command_run.specs.Outcome.{CommandOutcome, CommandStop, CommandWork, and_then}
-use Rattle.log_pairs.specs.Pairs.{Loaded, Pair, replays_of, replays_of_pairs, sort_replays}
+use Rattle.command_run.specs.Apart.{apart_work}
+use Rattle.command_run.specs.Outcome.{CommandOutcome, CommandStop, and_then}
+use Rattle.log_pairs.specs.Pairs.{Loaded, Pair, names_of_pairs, replays_of, replays_of_pairs, sort_replays}
 use Rattle.log_pairs.specs.Valid.{GoTogether}
 use Rattle.record_command.specs.Agreement.{IsRecordable, LogsAgree, MayFollowLog, Front, Nothing, group_in, steps_in}
 use Rattle.record_command.specs.Laws.{RecordingsAgree}
@@ -45,7 +46,7 @@ use Rattle.headline.proofs.RecordedGroup.{HasBegun, has_begun, pair_stands, sche
 use Rattle.headline.proofs.LoadedPairs.{AllStand, AllTogether, opened}
 use Rattle.headline.proofs.RecordedOrder.{are_recorded, one_recorded, order_is}
 use Rattle.headline.proofs.ReceivedDatagrams.{received}
-use Rattle.headline.proofs.ReplayReport.{AllCome, all_of_them, report_is}
+use Rattle.headline.proofs.ReplayReport.{AllCome, all_of_them, report_is, report_made}
 use Rattle.headline.proofs.SameRecording.{one_group}
 use Rattle.headline.proofs.ShownReplays.{ComesTo, comes_to, replay_of, shows}
 use Rattle.headline.proofs.SortedReplays.{Are, all_numbered, all_sorted, in_order, sorted_count}
@@ -223,9 +224,10 @@ module _ (reads : ReadsModules) (gives : GivesSchedules) (beginning : Beginning)
         start = start;
         opened = opens;
         each = shown;
-        replay = λ images.
-            ap (λ (o : Result (List Replaying) CommandStop). and_then o (λ start. Ok (replay_work images start))) opens
-            ∙ ap (λ (w : CommandWork). Ok w) (report_is images run cut sorted start shown (all_come run cut sorted start all));
+        replay = λ images apart.
+            ap (λ (o : Result (List Replaying) CommandStop). and_then o (λ start. apart_work (names_of_pairs pairs) (replay_work images start))) opens
+            ∙ ap (apart_work (names_of_pairs pairs)) (report_is images run cut sorted start shown (all_come run cut sorted start all))
+            ∙ report_made images run cut sorted pairs apart;
         images = λ all_given. all_of_them run sorted (all_numbered count ps are all_given) (sorted_count count ps are ∙ all_given);
         debug = λ input. ap (λ (o : Result (List Replaying) CommandStop). opened_outcome (debug_opener pairs) o (Some input)) opens;
         session = λ others are input.

@@ -1,5 +1,5 @@
 -- What a replay of recorded logs reports, and its images.
-use Rattle.std.proofs.Common.{◌≡◌, ◌∙◌, ◌<◌, ◌+◌, ◌||◌, ℕ, suc, Bool, false, cond, List, [], ◌∷◌, ◌++◌, length, map, slice_get, Some, ap, arith, refl, sym}
+use Rattle.std.proofs.Common.{◌≡◌, ◌∙◌, ◌<◌, ◌+◌, ◌||◌, ℕ, suc, Bool, true, false, cond, List, [], ◌∷◌, ◌++◌, length, map, slice_get, Some, Ok, ap, arith, refl, sym}
 use Rattle.std.specs.Prelude.{slice_index_or}
 use Rattle.std.proofs.lemmas.Option.{same_Some}
 use Rattle.lib_calls.specs.Traffic.{prints}
@@ -16,8 +16,12 @@ use Rattle.group_state.specs.Image.{memory_of_image, print_of_image}
 use Rattle.group_state.specs.Place.{group_count}
 use Rattle.group_state.specs.Report.{accepted_in, all_accepted_events, report_line}
 use Rattle.group_state.specs.Tally.{AcceptedEvent, of_process, tally_of_events}
+use Rattle.command_run.specs.Apart.{apart_work, unless_over_input}
+use Rattle.command_run.specs.ApartLaws.{apart_goes_on, apart_works}
 use Rattle.command_run.specs.Outcome.{CommandWork}
+use Rattle.log_pairs.specs.Pairs.{Pair, names_of_pairs}
 use Rattle.replay_command.specs.Report.{some_log_diverges, images_in, images_if, is_divergence, replay_work, report_text}
+use Rattle.headline.specs.Headline.{ImagesApart}
 use Rattle.headline.specs.Shown.{AreShown, RecordedRun, ShowsProcess, recorded_events, recorded_images, recorded_line, recorded_report}
 use Rattle.headline.proofs.ShownReplays.{ComesTo}
 
@@ -87,6 +91,15 @@ report_is images run cut ps rs shown all =
     ∙ ap (λ (c : GroupCounts). work_of (map (recorded_line run cut) ps) c (images_if images rs) (some_log_diverges (map (recorded_line run cut) ps))) counts
     ∙ ap (λ (files : List (List ℕ × List ℕ)). work_of (map (recorded_line run cut) ps) (tally_of_events (processes_in_group run.group) (recorded_events run ps)) (cond images files []) (some_log_diverges (map (recorded_line run cut) ps))) (images_are run cut ps rs shown all)
     ∙ ap (work_of (map (recorded_line run cut) ps) (tally_of_events (processes_in_group run.group) (recorded_events run ps)) (cond images (recorded_images run ps) [])) (none_diverges run cut ps)
+
+-- its images are made, where none has the name of a file of the pairs
+kept : (images : Bool) (run : RecordedRun) (cut : ℕ → List ℕ) (ps : List ℕ) (pairs : List Pair) → ImagesApart images run ps pairs → unless_over_input (names_of_pairs pairs) (map (λ file. file.0) (recorded_report images run cut ps).writes) ≡ Ok tt
+kept false run cut ps pairs apart = refl
+kept true run cut ps pairs apart = apart_goes_on (names_of_pairs pairs) (map (λ file. file.0) (recorded_images run ps)) apart
+
+pub report_made : (images : Bool) (run : RecordedRun) (cut : ℕ → List ℕ) (ps : List ℕ) (pairs : List Pair) → ImagesApart images run ps pairs → apart_work (names_of_pairs pairs) (recorded_report images run cut ps) ≡ Ok (recorded_report images run cut ps)
+report_made images run cut ps pairs apart =
+    apart_works (names_of_pairs pairs) (Ok (recorded_report images run cut ps)) (recorded_report images run cut ps) refl (kept images run cut ps pairs apart)
 
 -- ---- the images of all processes
 

@@ -1,5 +1,5 @@
 -- The main theorem: the modules and the logs of a recording, and these alone, make `replay` and `debug` show what was recorded.
-use Rattle.std.specs.Prelude.{◌≡◌, ◌≢◌, ◌⊎◌, ◌<◌, ◌==◌, ℕ, Bool, List, [], ◌∷◌, ◌++◌, length, filter, Option, Some, Ok}
+use Rattle.std.specs.Prelude.{◌≡◌, ◌≢◌, ◌⊎◌, ◌<◌, ◌==◌, ℕ, Bool, true, false, List, [], ◌∷◌, ◌++◌, length, map, filter, Option, Some, Ok}
 use Rattle.std.specs.FinMap.{get}
 use Rattle.std.specs.List.{AllByRecursion, list_any, range_with_len}
 use Rattle.fri_outside.specs.Outside.{Folder}
@@ -9,11 +9,13 @@ use Rattle.group_record.specs.Logs.{log_name}
 use Rattle.group_record.specs.Run.{GroupStart, IsMoment, RunStep, log_of, name_of_process, processes_in_group}
 use Rattle.proc_replay.specs.Replaying.{Replaying}
 use Rattle.command_run.specs.declared.status.Status.{Status}
+use Rattle.command_run.specs.declared.status.Status.TheVariants as ends
+use Rattle.command_run.specs.Apart.{AreApart}
 use Rattle.command_run.specs.Call.{IsAnswerStatus}
-use Rattle.command_run.specs.Outcome.{writes_of}
-use Rattle.log_pairs.specs.Pairs.{Pair, replays_of_pairs}
+use Rattle.command_run.specs.Outcome.{outcome_status, writes_of}
+use Rattle.log_pairs.specs.Pairs.{Pair, names_of_pairs, replays_of_pairs}
 use Rattle.record_command.specs.Agreement.{IsAtMomentOfRun, IsStoppedInHeads, IsRecordable, LeavesMoment, MayFollowLog, group_in, steps_in}
-use Rattle.record_command.specs.Expected.{module_name, record_outcome}
+use Rattle.record_command.specs.Expected.{KeepsSchedule, module_name, record_outcome}
 use Rattle.replay_command.specs.Report.{replay_outcome}
 use Rattle.debug_command.specs.Debug.{debug_outcome, session_outcome}
 use Rattle.headline.specs.Shown.{AreOfRecording, AreShown, RecordedRun, ShowsGroup, no_cut, recorded_images, recorded_report}
@@ -44,14 +46,21 @@ is_among ps p = list_any (λ q. q == p) ps
 abbrev pub sorted_of : ℕ → List ℕ → List ℕ
 sorted_of count ps = filter (is_among ps) (range_with_len 0 count)
 
+-- where images are asked for, no file of the pairs has the name of one of these processes' images
+abbrev pub ImagesApart : Bool → RecordedRun → List ℕ → List Pair → Type 0
+ImagesApart false run ps pairs = Unit {0}
+ImagesApart true run ps pairs = AreApart (names_of_pairs pairs) (map (λ file. file.0) (recorded_images run ps))
+
 -- the pairs of these processes are read to replays, which show what was recorded
 pub record IsShown (run : RecordedRun) (cut : ℕ → List ℕ) (folder : Folder) (ps : List ℕ) (pairs : List Pair) : Type 0 where
   -- the replays of the processes in the order of their numbers
   pub start : List Replaying
   pub opened : replays_of_pairs folder pairs ≡ Ok start
   pub each : AreShown run cut (sorted_of (processes_in_group run.group) ps) start
-  -- `replay` says what was recorded, and leaves the images of it: with all processes those of the recording
-  pub replay : (images : Bool) → replay_outcome images pairs folder ≡ Ok (recorded_report images run cut (sorted_of (processes_in_group run.group) ps))
+  -- `replay` says what was recorded, and leaves the images of it: with all processes those of the recording. It refuses to make one in
+  -- the place of a file of the pairs
+  pub replay : (images : Bool) → ImagesApart images run (sorted_of (processes_in_group run.group) ps) pairs
+      → replay_outcome images pairs folder ≡ Ok (recorded_report images run cut (sorted_of (processes_in_group run.group) ps))
   pub images : length ps ≡ processes_in_group run.group → recorded_images run (sorted_of (processes_in_group run.group) ps) ≡ all_images run.group run.steps
   -- `debug` comes to what a session over these replays does, and to what one does over any others with the recorded names,
   -- order and states: what it answers to whatever is typed is a function of the recording
@@ -126,15 +135,17 @@ pub record ShowsMoment {before : Folder} {schedule_name : List ℕ} (r : IsRecor
   pub at : IsAtMomentOfRun (group_in r) (steps_in r) after
   pub shown : ShowsSteps r at.steps at.cut after
 
--- what `record` left with this status shows the whole run where it gave an answer, and elsewhere a moment of it, unless
--- it was stopped in the heads
-pub record ShowsRun {before : Folder} {schedule_name : List ℕ} (r : IsRecordable before schedule_name) (answer : Status) (after : Folder) : Type 0 where
-  pub whole : IsAnswerStatus answer → ShowsSteps r (steps_in r) no_cut after
+-- what `record` left with this status shows the whole run where its work was done, and at each other answer but the refusal to make the
+-- schedule's own file; and elsewhere a moment of it, unless it was stopped in the heads
+pub record ShowsRun (images : Bool) {before : Folder} {schedule_name : List ℕ} (r : IsRecordable before schedule_name) (answer : Status) (after : Folder) : Type 0 where
+  pub done : answer ≡ ends.Done → ShowsSteps r (steps_in r) no_cut after
+  pub whole : IsAnswerStatus answer → KeepsSchedule images schedule_name r.schedule → ShowsSteps r (steps_in r) no_cut after
   pub stopped : IsStoppedInHeads (group_in r) before after ⊎ ShowsMoment r after
 
--- this holds wherever a recording ends, which at an answer has made the files of its outcome
+-- this holds wherever a recording ends, which at an answer has the status of its outcome and has made its files
 abbrev pub LeftIsShown : Type 0
 LeftIsShown = (images : Bool) (schedule_name : List ℕ) (answer : Status) (before after : Folder)
+    → (IsAnswerStatus answer → answer ≡ outcome_status (record_outcome images schedule_name before))
     → (IsAnswerStatus answer → Some after ≡ with_files (writes_of (record_outcome images schedule_name before)) (Some before))
     → LeavesMoment images schedule_name before (Some after)
-    → (r : IsRecordable before schedule_name) → ShowsRun r answer after
+    → (r : IsRecordable before schedule_name) → ShowsRun images r answer after

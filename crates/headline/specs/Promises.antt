@@ -16,6 +16,6 @@ pub record RecordPromises (images : Bool) (schedule_name : List ℕ) (old new : 
   -- stand, and after them the first ones of the images, each of them whole
   pub moment : WhenTold old.told (λ before. LeavesMoment images schedule_name before new.told)
   -- those logs and the modules, and these alone, make `replay` and `debug` show the recorded calls, replies and memories: in
-  -- every folder, under any names, for some or all of the processes, in any order. After an answer that is the whole run, and
-  -- elsewhere a moment of it, unless the recording was stopped in the heads
-  pub shown : WhenTold old.told (λ before. WhenTold new.told (λ after. (r : IsRecordable before schedule_name) → ShowsRun r answer after))
+  -- every folder, under any names, for some or all of the processes, in any order. After an answer that is the whole run, unless
+  -- the schedule was refused since its own file would be made; and elsewhere a moment of it, unless the recording was stopped in the heads
+  pub shown : WhenTold old.told (λ before. WhenTold new.told (λ after. (r : IsRecordable before schedule_name) → ShowsRun images r answer after))

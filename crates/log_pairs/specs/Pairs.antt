@@ -1,6 +1,6 @@
 -- The modules and logs of a group, as they are read, and the replays of the logs.
 use Rattle.std.specs.Prelude.{◌≡◌, ℕ, List, [], ◌∷◌, ◌++◌, ◌==◌, Bool, false, not, nat_lt, bytes_eq, Option, Some, None, Result, Ok, Err, if◌then◌else◌}
-use Rattle.std.specs.List.{list_any}
+use Rattle.std.specs.List.{flat_map, list_any}
 use Rattle.fri_outside.specs.Outside.{Folder, WhenTold}
 use Rattle.wasm_types.specs.Modules.{Module}
 use Rattle.call_log.specs.Head.{Head}
@@ -18,6 +18,10 @@ use Rattle.command_run.specs.Outcome.{CommandStop, and_then, refuses_at_once}
 pub record Pair : Type 0 where
   pub module_name : List ℕ
   pub log_name : List ℕ
+
+-- the names of the files of these pairs
+abbrev pub names_of_pairs : List Pair → List (List ℕ)
+names_of_pairs pairs = flat_map (λ pair. pair.module_name ∷ pair.log_name ∷ []) pairs
 
 -- a pair that was read: the name of the module's file, the module, the log's head, and what is after it
 pub record Loaded : Type 0 where

@@ -16,59 +16,24 @@ use Rattle.command_run.specs.declared.refusal.StopCause.{StopCause}
 use Rattle.command_run.specs.declared.refusal.StopCause.TheVariants as refusal
 use Rattle.command_run.specs.Call.{RaisesCount, StopsAsCause, reads_after, writes_after}
 use Rattle.command_run.specs.Outcome.{CommandStop, CommandWork, and_then, refuses_at_once}
-use Rattle.record_command.specs.Expected.{group_outcome, module_name, modules_of, record_outcome, schedule_in}
+use Rattle.record_command.specs.Expected.{inputs_in, module_name}
+use Rattle.record_command.specs.ExpectedLaws.{inputs_are}
 use Rattle.record_command.specs.Gathering.{GathersFromFolder, RefusesAs}
-use Rattle.record_command.specs.Record.{outcome_by_room}
+use Rattle.command_run.specs.OutcomeLaws.{stops_before_next}
 use Rattle.play_command.specs.Outcome.{opening_play, play_in, play_of_modules, unless_full_log}
 use Rattle.play_command.specs.Play.{PlayState}
 use Rattle.play_command.specs.inside.Answers.{OpensPlay}
 
--- ---- what a recording stops at while it gathers, a play stops at
+-- ---- what was not gathered
 
-full_stops : (images : Bool) (name : List ℕ) (group : GroupStart) (done : RunProgress) (schedule : Schedule) (first : List State) (full : Option ℕ) (e : StopCause)
-    → StopsAsCause (outcome_by_room images name group done full) e → StopsAsCause (unless_full_log name schedule first full) e
-full_stops images name group done schedule first None (refusal.Refused file why) is = cc
-full_stops images name group done schedule first None (refusal.Absent file) is = cc
-full_stops images name group done schedule first (Some item) (refusal.Refused file why) is = cc
-full_stops images name group done schedule first (Some item) (refusal.Absent file) is = cc
-full_stops images name group done schedule first full refusal.ReadFault is = tt
-full_stops images name group done schedule first full refusal.WriteFault is = tt
-full_stops images name group done schedule first full refusal.NoMemory is = tt
-
--- the same stop of another kind of value
-stop_of_other : (A B : Type 0) (s : CommandStop) (e : StopCause) → StopsAsCause {A = A} (Err s) e → StopsAsCause {A = B} (Err s) e
-stop_of_other A B s (refusal.Refused file why) is = cc
-stop_of_other A B s (refusal.Absent file) is = cc
-stop_of_other A B s refusal.ReadFault is = tt
-stop_of_other A B s refusal.WriteFault is = tt
-stop_of_other A B s refusal.NoMemory is = tt
-
-states_stop : (images : Bool) (name : List ℕ) (schedule : Schedule) (states : Result (List State) ℕ) (e : StopCause) → StopsAsCause (group_outcome images name schedule states) e → StopsAsCause (play_of_modules name schedule states) e
-states_stop images name schedule (Ok first) e stops =
-    let group = group_of schedule first in
-    full_stops images name group (run group schedule.items) schedule first (run group schedule.items).full e stops
-states_stop images name schedule (Err p) e stops = stop_of_other CommandWork PlayState (refuses_at_once (module_name schedule p) reason.BadSegment) e stops
-
-modules_stop : (images : Bool) (name : List ℕ) (schedule : Schedule) (found : Result (List Module) CommandStop) (e : StopCause) → StopsAsCause (and_then found (λ ms. group_outcome images name schedule (first_states schedule ms))) e
-    → StopsAsCause (and_then found (λ ms. play_of_modules name schedule (first_states schedule ms))) e
-modules_stop images name schedule (Ok ms) e stops = states_stop images name schedule (first_states schedule ms) e stops
-modules_stop images name schedule (Err s) e stops = stop_of_other CommandWork PlayState s e stops
-
-schedule_stop : (images : Bool) (name : List ℕ) (folder : Folder) (read : Result Schedule CommandStop) (e : StopCause)
-    → StopsAsCause (and_then read (λ s. and_then (modules_of folder s.processes) (λ ms. group_outcome images name s (first_states s ms)))) e
-    → StopsAsCause (and_then read (λ s. and_then (modules_of folder s.processes) (λ ms. play_of_modules name s (first_states s ms)))) e
-schedule_stop images name folder (Ok s) e stops = modules_stop images name s (modules_of folder s.processes) e stops
-schedule_stop images name folder (Err s) e stops = stop_of_other CommandWork PlayState s e stops
-
-pub gathering_stops : (images : Bool) (name : List ℕ) (folder : Folder) (e : StopCause) → StopsAsCause (record_outcome images name folder) e → StopsAsCause (play_in name folder) e
-gathering_stops images name folder e stops = schedule_stop images name folder (schedule_in folder name) e stops
+pub gathering_stops : (name : List ℕ) (folder : Folder) (e : StopCause) → StopsAsCause (inputs_in folder name) e → StopsAsCause (play_in name folder) e
+gathering_stops name folder e stops = stops_before_next (inputs_in folder name) _ e stops
 
 -- ---- what was gathered begins, or does not
 
 begun_of : (folder : Folder) (name : List ℕ) (schedule : Schedule) (modules : List Module) → GathersFromFolder folder name schedule modules → play_in name folder ≡ play_of_modules name schedule (first_states schedule modules)
 begun_of folder name schedule modules g =
-    ap (λ (r : Result Schedule CommandStop). and_then r (λ s. and_then (modules_of folder s.processes) (λ ms. play_of_modules name s (first_states s ms)))) g.spelled
-    ∙ ap (λ (r : Result (List Module) CommandStop). and_then r (λ ms. play_of_modules name schedule (first_states schedule ms))) g.found
+    ap (λ (i : Result (Schedule × List Module) CommandStop). and_then i (λ inputs. play_of_modules name inputs.0 (first_states inputs.0 inputs.1))) (inputs_are folder name schedule modules g.spelled g.found)
 
 pub begins : (told : Option Folder) (name : List ℕ) (schedule : Schedule) (modules : List Module) (first : List State) → WhenTold told (λ folder. GathersFromFolder folder name schedule modules)
     → first_states schedule modules ≡ Ok first → (run (group_of schedule first) schedule.items).full ≡ None → WhenTold told (λ folder. play_in name folder ≡ Ok (opening_play schedule first))

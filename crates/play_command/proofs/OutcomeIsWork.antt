@@ -1,48 +1,24 @@
 -- What can be recorded whole can be played.
-use Rattle.std.proofs.Common.{◌≡◌, ℕ, false, List, Option, Some, None, Result, Ok, Err, refl}
+use Rattle.std.proofs.Common.{◌≡◌, ◌∙◌, ℕ, List, None, Result, Ok, ap}
 use Rattle.fri_outside.specs.Outside.{Folder}
 use Rattle.wasm_types.specs.Modules.{Module}
 use Rattle.schedule_text.specs.Schedule.{Schedule}
-use Rattle.guest_process.specs.State.{State}
-use Rattle.group_record.specs.Answer.{first_states, group_of}
-use Rattle.group_record.specs.Run.{GroupStart, RunProgress, run}
-use Rattle.command_run.specs.Outcome.{CommandStop, CommandWork, and_then}
-use Rattle.record_command.specs.Expected.{group_outcome, modules_of, schedule_in}
+use Rattle.group_record.specs.Answer.{first_states}
+use Rattle.command_run.specs.Outcome.{CommandStop, and_then}
+use Rattle.record_command.specs.Agreement.{IsRecordable, run_in}
+use Rattle.record_command.specs.ExpectedLaws.{inputs_are}
 use Rattle.record_command.specs.Laws.{RecordingsWork}
-use Rattle.record_command.specs.Record.{outcome_by_room}
 use Rattle.conversation.specs.OpeningLaws.{opened_works}
 use Rattle.play_command.specs.Laws.{PlaysWork}
-use Rattle.play_command.specs.Outcome.{opening_play, play_of_modules, play_opener, unless_full_log}
-use Rattle.play_command.specs.Play.{PlayState}
+use Rattle.play_command.specs.Outcome.{opening_play, play_in, play_of_modules, play_opener, unless_full_log}
 
--- a play that began
-record Begins (play : Result PlayState CommandStop) : Type 0 where
-  begun : PlayState
-  is_begun : play ≡ Ok begun
-
-begins_with_room : (name : List ℕ) (group : GroupStart) (done : RunProgress) (schedule : Schedule) (first : List State) (full : Option ℕ) (work : CommandWork) → outcome_by_room false name group done full ≡ Ok work → Begins (unless_full_log name schedule first full)
-begins_with_room name group done schedule first None work is = record { begun = opening_play schedule first; is_begun = refl }
-begins_with_room name group done schedule first (Some item) work is = cc
-
-begins_in_states : (name : List ℕ) (schedule : Schedule) (states : Result (List State) ℕ) (work : CommandWork) → group_outcome false name schedule states ≡ Ok work → Begins (play_of_modules name schedule states)
-begins_in_states name schedule (Ok first) work is =
-    let group = group_of schedule first in
-    begins_with_room name group (run group schedule.items) schedule first (run group schedule.items).full work is
-begins_in_states name schedule (Err p) work is = cc
-
-begins_of_modules : (name : List ℕ) (schedule : Schedule) (found : Result (List Module) CommandStop) (work : CommandWork) → and_then found (λ ms. group_outcome false name schedule (first_states schedule ms)) ≡ Ok work
-    → Begins (and_then found (λ ms. play_of_modules name schedule (first_states schedule ms)))
-begins_of_modules name schedule (Ok ms) work is = begins_in_states name schedule (first_states schedule ms) work is
-begins_of_modules name schedule (Err s) work is = cc
-
-begins_of_schedule : (name : List ℕ) (folder : Folder) (read : Result Schedule CommandStop) (work : CommandWork)
-    → and_then read (λ s. and_then (modules_of folder s.processes) (λ ms. group_outcome false name s (first_states s ms))) ≡ Ok work
-    → Begins (and_then read (λ s. and_then (modules_of folder s.processes) (λ ms. play_of_modules name s (first_states s ms))))
-begins_of_schedule name folder (Ok s) work is = begins_of_modules name s (modules_of folder s.processes) work is
-begins_of_schedule name folder (Err s) work is = cc
+begins : (name : List ℕ) (folder : Folder) (r : IsRecordable folder name) → (run_in r).full ≡ None → play_in name folder ≡ Ok (opening_play r.schedule r.first)
+begins name folder r room =
+    ap (λ (i : Result (Schedule × List Module) CommandStop). and_then i (λ inputs. play_of_modules name inputs.0 (first_states inputs.0 inputs.1))) (inputs_are folder name r.schedule r.modules r.spelled r.found)
+    ∙ ap (play_of_modules name r.schedule) r.begins ∙ ap (unless_full_log name r.schedule r.first) room
 
 pub plays_do_work : RecordingsWork → PlaysWork
 plays_do_work recordings name folder left h =
-    let recorded = recordings false name folder h.recorded in
-    let b = begins_of_schedule name folder (schedule_in folder name) recorded.0 recorded.1 in
-    opened_works (play_opener name) folder b.begun left h.input b.is_begun h.told (h.within b.begun b.is_begun)
+    let recorded = recordings.recordable name folder h.recorded in
+    let is_begun = begins name folder recorded.0 recorded.1 in
+    opened_works (play_opener name) folder (opening_play recorded.0.schedule recorded.0.first) left h.input is_begun h.told (h.within (opening_play recorded.0.schedule recorded.0.first) is_begun)

@@ -21,7 +21,9 @@ use Rattle.group_record.specs.Answer.{first_states, group_of}
 use Rattle.group_record.specs.Run.{GroupStart, RunProgress, after_item, run}
 use Rattle.command_run.specs.Outcome.{CommandStop, and_then, file_of}
 use Rattle.command_run.specs.OutcomeLaws.{result_follows}
-use Rattle.record_command.specs.Expected.{group_outcome, modules_of, record_outcome, schedule_in, schedule_or_refusal}
+use Rattle.record_command.specs.Agreement.{IsRecordable}
+use Rattle.record_command.specs.Expected.{KeepsSchedule, modules_of, record_outcome, schedule_in, schedule_or_refusal}
+use Rattle.record_command.specs.ExpectedLaws.{outcome_is_run}
 use Rattle.record_command.specs.Record.{run_outcome}
 use Rattle.play_lines.specs.Limits.{most_item_line}
 use Rattle.play_lines.specs.Lines.{Again, Datagram, Mem, PlayCommand, Print, Printed, Processes, Quit, Threads, lacks_in_play, nests_in_play, play_spelled}
@@ -156,13 +158,11 @@ module _ (gives : GivesItems) (takes : TakesItem) (counts : CountsItem) (schedul
 -- ---- what its schedule is recorded to
 
 records : (images : Bool) (name : List ℕ) (folder : Folder) (schedule : Schedule) (modules : List Module) (first : List State) (state : PlayState) → state.group ≡ group_of schedule first
-    → first_states schedule modules ≡ Ok first → schedule_in folder name ≡ Ok (played_schedule schedule state) → modules_of folder schedule.processes ≡ Ok modules
+    → first_states schedule modules ≡ Ok first → schedule_in folder name ≡ Ok (played_schedule schedule state) → modules_of folder schedule.processes ≡ Ok modules → KeepsSchedule images name schedule
     → record_outcome images name folder ≡ run_outcome images name state.group (played_run state)
-records images name folder schedule modules first state group begun spelled found =
-    let played = played_schedule schedule state in
-    ap (λ (r : Result Schedule CommandStop). and_then r (λ s. and_then (modules_of folder s.processes) (λ ms. group_outcome images name s (first_states s ms)))) spelled
-    ∙ ap (λ (r : Result (List Module) CommandStop). and_then r (λ ms. group_outcome images name played (first_states played ms))) found
-    ∙ ap (group_outcome images name played) begun
+records images name folder schedule modules first state group begun spelled found kept =
+    let r : IsRecordable folder name = record { schedule = played_schedule schedule state; spelled = spelled; modules = modules; found = found; first = first; begins = begun } in
+    outcome_is_run images r kept
     ∙ ap (λ (g : GroupStart). run_outcome images name g (run g (items_so_far state))) (sym group)
 
 -- a schedule that was read is one
@@ -184,6 +184,6 @@ recorded_as_played schedules gives takes counts name folder r room lines =
     let s = stands_after gives takes counts r.schedule r.first formed opens (opening_play r.schedule r.first) lines (stands_begun r.schedule r.first formed opens) in
     record {
       spelled = s.formed;
-      recorded = λ images name folder spelled found. records images name folder r.schedule r.modules r.first (play_after (opening_play r.schedule r.first) lines) s.group r.begins spelled found;
+      recorded = λ images name folder spelled found kept. records images name folder r.schedule r.modules r.first (play_after (opening_play r.schedule r.first) lines) s.group r.begins spelled found kept;
       last = s.last;
     }

@@ -5,7 +5,7 @@ use Rattle.wasm_types.specs.Modules.{Module}
 use Rattle.schedule_text.specs.Schedule.{IsSchedule, Schedule}
 use Rattle.command_run.specs.Outcome.{CommandWork}
 use Rattle.record_command.specs.Agreement.{IsRecordable, run_in}
-use Rattle.record_command.specs.Expected.{modules_of, record_outcome, schedule_in}
+use Rattle.record_command.specs.Expected.{KeepsSchedule, modules_of, record_outcome, schedule_in}
 use Rattle.record_command.specs.Record.{run_outcome}
 use Rattle.play_command.specs.Outcome.{opening_play, play_outcome}
 use Rattle.play_command.specs.Play.{PlayState, items_so_far, play_answer, played_run}
@@ -28,11 +28,12 @@ abbrev pub played_schedule : Schedule → PlayState → Schedule
 played_schedule schedule state = record schedule { items = items_so_far state }
 
 -- a play of this schedule stands where its schedule, recorded, stands: wherever a file spells that schedule and the modules stand
--- as they stood, `record` comes to the outcome of the run that was played. Where a log was full, it was at the last item.
+-- as they stood, `record` comes to the outcome of the run that was played, unless that file would be made. Where a log was full, it was
+-- at the last item.
 pub record IsRecordedAsPlayed (schedule : Schedule) (modules : List Module) (state : PlayState) : Type 0 where
   pub spelled : IsSchedule (played_schedule schedule state)
   pub recorded : (images : Bool) (name : List ℕ) (folder : Folder) → schedule_in folder name ≡ Ok (played_schedule schedule state)
-      → modules_of folder schedule.processes ≡ Ok modules → record_outcome images name folder ≡ run_outcome images name state.group (played_run state)
+      → modules_of folder schedule.processes ≡ Ok modules → KeepsSchedule images name schedule → record_outcome images name folder ≡ run_outcome images name state.group (played_run state)
   pub last : (item : ℕ) → (played_run state).full ≡ Some item → item ≡ length (items_so_far state)
 
 -- The files spell a schedule and modules, and no log is full after the file's items: after any lines the play stands where the

@@ -7,7 +7,7 @@ use Rattle.group_record.specs.Answer.{first_states, group_of}
 use Rattle.group_record.specs.Run.{run}
 use Rattle.command_run.specs.declared.refusal.Reason.TheVariants as reason
 use Rattle.command_run.specs.Outcome.{CommandOutcome, CommandStop, and_then, refuses_at_once}
-use Rattle.record_command.specs.Expected.{modules_of, schedule_in, states_or_bad_segment}
+use Rattle.record_command.specs.Expected.{inputs_in, states_or_bad_segment}
 use Rattle.conversation.specs.Opening.{Opener, opened_outcome}
 use Rattle.conversation.specs.Talker.{Talker, talker_of}
 use Rattle.play_command.specs.Play.{PlayState, opening_line, play_answer}
@@ -29,9 +29,7 @@ play_of_modules name schedule states = and_then (states_or_bad_segment schedule 
 
 -- the play of a schedule file
 abbrev pub play_in : List ℕ → Folder → Result PlayState CommandStop
-play_in name folder =
-    and_then (schedule_in folder name) (λ schedule.
-    and_then (modules_of folder schedule.processes) (λ modules. play_of_modules name schedule (first_states schedule modules)))
+play_in name folder = and_then (inputs_in folder name) (λ inputs. play_of_modules name inputs.0 (first_states inputs.0 inputs.1))
 
 -- what it says: first of the file's items, and then of each line
 abbrev pub play_talker : PlayState → Talker PlayState

@@ -16,11 +16,11 @@ use Rattle.group_record.specs.Logs.{logs_of_steps}
 use Rattle.group_record.specs.Run.{log_of}
 use Rattle.record_command.specs.Agreement.{IsRecordable, LeavesMoment, group_in, run_in, steps_in}
 use Rattle.record_command.specs.Laws.{RecordingsAgree, RecordingsLeaveLogs}
-use Rattle.record_command.specs.Expected.{group_outcome, modules_of, record_outcome, schedule_in, schedule_or_refusal}
+use Rattle.record_command.specs.Expected.{KeepsSchedule, modules_of, record_outcome, schedule_in, schedule_or_refusal}
+use Rattle.record_command.specs.ExpectedLaws.{outcome_is_run}
 use Rattle.schedule_text.specs.Limits.{most_schedule}
 use Rattle.command_run.specs.Outcome.{file_of, writes_of}
 use Rattle.record_command.specs.Gathering.{GathersFromFolder}
-use Rattle.record_command.proofs.GatheredOutcome.{gathered}
 use Rattle.record_command.proofs.GroupOutcome.{group_writes}
 use Rattle.command_run.specs.Laws.{ReadsModules}
 use Rattle.command_run.specs.OutcomeLaws.{result_follows, same_Ok_value}
@@ -67,9 +67,6 @@ record IsOne (schedule : Schedule) (modules : List Module) {folder : Folder} {na
   schedules : schedule ≡ r.schedule
   modules_same : modules ≡ r.modules
 
-pub gathers_it : {folder : Folder} {name : List ℕ} (r : IsRecordable folder name) → GathersFromFolder folder name r.schedule r.modules
-gathers_it r = record { spelled = r.spelled; found = r.found }
-
 one_recording : {folder : Folder} {name : List ℕ} (schedule : Schedule) (modules : List Module) → GathersFromFolder folder name schedule modules → (r : IsRecordable folder name) → IsOne schedule modules r
 one_recording {folder} {name} schedule modules g r =
     let schedules : schedule ≡ r.schedule = same_Ok_value (schedule_in folder name) schedule r.schedule g.spelled r.spelled in
@@ -95,14 +92,13 @@ moment_then told middle after images name schedule modules gathers same stopped 
     (subst (λ (t : Option Folder). StoppedWhereBegun schedule images (first_states schedule modules) t after) (same ∙ is) stopped)))
 
 -- those of a recording are its logs, and after them the images that were asked for
-recording_writes : {folder : Folder} {name : List ℕ} (images : Bool) (r : IsRecordable folder name) → writes_of (record_outcome images name folder) ≡ logs_of_steps (group_in r) (steps_in r) ++ images_of images (group_in r) (run_in r)
-recording_writes {folder} {name} images r =
-    ap writes_of (gathered folder images name r.schedule r.modules (gathers_it r) ∙ ap (group_outcome images name r.schedule) r.begins)
-    ∙ group_writes images name r.schedule r.first
+recording_writes : {folder : Folder} {name : List ℕ} (images : Bool) (r : IsRecordable folder name) → KeepsSchedule images name r.schedule → writes_of (record_outcome images name folder) ≡ logs_of_steps (group_in r) (steps_in r) ++ images_of images (group_in r) (run_in r)
+recording_writes {folder} {name} images r kept =
+    ap writes_of (outcome_is_run images r kept) ∙ group_writes images name r.schedule r.first
 
 pub recordings_leave_logs_so : KeepsFiles → GivesSchedules → RecordingsLeaveLogs
-recordings_leave_logs_so keeps gives images name before after r made =
-    let whole = made ∙ ap (λ (files : List (List ℕ × List ℕ)). with_files files (Some before)) (recording_writes images r) in
+recordings_leave_logs_so keeps gives images name before after r kept made =
+    let whole = made ∙ ap (λ (files : List (List ℕ × List ℕ)). with_files files (Some before)) (recording_writes images r kept) in
     let formed = schedule_formed gives before name r.schedule r.spelled in
     logs_stand keeps (group_in r) (steps_in r) (images_of images (group_in r) (run_in r)) before after (logs_apart r.schedule.processes 0 (log_of (group_in r) (steps_in r)) formed.names)
     (images_are_no_logs images (group_in r) (run_in r)) (sym whole)

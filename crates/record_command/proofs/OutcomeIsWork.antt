@@ -1,5 +1,5 @@
 -- A schedule and modules that can be recorded whole have an outcome that is work.
-use Rattle.std.proofs.Common.{◌≡◌, ℕ, suc, Bool, List, [], ◌∷◌, length, Option, Some, Result, Ok, refl, ap, ◌∙◌}
+use Rattle.std.proofs.Common.{◌≡◌, ℕ, suc, Bool, List, [], ◌∷◌, length, Option, Some, None, Result, Ok, refl, ap, subst, ◌∙◌}
 use Rattle.fri_outside.specs.Outside.{Folder}
 use Rattle.wasm_types.specs.Modules.{Module}
 use Rattle.schedule_text.specs.Laws.{GivesSchedules}
@@ -7,14 +7,16 @@ use Rattle.schedule_text.specs.Reading.{schedule_of}
 use Rattle.schedule_text.specs.Schedule.{Schedule}
 use Rattle.schedule_text.specs.declared.process.ProcessLine.{ProcessLine}
 use Rattle.guest_process.specs.State.{State}
-use Rattle.group_record.specs.Answer.{first_states, first_states_from, group_of, with_first_state}
-use Rattle.group_record.specs.Run.{run}
+use Rattle.group_record.specs.Answer.{first_states, first_states_from, with_first_state}
 use Rattle.command_run.specs.Laws.{ReadsModules}
 use Rattle.command_run.specs.Outcome.{CommandStop, CommandWork, and_then}
-use Rattle.record_command.specs.Expected.{group_outcome, modules_of, record_outcome, schedule_in, schedule_or_refusal}
+use Rattle.record_command.specs.Agreement.{IsRecordable, group_in, run_in}
+use Rattle.record_command.specs.Laws.{RecordingsWork}
+use Rattle.record_command.specs.Expected.{KeepsSchedule, modules_of, record_outcome, schedule_in, schedule_or_refusal}
+use Rattle.record_command.specs.ExpectedLaws.{outcome_is_run}
 use Rattle.schedule_text.specs.Limits.{most_schedule}
 use Rattle.record_command.specs.Record.{outcome_by_room, recorded_work}
-use Rattle.record_command.specs.Valid.{AreModuleFiles, IsScheduleFile, RecordsWhole, modules_in}
+use Rattle.record_command.specs.Valid.{AreModuleFiles, IsScheduleFile, RecordsApart, RecordsWhole, modules_in}
 
 module _ (modules : ReadsModules) (schedules : GivesSchedules) where
   schedule_stands : (folder : Folder) (name : List ℕ) (schedule : Schedule) (h : IsScheduleFile folder name schedule) → schedule_in folder name ≡ Ok schedule
@@ -39,17 +41,39 @@ module _ (modules : ReadsModules) (schedules : GivesSchedules) where
       ap (λ (o : Option State). with_first_state o p (first_states_from count (suc p) (modules_in folder count (suc p) lines files.1))) files.0.1.1
       ∙ ap (with_first_state (Some files.0.1.0) p) (states_stand folder count (suc p) lines files.1)
 
-  pub recording_works : (images : Bool) (schedule_name : List ℕ) (folder : Folder) → RecordsWhole folder schedule_name → (work : CommandWork) × (record_outcome images schedule_name folder ≡ Ok work)
-  recording_works images schedule_name folder h =
+  -- it can be recorded, and its schedule is the one that is spelled
+  record CanRecord (folder : Folder) (name : List ℕ) (schedule : Schedule) : Type 0 where
+    recordable : IsRecordable folder name
+    same : schedule ≡ recordable.schedule
+    room : (run_in recordable).full ≡ None
+
+  can_record : (name : List ℕ) (folder : Folder) (h : RecordsWhole folder name) → CanRecord folder name h.schedule
+  can_record name folder h =
       let schedule = h.schedule in
       let count = length schedule.processes in
-      let ms = modules_in folder count 0 schedule.processes h.files in
       let first = states_in folder count 0 schedule.processes h.files in
-      let group = group_of schedule first in
-      let begins : first_states schedule ms ≡ Ok first = states_stand folder count 0 schedule.processes h.files in (
-        recorded_work images group (run group schedule.items),
-        ap (λ (r : Result Schedule CommandStop). and_then r (λ schedule. and_then (modules_of folder schedule.processes) (λ modules. group_outcome images schedule_name schedule (first_states schedule modules)))) (schedule_stands folder schedule_name schedule h.file)
-            ∙ ap (λ (r : Result (List Module) CommandStop). and_then r (λ modules. group_outcome images schedule_name schedule (first_states schedule modules))) (modules_stand folder count 0 schedule.processes h.files)
-            ∙ ap (group_outcome images schedule_name schedule) begins
-            ∙ ap (outcome_by_room images schedule_name group (run group schedule.items)) (h.room first begins),
-      )
+      let begins : first_states schedule (modules_in folder count 0 schedule.processes h.files) ≡ Ok first = states_stand folder count 0 schedule.processes h.files in
+      record {
+        recordable = record {
+          schedule = schedule;
+          spelled = schedule_stands folder name schedule h.file;
+          modules = modules_in folder count 0 schedule.processes h.files;
+          found = modules_stand folder count 0 schedule.processes h.files;
+          first = first;
+          begins = begins;
+        };
+        same = refl;
+        room = h.room first begins;
+      }
+
+  works : (images : Bool) (name : List ℕ) (folder : Folder) → RecordsApart images folder name → (work : CommandWork) × (record_outcome images name folder ≡ Ok work)
+  works images name folder h =
+      let can = can_record name folder h.whole in
+      let r = can.recordable in
+      (recorded_work images (group_in r) (run_in r), outcome_is_run images r (subst (KeepsSchedule images name) can.same h.kept) ∙ ap (outcome_by_room images name (group_in r) (run_in r)) can.room)
+
+  pub recording_works : RecordingsWork
+  recording_works = record {
+    recordable = λ name folder h. let can = can_record name folder h in (can.recordable, can.room);
+    work = works;
+  }

@@ -1,5 +1,5 @@
 -- Files at which `record` does its work.
-use Rattle.std.specs.Prelude.{◌≡◌, ℕ, suc, ◌≤◌, List, [], ◌∷◌, length, None, Ok}
+use Rattle.std.specs.Prelude.{◌≡◌, ℕ, suc, ◌≤◌, Bool, List, [], ◌∷◌, length, None, Ok}
 use Rattle.fri_outside.specs.Outside.{Folder}
 use Rattle.wasm_types.specs.Modules.{Module}
 use Rattle.schedule_text.specs.Grammar.{SpellsSchedule}
@@ -10,6 +10,7 @@ use Rattle.group_record.specs.Answer.{first_states, group_of}
 use Rattle.group_record.specs.Run.{run}
 use Rattle.command_run.specs.Valid.{IsFileWithin, IsModuleFile, ProcessBegins}
 use Rattle.schedule_text.specs.Limits.{most_runs, most_schedule}
+use Rattle.record_command.specs.Expected.{KeepsSchedule}
 
 -- a file spells this schedule, of which the tries are not too many
 pub record IsScheduleFile (folder : Folder) (name : List ℕ) (schedule : Schedule) : Type 0 where
@@ -36,3 +37,8 @@ pub record RecordsWhole (folder : Folder) (schedule_name : List ℕ) : Type 0 wh
   pub files : AreModuleFiles folder (length schedule.processes) 0 schedule.processes
   pub room : (first : List State) → first_states schedule (modules_in folder (length schedule.processes) 0 schedule.processes files) ≡ Ok first
       → (run (group_of schedule first) schedule.items).full ≡ None
+
+-- and its schedule's own file is none of those that are made, with images or without
+pub record RecordsApart (images : Bool) (folder : Folder) (schedule_name : List ℕ) : Type 0 where
+  pub whole : RecordsWhole folder schedule_name
+  pub kept : KeepsSchedule images schedule_name whole.schedule

@@ -22,7 +22,7 @@ pub fn recordings_leave_logs()
     schedule_text::laws::exact_outcome();
 }
 
-/// A schedule and modules that can be recorded whole have an outcome that is work.
+/// A schedule and modules that can be recorded whole have an outcome that is work, unless the schedule's own file would be made.
 pub fn recordings_work()
     ensures { RecordingsWork }
 {

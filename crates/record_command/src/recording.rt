@@ -10,6 +10,7 @@ ghost use Rattle.record_command.specs.Agreement.{LeavesMoment};
 ghost use Rattle.command_run.specs.Call.{CountsFaults, TellsOutcome, MakesWorkFiles, KeepsFolder, DivergesOnlyIf, RaisesCount};
 
 use crate::inputs::{gather, refusal_of};
+use crate::names::keep_schedule;
 use crate::summary::print_summary;
 use command_run::{StopCause, WorkText};
 use fri_outside::Files;
@@ -48,7 +49,8 @@ fn record_group<F: Files>(
 }
 
 /// Runs the group of a schedule file, of the modules that it names, and makes the log of each process, and with
-/// `images` the files of what each leaves. At a fault, and where a log is full, the logs stay as they stand.
+/// `images` the files of what each leaves. At a fault, and where a log is full, the logs stay as they stand. A schedule file
+/// that would be made is refused before.
 pub fn record<F: Files>(
     alloc: Global,
     images: bool,
@@ -65,6 +67,7 @@ pub fn record<F: Files>(
     ensures cause { IfErr result (RaisesCount (F.counts files.old) (F.counts files.new)) }
 {
     let inputs = gather(alloc, schedule_file, files)?;
+    keep_schedule(alloc, images, schedule_file, &inputs.schedule)?;
     record_group(
         alloc,
         images,

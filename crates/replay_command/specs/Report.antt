@@ -1,5 +1,5 @@
 -- The report of a replay.
-use Rattle.std.specs.Prelude.{ℕ, List, [], ◌++◌, Bool, true, false, map, decimal, codes, Ok, if◌then◌else◌}
+use Rattle.std.specs.Prelude.{ℕ, List, [], ◌++◌, Bool, true, false, map, decimal, codes, if◌then◌else◌}
 use Rattle.std.specs.List.{flat_map, list_any}
 use Rattle.fri_outside.specs.Outside.{Folder}
 use Rattle.guest_process.specs.declared.divergence.Divergence.{Divergence}
@@ -15,8 +15,9 @@ use Rattle.group_state.specs.Place.{group_count}
 use Rattle.group_state.specs.Report.{all_accepted_events, report_line}
 use Rattle.group_state.specs.Tally.{tally_of_events}
 use Rattle.end_text.specs.Ends.{end_text}
+use Rattle.command_run.specs.Apart.{apart_work}
 use Rattle.command_run.specs.Outcome.{CommandOutcome, CommandWork, and_then}
-use Rattle.log_pairs.specs.Pairs.{Pair, replays_of_pairs}
+use Rattle.log_pairs.specs.Pairs.{Pair, names_of_pairs, replays_of_pairs}
 
 -- a divergence by its number and name
 abbrev pub divergence_text : Divergence → List ℕ
@@ -77,6 +78,6 @@ replay_work images start = record {
   diverged = some_log_diverges (map report_line start);
 }
 
--- the outcome of `replay`, given the files
+-- the outcome of `replay`, given the files, unless an image would be made in the place of one of them
 abbrev pub replay_outcome : Bool → List Pair → Folder → CommandOutcome
-replay_outcome images pairs folder = and_then (replays_of_pairs folder pairs) (λ start. Ok (replay_work images start))
+replay_outcome images pairs folder = and_then (replays_of_pairs folder pairs) (λ start. apart_work (names_of_pairs pairs) (replay_work images start))

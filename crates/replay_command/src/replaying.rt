@@ -7,6 +7,7 @@ ghost use Rattle.command_run.specs.Outcome.{writes_of};
 ghost use Rattle.replay_command.specs.Report.{images_if, images_in, replay_outcome};
 ghost use Rattle.log_pairs.specs.Meanings.{pair_of};
 
+use crate::names::keep_pairs;
 use crate::report::print_report;
 use command_run::{StopCause, WorkText};
 use fri_outside::Files;
@@ -79,6 +80,7 @@ pub fn replay<F: Files>(
 {
     let all = load_all(alloc, pairs, files)?;
     let replayers = begin_all(alloc, &all)?;
+    keep_pairs(alloc, images, pairs, &replayers)?;
     write_asked(alloc, images, &replayers, files)?;
     let report = report_of(alloc, replayers)?;
     Ok(print_report(alloc, &report)?)

@@ -23,7 +23,8 @@ use Rattle.command_run.specs.Laws.{ReadsModules}
 use Rattle.command_run.specs.Limits.{most_module}
 use Rattle.command_run.specs.Outcome.{CommandStop, and_then, bytes_or_stop}
 use Rattle.record_command.specs.Agreement.{IsRecordable, group_in, run_in}
-use Rattle.record_command.specs.Expected.{group_outcome, modules_of, record_outcome, schedule_in, schedule_or_refusal}
+use Rattle.record_command.specs.Expected.{KeepsSchedule, modules_of, record_outcome, schedule_in, schedule_or_refusal}
+use Rattle.record_command.specs.ExpectedLaws.{outcome_is_run}
 use Rattle.record_command.specs.Record.{outcome_by_room, recorded_work}
 
 -- ---- modules
@@ -71,7 +72,7 @@ pub record Recorded (lines : List ProcessLine) (start : List Replaying) (later :
   pub recordable : IsRecordable later schedule_name
   pub group : group_in recordable ≡ back_group lines start
   pub run : run_in recordable ≡ back_run lines start
-  pub work : (images : Bool) → record_outcome images schedule_name later ≡ Ok (recorded_work images (group_in recordable) (run_in recordable))
+  pub work : (images : Bool) → KeepsSchedule images schedule_name recordable.schedule → record_outcome images schedule_name later ≡ Ok (recorded_work images (group_in recordable) (run_in recordable))
 
 pub recorded : ReadsModules → TextIsRead → (lines : List ProcessLine) (start : List Replaying) (text : List ℕ) (later : Folder) (schedule_name : List ℕ)
     → RecordsBack lines start text → get later schedule_name ≡ Some text → AllBeginAs later (length lines) 0 lines start → Recorded lines start later schedule_name
@@ -83,15 +84,12 @@ recorded reads read_back lines start text later name back_is held begin =
     let in_file : schedule_in later name ≡ Ok s =
     ap (λ (r : Result (List ℕ) CommandStop). and_then r (λ bytes. schedule_or_refusal name (schedule_of bytes))) (reads.files later name most_schedule text (record { held = held; within = back_is.short }))
     ∙ ap (schedule_or_refusal name) spelled in
+    let r : IsRecordable later name = record { schedule = s; spelled = in_file; modules = g.modules; found = g.found; first = states; begins = g.states } in
     record {
-      recordable = record { schedule = s; spelled = in_file; modules = g.modules; found = g.found; first = states; begins = g.states };
+      recordable = r;
       group = refl;
       run = refl;
-      work = λ images.
-          ap (λ (r : Result Schedule CommandStop). and_then r (λ schedule. and_then (modules_of later schedule.processes) (λ modules. group_outcome images name schedule (first_states schedule modules)))) in_file
-          ∙ ap (λ (r : Result (List Module) CommandStop). and_then r (λ modules. group_outcome images name s (first_states s modules))) g.found
-          ∙ ap (group_outcome images name s) g.states
-          ∙ ap (outcome_by_room images name (back_group lines start) (back_run lines start)) back_is.room;
+      work = λ images kept. outcome_is_run images r kept ∙ ap (outcome_by_room images name (back_group lines start) (back_run lines start)) back_is.room;
     }
 
 -- ---- the files

@@ -10,7 +10,7 @@ use Rattle.command_run.specs.Outcome.{CommandWork}
 use Rattle.log_files.specs.Logs.{log_in}
 use Rattle.log_pairs.specs.Pairs.{Pair}
 use Rattle.record_command.specs.Agreement.{IsRecordable, group_in, run_in, steps_in}
-use Rattle.record_command.specs.Expected.{record_outcome}
+use Rattle.record_command.specs.Expected.{KeepsSchedule, record_outcome}
 use Rattle.record_command.specs.Record.{recorded_work}
 use Rattle.schedule_command.specs.Schedule.{schedule_outcome}
 use Rattle.schedule_command.specs.Valid.{CanBeScheduled}
@@ -30,12 +30,13 @@ pub record IsRecordedAgain (folder : Folder) (writes : List (List ℕ × List �
   pub same : head.version ≡ Two → get folder pair.log_name ≡ Some bytes
 
 -- The files are a schedule and its modules, and in the run of its items none is idle and no log is full. The outcome of recording
--- is the work of that run: it makes a log for each of the pairs, and of other files the images of that run where they are asked for.
+-- is the work of that run, unless the schedule's own file would be made: it makes a log for each of the pairs, and of other files the
+-- images of that run where they are asked for.
 pub record IsRecording (pairs : List Pair) (folder later : Folder) (schedule_name : List ℕ) : Type 0 where
   pub recordable : IsRecordable later schedule_name
   pub idle : (run_in recordable).idle ≡ 0
   pub room : (run_in recordable).full ≡ None
-  pub work : (images : Bool) → record_outcome images schedule_name later ≡ Ok (recorded_work images (group_in recordable) (run_in recordable))
+  pub work : (images : Bool) → KeepsSchedule images schedule_name recordable.schedule → record_outcome images schedule_name later ≡ Ok (recorded_work images (group_in recordable) (run_in recordable))
   pub count : length (logs_of_steps (group_in recordable) (steps_in recordable)) ≡ length pairs
   pub logs : All (IsRecordedAgain folder (logs_of_steps (group_in recordable) (steps_in recordable))) pairs
 

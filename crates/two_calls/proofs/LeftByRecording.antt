@@ -22,7 +22,8 @@ use Rattle.command_run.specs.declared.status.Status.TheVariants as ends
 use Rattle.command_run.specs.Outcome.{CommandOutcome, CommandStop, and_then, file_of, outcome_status, written_names}
 use Rattle.command_run.specs.OutcomeLaws.{result_follows, same_Ok_value}
 use Rattle.record_command.specs.Agreement.{IsRecordable, group_in, run_in, steps_in}
-use Rattle.record_command.specs.Expected.{group_outcome, module_name, modules_of, record_outcome, schedule_in, schedule_or_refusal}
+use Rattle.record_command.specs.Expected.{module_name, record_outcome, schedule_in, schedule_or_refusal}
+use Rattle.record_command.specs.ExpectedLaws.{done_is_kept, outcome_is_run}
 use Rattle.schedule_text.specs.Limits.{most_schedule}
 use Rattle.record_command.specs.Record.{outcome_by_room, recorded_work}
 
@@ -40,19 +41,13 @@ schedule_formed gives folder name schedule is =
 
 -- ---- the outcome of a recording that is done
 
-outcome_is : (images : Bool) {folder : Folder} {name : List ℕ} (r : IsRecordable folder name) → record_outcome images name folder ≡ outcome_by_room images name (group_in r) (run_in r) (run_in r).full
-outcome_is images {folder} {name} r =
-    ap (λ (s : Result Schedule CommandStop). and_then s (λ schedule. and_then (modules_of folder schedule.processes) (λ modules. group_outcome images name schedule (first_states schedule modules)))) r.spelled
-    ∙ ap (λ (m : Result (List Module) CommandStop). and_then m (λ modules. group_outcome images name r.schedule (first_states r.schedule modules))) r.found
-    ∙ ap (group_outcome images name r.schedule) r.begins
-
 -- it is whole, and its work is that of the run
 pub record IsDone (images : Bool) {folder : Folder} {name : List ℕ} (r : IsRecordable folder name) : Type 0 where
   pub whole : (run_in r).full ≡ None
   pub outcome : record_outcome images name folder ≡ Ok (recorded_work images (group_in r) (run_in r))
 
 pub is_done : (images : Bool) {folder : Folder} {name : List ℕ} (r : IsRecordable folder name) → ends.Done ≡ outcome_status (record_outcome images name folder) → IsDone images r
-is_done images {folder} {name} r done = by_room (run_in r).full refl (outcome_is images r) where
+is_done images {folder} {name} r done = by_room (run_in r).full refl (outcome_is_run images r (done_is_kept images r (sym done))) where
   by_room : (full : Option ℕ) → (run_in r).full ≡ full → record_outcome images name folder ≡ outcome_by_room images name (group_in r) (run_in r) full → IsDone images r
   by_room None whole is = record { whole = whole; outcome = is }
   by_room (Some item) full is = absurd (refused (done ∙ ap outcome_status is)) where
@@ -158,12 +153,16 @@ module_at [] p d below = absurd (omega (arith, below))
 module_at (line ∷ lines) zero d below = refl
 module_at (line ∷ lines) (suc p) d below = module_at lines p d (omega (arith, below))
 
+pub module_named : (lines : List ProcessLine) (p : ℕ) → ((d : ProcessLine) → IsTrue (is_module_name (slice_index_or lines p d).«module»)) → p < length lines → IsTrue (is_module_name (slice_index_or (map (λ (line : ProcessLine). line.«module») lines) p []))
+module_named lines p named below =
+    let none : ProcessLine = record { name = []; «module» = [] } in
+    subst (λ (n : List ℕ). IsTrue (is_module_name n)) (module_at lines p none below) (named none)
+
 -- so the modules stand as they stood
 pub module_not_written : (images : Bool) {folder : Folder} {name : List ℕ} (r : IsRecordable folder name) → IsWellFormed r.schedule → IsDone images r → (p : ℕ) → p < length r.schedule.processes
     → Contains (written_names (record_outcome images name folder)) (module_name r.schedule p) → ⊥
 module_not_written images {folder} {name} r formed done p below among =
-    let none : ProcessLine = record { name = []; «module» = [] } in
-    let named : IsTrue (is_module_name (module_name r.schedule p)) = subst (λ (n : List ℕ). IsTrue (is_module_name n)) (module_at r.schedule.processes p none below) (formed.lines p none below).file in
+    let named = module_named r.schedule.processes p (λ d. (formed.lines p d below).file) below in
     let files = logs_of_steps (group_in r) (steps_in r) ++ images_of images (group_in r) (run_in r) in
     let there : Contains (map (λ (file : List ℕ × List ℕ). file.0) files) (module_name r.schedule p) =
     subst (λ (o : CommandOutcome). Contains (written_names o) (module_name r.schedule p)) done.outcome among in

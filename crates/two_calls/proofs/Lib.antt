@@ -1,2 +1,3 @@
 pub mod LeftByRecording
+pub mod ImagesApart
 pub mod SecondCall

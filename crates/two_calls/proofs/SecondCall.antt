@@ -28,6 +28,7 @@ use Rattle.friday_app.specs.Run.{CommandRun}
 use Rattle.two_calls.specs.Calls.{CameTo, ShowsRecorded, ShowsThese, pairs_of_processes, printed_by}
 use Rattle.headline.specs.Headline.{AreHeld, AreProcesses, ShowsSteps, logs_in, run_to, sorted_of}
 use Rattle.headline.specs.Shown.{no_cut, recorded_report}
+use Rattle.two_calls.proofs.ImagesApart.{images_apart}
 use Rattle.two_calls.proofs.LeftByRecording.{IsDone, is_done, module_not_written, schedule_formed}
 
 -- ---- the recording
@@ -59,7 +60,7 @@ recorded gives images before name r old middle is run =
       folder = others.0;
       told = others.1;
       left = sym files ∙ others.1;
-      shows = (run.promises.shown before is others.0 others.1 r).whole tt;
+      shows = (run.promises.shown before is others.0 others.1 r).done refl;
       modules = λ p below. others.2 (module_name r.schedule p) (module_not_written images r formed done p (omega (arith, below, count)));
       printed = (run.call.text outcome known).whole tt ∙ ap (λ (o : CommandOutcome). append_known old.taken (outcome_text o)) done.outcome;
       unheard = run.promises.input.unheard;
@@ -88,6 +89,9 @@ these gives images before name r second old middle new answer is first run ps ar
     let rec = recorded gives images before name r old middle is first in
     let pairs = pairs_of_processes r.schedule ps in
     let shown = rec.shows ps are rec.folder pairs (has_all images r old middle rec ps are.within) in
+    let formed = schedule_formed gives before name r.schedule r.spelled in
+    let below = subst (λ (count : ℕ). AllByRecursion (λ p. p < count) ps) (length-map r.schedule.processes (λ (line : ProcessLine). line.name)) are.within in
+    let apart = λ (asked : Bool). images_apart asked (run_to r (steps_in r)) (sorted_of (processes_in_group (group_in r)) ps) r.schedule formed ps below in
     record {
       whole = rec.done.whole;
       folder = rec.folder;
@@ -96,7 +100,7 @@ these gives images before name r second old middle new answer is first run ps ar
       replayed = λ asked names answers.
           came_to (Some (Replay asked pairs)) (Ok (recorded_report asked (run_to r (steps_in r)) no_cut (sorted_of (processes_in_group (group_in r)) ps))) rec.folder (printed_by images r old.taken) middle new answer
           (subst (λ (c : Option Command). CommandRun c middle new answer) names run)
-          (ap (option_map (replay_outcome asked pairs)) rec.told ∙ ap (λ (o : CommandOutcome). Some o) (shown.replay asked)) rec.told rec.printed answers;
+          (ap (option_map (replay_outcome asked pairs)) rec.told ∙ ap (λ (o : CommandOutcome). Some o) (shown.replay asked (apart asked))) rec.told rec.printed answers;
       debugged = λ names answers input typed.
           came_to (Some (Debug pairs)) (session_outcome shown.start input) rec.folder (printed_by images r old.taken) middle new answer
           (subst (λ (c : Option Command). CommandRun c middle new answer) names run)

@@ -21,7 +21,7 @@ returns-in-Err g c =
     let new : Outside = outside (g.F.Files.told c.gather.new.files) (g.F.Files.counts c.gather.new.files) (g.T.Sink.hearing c.finish.new.out) (g.T.Sink.taken c.finish.new.out) (g.T.Sink.faults c.finish.new.out) in
     run_unopened (play_opener name) c.in-Err.stop c.finish.result old new
     (c.finish.ensures _ _ _
-    (opening_performed (play_opener name) c.in-Err.stop old new (λ folder told. gathering_stops false name folder c.in-Err.stop (c.in-Err.ensures.answer folder told false)) c.in-Err.ensures.cause
+    (opening_performed (play_opener name) c.in-Err.stop old new (λ folder told. gathering_stops name folder c.in-Err.stop (c.in-Err.ensures.answer folder told)) c.in-Err.ensures.cause
     (counts_of_part _ _ _ c.in-Err.ensures.counts) c.gather.ensures.same))
 
 pub returns : goal.returns

@@ -10,12 +10,12 @@ use Rattle.record_command.proofs.inputs.gather.Goals as goal
 pub returns-in_err-schedule-clause-answer : goal.returns-in_err-schedule-clause-answer
 returns-in_err-schedule-clause-answer g c = λ folder told.
     let p = err_from_is_err_and c.from_residual.result c.from_residual.ensures.1 in
-    rw (p.1, p.2) (λ images. schedule_stops folder images c.args.schedule_file.now c.in_err-schedule.field-0.0 (c.in_err-schedule.ensures.answer folder told))
+    rw (p.1, p.2) (schedule_stops folder c.args.schedule_file.now c.in_err-schedule.field-0.0 (c.in_err-schedule.ensures.answer folder told))
 
 pub returns-in_err-modules-clause-answer : goal.returns-in_err-modules-clause-answer
 returns-in_err-modules-clause-answer g c = λ folder told.
     let p = err_from_is_err_and c.from_residual-in_err-modules.result c.from_residual-in_err-modules.ensures.1 in
-    rw (p.1, p.2) (λ images. modules_stop folder images c.args.schedule_file.now c.in_ok-schedule.schedule c.in_err-modules.field-0.0 (c.in_ok-schedule.ensures.answer folder told)
+    rw (p.1, p.2) (modules_stop folder c.args.schedule_file.now c.in_ok-schedule.schedule c.in_err-modules.field-0.0 (c.in_ok-schedule.ensures.answer folder told)
     (subst (λ (lines : List ProcessLine). StopsAsCause (modules_of folder lines) c.in_err-modules.field-0.0) c.processes.ensures.value (c.in_err-modules.ensures.answer folder (c.take_schedule.ensures.same ∙ told))))
 
 pub returns-clause-answer : goal.returns-clause-answer
