@@ -36,7 +36,7 @@ def next_back(session, rest, form):
 
 
 def positions_of_thread(session):
-    return session.engine.index.of_thread.get(thread_of(session), ())
+    return session.engine.index.of_thread(*thread_of(session))
 
 
 def times(rest):

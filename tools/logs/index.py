@@ -6,9 +6,10 @@ An index is of events that replay accepts, so that their clocks ascend in each p
 
 import array
 import bisect
+import collections
 import functools
 
-from logs.format import CALLS, Cursor, bytes_of, read_entry, read_head
+from logs.format import CALLS, BadLog, Cursor, bytes_of, head_of, read_entry, read_head
 from logs.traffic import Event, is_send
 
 KINDS = {call.name: kind for kind, call in enumerate(CALLS)}
@@ -19,80 +20,76 @@ COUNT_AT, TAG_SIZE = 48, 13
 
 
 class LogIndex:
-    """Of each of the first events of one log its clock, its thread, its call, and where it begins."""
+    """Of each of the first events of one log its clock, its thread, its call, and where it begins; last where they end."""
 
-    def __init__(self, path, most=None):
+    def __init__(self, path, count):
         self.data = bytes_of(path)
         cursor = Cursor(self.data)
         self.log = read_head(cursor, path)
         go = through_short if self.log.version == 2 else through_fixed
-        self.clocks, self.threads, self.kinds, self.starts = go(self.data, cursor.at, most)
+        try:
+            self.clocks, self.threads, self.kinds, self.starts = go(self.data, cursor.at, count)
+        except IndexError:
+            raise BadLog(path, "is not what was replayed") from None
 
     def __len__(self):
         return len(self.clocks)
 
+    def cursor(self, number):
+        """In front of the entry of the event of this number, from 1."""
+        return Cursor(self.data[self.starts[number - 1] : self.starts[number]], self.log.version)
+
     def entry(self, number):
-        """The entry of the event of this number, from 1."""
-        cursor = Cursor(self.data[self.starts[number - 1] : self.starts[number]], self.log.version)
-        return read_entry(cursor, self.clocks[number - 2] if number > 1 else 0)
+        return read_entry(self.cursor(number), self.clocks[number - 2] if number > 1 else 0)
 
     def tags(self):
         """The tag of each datagram that was taken, as one number, with the place of its event among them, from 0."""
-        data, starts = self.data, self.starts
-        for at in [at for at, kind in enumerate(self.kinds) if kind in RECEIVES]:
-            end = starts[at + 1]
-            tag = tag_behind(data, end) if self.log.version == 2 else tag_in(data, starts[at], end)
-            if tag:
-                yield at, tag
+        receives = [at for at, kind in enumerate(self.kinds) if kind in RECEIVES]
+        ends = [self.starts[at + 1] for at in receives]
+        if self.log.version == 2:
+            tags = short_tags(self.data, ends)
+        else:
+            tags = fixed_tags(self.data, [self.starts[at] for at in receives], ends)
+        return ((at, tag) for at, tag in zip(receives, tags) if tag)
 
 
 def columns():
-    return array.array("Q"), array.array("H"), bytearray(), array.array("Q")
+    return array.array("Q"), bytearray(), bytearray(), array.array("Q")
 
 
-def through_short(data, at, most):
-    """The columns of a log of version 2, and last where its events end."""
+def through_short(data, at, count):
+    """The columns of a log of version 2."""
     clocks, threads, kinds, starts = columns()
     add_clock, add_thread, add_kind, add_start = clocks.append, threads.append, kinds.append, starts.append
-    clock, end, left = 0, len(data), -1 if most is None else most
-    while left and at < end:
-        begin = at
+    clock = 0
+    for _ in range(count):
+        add_start(at)
         # Most numbers have one byte, and a call for each would take longer than all the rest.
-        try:
-            size, at = (data[at], at + 1) if data[at] < 128 else short(data, at)
-            after = at + size
-            if after > end:
-                break
-            more, at = (data[at], at + 1) if data[at] < 128 else short(data, at)
-            thread, at = (data[at], at + 1) if data[at] < 128 else short(data, at)
-            kind = data[at]
-        except IndexError:
-            break
+        size, at = data[at], at + 1
+        if size > 127:
+            size, at = short(data, at - 1)
+        end = at + size
+        more, at = data[at], at + 1
+        if more > 127:
+            more, at = short(data, at - 1)
         clock += more
-        if clock >= 2**64 or thread >= 2**16:
-            break
         add_clock(clock)
-        add_thread(thread)
-        add_kind(kind)
-        add_start(begin)
-        at, left = after, left - 1
-    starts.append(at if not left or at >= end else begin)
+        add_thread(data[at])
+        add_kind(data[at + 1])
+        at = end
+    add_start(at)
     return clocks, threads, kinds, starts
 
 
-def through_fixed(data, at, most):
-    """The columns of a log of version 1, and last where its events end."""
+def through_fixed(data, at, count):
+    """The columns of a log of version 1."""
     clocks, threads, kinds, starts = columns()
-    end, left = len(data), -1 if most is None else most
-    while left and at + 16 <= end:
-        size = int.from_bytes(data[at : at + 4], "little")
-        if at + 4 + size > end:
-            break
-        clocks.append(int.from_bytes(data[at + 4 : at + 12], "little"))
-        threads.append(int.from_bytes(data[at + 12 : at + 14], "little"))
-        kinds.append(data[at + 14])
+    for _ in range(count):
         starts.append(at)
-        at, left = at + 4 + size, left - 1
+        clocks.append(int.from_bytes(data[at + 4 : at + 12], "little"))
+        threads.append(data[at + 12])
+        kinds.append(data[at + 14])
+        at += 4 + int.from_bytes(data[at : at + 4], "little")
     starts.append(at)
     return clocks, threads, kinds, starts
 
@@ -107,40 +104,36 @@ def short(data, at):
     return value, at
 
 
-def tag_behind(data, end):
-    """The tag that ends an entry of version 2, a flag of 1, a sender of one byte, and a clock, which is not 0; as one number, the clock
-    before the sender."""
-    at = end - 1
-    clock = data[at]
-    if clock == 0:
-        return None
-    while data[at - 1] > 127:
-        at -= 1
-        clock = clock << 7 | data[at] & 127
-    return clock << PROCESS_BITS | data[at - 1]
+def short_tags(data, ends):
+    """Of each entry of version 2 its tag as one number, the clock before the sender, or 0. A tag ends its entry: a flag of 1, a sender of
+    one byte, and a clock, which is not 0; without one a flag of 0 does."""
+    for end in ends:
+        clock, at = data[end - 1], end - 2
+        while clock and data[at] > 127:
+            clock, at = clock << 7 | data[at] & 127, at - 1
+        yield clock and clock << PROCESS_BITS | data[at]
 
 
-def tag_in(data, start, end):
-    count = int.from_bytes(data[start + COUNT_AT : start + COUNT_AT + 4], "little")
-    if start + COUNT_AT + 4 + count + TAG_SIZE != end:
-        return None
-    return int.from_bytes(data[end - 8 : end], "little") << PROCESS_BITS | int.from_bytes(data[end - 12 : end - 8], "little")
+def fixed_tags(data, starts, ends):
+    """The same of entries of version 1."""
+    for start, end in zip(starts, ends):
+        count = int.from_bytes(data[start + COUNT_AT : start + COUNT_AT + 4], "little")
+        sender, clock = data[end - 12 : end - 8], data[end - 8 : end]
+        has_tag = start + COUNT_AT + 4 + count + TAG_SIZE == end
+        yield has_tag and int.from_bytes(clock, "little") << PROCESS_BITS | int.from_bytes(sender, "little")
 
 
 class Index:
     """The events of a group in the order of the positions, as a sequence, and the positions of each process and thread."""
 
-    def __init__(self, paths, accepted=None):
+    def __init__(self, paths, accepted):
         """`accepted` tells how many events replay accepts of each log, by its process's name."""
-        self.parts = []
-        for path in paths:
-            name = read_head(Cursor(bytes_of(path)), path).name
-            self.parts.append(LogIndex(path, accepted.get(name) if accepted else None))
+        self.parts = [LogIndex(path, accepted[head_of(path).name]) for path in paths]
         self.parts.sort(key=lambda part: part.log.process)
-        self.logs, self.taken = [part.log for part in self.parts], {}
+        self.logs, self.threads, self.taken = [part.log for part in self.parts], {}, {}
         self.names = {log.process: log.name for log in self.logs}
         keys = sorted(clock << PROCESS_BITS | at for at, part in enumerate(self.parts) for clock in part.clocks)
-        self.sources = bytearray(key & 15 for key in keys)
+        self.sources = bytes([key & 15 for key in keys])
         self.of_process = {log.name: array.array("Q") for log in self.logs}
         appends = [self.of_process[log.name].append for log in self.logs]
         for position, at in enumerate(self.sources, 1):
@@ -178,17 +171,13 @@ class Index:
         part = self.parts[self.sources[position - 1]]
         return part.log.name, part.threads[self.number_at(position) - 1]
 
-    @functools.cached_property
-    def of_thread(self):
-        """The positions of the events of each thread, by the process's name and the thread's number."""
-        found = {}
-        for part in self.parts:
-            lists = {thread: array.array("Q") for thread in set(part.threads)}
-            appends = {thread: positions.append for thread, positions in lists.items()}
-            for position, thread in zip(self.of_process[part.log.name], part.threads):
-                appends[thread](position)
-            found.update(((part.log.name, thread), positions) for thread, positions in lists.items())
-        return found
+    def of_thread(self, name, thread):
+        """The positions of the events of a thread, which are told apart once for each process."""
+        if name not in self.threads:
+            found = self.threads[name] = collections.defaultdict(lambda: array.array("Q"))
+            for position, number in zip(self.of_process[name], self.part_of(name).threads):
+                found[number].append(position)
+        return self.threads[name].get(thread, ())
 
     @functools.cached_property
     def prints(self):

@@ -122,7 +122,7 @@ class Frames:
         return None
 
     def places(self, node, thread):
-        return self.engine.index.of_thread.get((node, thread), ())
+        return self.engine.index.of_thread(node, thread)
 
     def without(self, node, thread, stack, at, positions):
         """Those of some ascending positions at which the thread is not in a frame of this stack."""

@@ -126,7 +126,7 @@ class Threads:
 
     def last_event(self, node, thread):
         """The position of the thread's last event up to here, or 0."""
-        return self.engine.at_or_before(self.engine.index.of_thread.get((node, thread), ()))
+        return self.engine.at_or_before(self.engine.index.of_thread(node, thread))
 
     def call_of(self, node, thread):
         """The place at which a thread waits; None where its guest keeps none, before its first call, and once it has ended."""
