@@ -15,7 +15,7 @@ MOST = {
     "README.md": 500,
     "docs/tutorial.md": 2100,
     "docs/recipes.md": 2450,
-    "docs/debugger.md": 2850,
+    "docs/debugger.md": 2300,
     "docs/gdb.md": 700,
     "docs/editor.md": 1200,
     "docs/guests.md": 2750,
