@@ -14,7 +14,7 @@ from tools_path import TOP
 MOST = {
     "README.md": 500,
     "docs/tutorial.md": 2100,
-    "docs/recipes.md": 2450,
+    "docs/recipes.md": 2000,
     "docs/debugger.md": 2300,
     "docs/gdb.md": 700,
     "docs/editor.md": 1200,
