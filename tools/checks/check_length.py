@@ -18,7 +18,7 @@ MOST = {
     "docs/debugger.md": 2300,
     "docs/gdb.md": 700,
     "docs/editor.md": 1200,
-    "docs/guests.md": 2750,
+    "docs/guests.md": 2400,
     "docs/refusals.md": 1100,
     "docs/limits.md": 700,
     "docs/formats.md": 6150,
