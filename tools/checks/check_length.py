@@ -22,7 +22,7 @@ MOST = {
     "docs/refusals.md": 1100,
     "docs/limits.md": 700,
     "docs/formats.md": 6150,
-    "docs/lines.md": 2900,
+    "docs/lines.md": 2300,
     "docs/theorem.md": 950,
     "docs/proved.md": 6500,
     "docs/performance.md": 500,
