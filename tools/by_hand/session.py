@@ -57,7 +57,7 @@ class Session:
             self.print("> " + sent)
 
     def greeting(self):
-        return "%d events of %s; help lists the words" % (self.engine.count, ", ".join(self.names.nodes))
+        return "%d events of %s; help lists the words" % (self.engine.last, ", ".join(self.names.nodes))
 
     def prompt(self):
         return "(friday %d) " % self.engine.position
@@ -223,7 +223,7 @@ class Session:
         elif answer.lines[0].startswith("? 2"):
             self.print("    the processes are %s" % ", ".join(self.names.nodes))
         elif answer.lines[0].startswith("? 7"):
-            self.print("    the logs have %d events" % self.engine.count)
+            self.print("    the logs have %d events" % self.engine.last)
 
     def explain_name(self, found):
         """What a name may be that the debugger does not know."""

@@ -9,6 +9,7 @@ import time
 
 from asking.conversation import Conversation, Paused
 from logs.index import Index
+from logs.traffic import is_send
 from sessions.frames import Frames
 from sessions.names import Names
 from sessions.places import Threads
@@ -122,11 +123,6 @@ class Engine(Reading):
         return len(self.index)
 
     @property
-    def count(self):
-        """How many events there are, which is known without going through the logs."""
-        return sum(self.verdict.accepted.values())
-
-    @property
     def event(self):
         """The event of the position, or None at 0."""
         return self.event_at(self.position)
@@ -135,8 +131,9 @@ class Engine(Reading):
         return self.index.event(position) if 0 < position <= self.last else None
 
     def send_at(self, position):
-        """The event that led to a position, if it is a send."""
-        return self.index.event(position) if self.index.call_at(position) == "send" else None
+        """The event that led to a position, if it is one that sent a datagram."""
+        event = self.index.event(position) if self.index.call_at(position) == "send" else None
+        return event if event and is_send(event.entry) else None
 
     def line_at(self, position):
         """The event that led to a position, as the debugger lists it."""
