@@ -1,5 +1,8 @@
 """The variables pane: scopes, and what is under a variable. Values are read where a client opens them."""
 
+import itertools
+
+from logs.traffic import is_send
 from logs.wording import shown, source
 from sessions.casts import value_of
 from sessions.names import Refusal
@@ -72,18 +75,13 @@ class Tree:
 
     def on_its_way(self, form, start, count):
         """Datagrams of the group that were sent by now, and that a process takes later or never."""
-        here, made = self.engine.position, []
-        for position in range(here, max(0, here - MOST_LOOKED_AT), -1):
-            event = self.engine.send_at(position)
-            if event is None:
-                continue
-            takers = self.engine.index.taken_at(event)
-            later = [taker for taker in takers if taker > here]
-            if later or not takers:
-                told = "taken at %s" % ", ".join(map(str, later)) if later else "taken at no position"
-                made.append(plain(self.engine.line_at(position), "%s: %s" % (told, shown(event.entry.sent))))
-            if len(made) == MOST_ON_THEIR_WAY:
-                break
+        here, index = self.engine.position, self.engine.index
+        events = filter(lambda event: is_send(event.entry), map(index.event, index.under_way(here, MOST_LOOKED_AT)))
+        made = []
+        for event in itertools.islice(events, MOST_ON_THEIR_WAY):
+            later = ", ".join(str(taker) for taker in index.taken_at(event) if taker > here)
+            told = "taken at %s: %s" % (later or "no position", shown(event.entry.sent))
+            made.append(plain(self.engine.line_at(event.position), told))
         return made[::-1]
 
     def process(self, node):

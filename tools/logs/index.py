@@ -10,13 +10,14 @@ import collections
 import functools
 
 from logs.format import CALLS, BadLog, Cursor, bytes_of, head_of, read_entry, read_head
+from logs.takers import Takers
 from logs.traffic import Event, is_send
 
 KINDS = {call.name: kind for kind, call in enumerate(CALLS)}
 RECEIVES = frozenset(kind for kind, call in enumerate(CALLS) if call.has_tag)
 PROCESS_BITS = 4
-# Where the length of what came in stands in an entry of version 1, from its beginning on.
-COUNT_AT, TAG_SIZE = 48, 13
+# Where the first argument and the length of what came in stand in an entry of version 1, from its beginning on.
+ARGUMENT_AT, COUNT_AT, TAG_SIZE = 16, 48, 13
 
 
 class LogIndex:
@@ -42,9 +43,17 @@ class LogIndex:
     def entry(self, number):
         return read_entry(self.cursor(number), self.clocks[number - 2] if number > 1 else 0)
 
-    def tags(self):
-        """The tag of each datagram that was taken, as one number, with the place of its event among them, from 0."""
-        receives = [at for at, kind in enumerate(self.kinds) if kind in RECEIVES]
+    def receiver(self, number):
+        """The process to which the event of this number sends, if its number has one byte, as all of the group have."""
+        at = self.starts[number - 1]
+        if self.log.version == 1:
+            return int.from_bytes(self.data[at + ARGUMENT_AT : at + ARGUMENT_AT + 8], "little")
+        # Behind the size, the clock, the thread, the call and the signal.
+        return self.data[short(self.data, short(self.data, at)[1])[1] + 3]
+
+    def tags(self, first, last):
+        """The tag of each datagram that was taken, as one number, with the place of its event among all, from the last one back."""
+        receives = [at for at in range(last - 1, first - 1, -1) if self.kinds[at] in RECEIVES]
         ends = [self.starts[at + 1] for at in receives]
         if self.log.version == 2:
             tags = short_tags(self.data, ends)
@@ -130,7 +139,7 @@ class Index:
         """`accepted` tells how many events replay accepts of each log, by its process's name."""
         self.parts = [LogIndex(path, accepted[head_of(path).name]) for path in paths]
         self.parts.sort(key=lambda part: part.log.process)
-        self.logs, self.threads, self.taken = [part.log for part in self.parts], {}, {}
+        self.logs, self.threads = [part.log for part in self.parts], {}
         self.names = {log.process: log.name for log in self.logs}
         keys = sorted(clock << PROCESS_BITS | at for at, part in enumerate(self.parts) for clock in part.clocks)
         self.sources = bytes([key & 15 for key in keys])
@@ -138,6 +147,7 @@ class Index:
         appends = [self.of_process[log.name].append for log in self.logs]
         for position, at in enumerate(self.sources, 1):
             appends[at](position)
+        self.takers = {part.log.process: Takers(part, self.of_process[part.log.name]) for part in self.parts}
 
     def __len__(self):
         return len(self.sources)
@@ -153,10 +163,6 @@ class Index:
         """The event that led to a position, from 1."""
         part, number = self.parts[self.sources[position - 1]], self.number_at(position)
         return Event(position, number, part.log, part.entry(number))
-
-    def call_at(self, position):
-        """The name of the call of an event."""
-        return CALLS[self.parts[self.sources[position - 1]].kinds[self.number_at(position) - 1]].name
 
     def brief(self):
         """Each event's clock, process, thread and call, in the order of the positions."""
@@ -199,30 +205,24 @@ class Index:
         entry = part.entry(at + 1)
         return self.of_process[part.log.name][at] if is_send(entry) and entry.arguments[0] == receiver else None
 
-    def takers_in(self, part):
-        """By the tags of the datagrams that a process took, the position of the first event that took each, and those of the others."""
-        if part.log.name not in self.taken:
-            first, again, positions = {}, {}, self.of_process[part.log.name]
-            for at, tag in part.tags():
-                if tag not in first:
-                    first[tag] = positions[at]
-                else:
-                    again.setdefault(tag, []).append(positions[at])
-            self.taken[part.log.name] = first, again
-        return self.taken[part.log.name]
-
     def tags(self):
         """The sender and the clock in each tag that an event took, and the position of the event."""
         for part in self.parts:
-            first, again = self.takers_in(part)
-            for tag in first:
-                for position in (first[tag], *again.get(tag, ())):
-                    yield (tag & 2**PROCESS_BITS - 1, tag >> PROCESS_BITS), position
+            positions = self.of_process[part.log.name]
+            for at, tag in part.tags(0, len(part)):
+                yield (tag & 2**PROCESS_BITS - 1, tag >> PROCESS_BITS), positions[at]
 
     def taken_at(self, event):
         """The positions at which what an event sent was taken, in their order."""
-        receiver = event.entry.arguments[0] if is_send(event.entry) else None
-        part = next((part for part in self.parts if part.log.process == receiver), None)
-        first, again = self.takers_in(part) if part else ({}, {})
-        tag = event.entry.clock << PROCESS_BITS | event.log.process
-        return [first[tag], *again.get(tag, ())] if tag in first else []
+        takers = self.takers.get(event.entry.arguments[0]) if is_send(event.entry) else None
+        return takers.of(event.entry.clock << PROCESS_BITS | event.log.process, event.position) if takers else []
+
+    def under_way(self, position, most):
+        """The positions of the sends, among so many events up to here, that an event takes later or none does, the last one first."""
+        for at in range(position, max(0, position - most), -1):
+            part, number = self.parts[self.sources[at - 1]], self.number_at(at)
+            if part.kinds[number - 1] == KINDS["send"]:
+                takers = self.takers.get(part.receiver(number))
+                taken = takers.of(part.clocks[number - 1] << PROCESS_BITS | part.log.process, at) if takers else ()
+                if not taken or taken[-1] > position:
+                    yield at

@@ -9,7 +9,6 @@ import time
 
 from asking.conversation import Conversation, Paused
 from logs.index import Index
-from logs.traffic import is_send
 from sessions.frames import Frames
 from sessions.names import Names
 from sessions.places import Threads
@@ -129,11 +128,6 @@ class Engine(Reading):
 
     def event_at(self, position):
         return self.index.event(position) if 0 < position <= self.last else None
-
-    def send_at(self, position):
-        """The event that led to a position, if it is one that sent a datagram."""
-        event = self.index.event(position) if self.index.call_at(position) == "send" else None
-        return event if event and is_send(event.entry) else None
 
     def line_at(self, position):
         """The event that led to a position, as the debugger lists it."""
