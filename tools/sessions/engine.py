@@ -8,9 +8,10 @@ import re
 import time
 
 from asking.conversation import Conversation, Paused
+from logs.format import BadLog
 from logs.index import Index
 from sessions.frames import Frames
-from sessions.names import Names
+from sessions.names import Names, Refusal
 from sessions.places import Threads
 from sessions.points import Points, ignored
 from sessions.reading import Answer, Reading, Walked
@@ -111,7 +112,10 @@ class Engine(Reading):
 
     @functools.cached_property
     def index(self):
-        return Index(self.names.paths, self.verdict.accepted)
+        try:
+            return Index(self.names.paths, self.verdict.accepted)
+        except BadLog as error:
+            raise Refusal(str(error)) from None
 
     def warnings(self):
         """What is wrong with the logs, to be told before anything else."""
