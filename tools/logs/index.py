@@ -1,7 +1,8 @@
 """Where each event of a group is in its log: a long recording is gone through without its bytes, which are read where one is
 looked at.
 
-An index is of events that replay accepts, so that their clocks ascend in each process and each tag is of a process of the group.
+An index is of events that replay accepts, so that their clocks ascend in each process, their threads have one byte, and each tag is of a
+process of the group.
 """
 
 import array
@@ -36,12 +37,10 @@ class LogIndex:
     def __len__(self):
         return len(self.clocks)
 
-    def cursor(self, number):
-        """In front of the entry of the event of this number, from 1."""
-        return Cursor(self.data[self.starts[number - 1] : self.starts[number]], self.log.version)
-
     def entry(self, number):
-        return read_entry(self.cursor(number), self.clocks[number - 2] if number > 1 else 0)
+        """The entry of the event of this number, from 1."""
+        cursor = Cursor(self.data[self.starts[number - 1] : self.starts[number]], self.log.version)
+        return read_entry(cursor, self.clocks[number - 2] if number > 1 else 0)
 
     def receiver(self, number):
         """The process to which the event of this number sends, if its number has one byte, as all of the group have."""
