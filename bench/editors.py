@@ -5,7 +5,6 @@ things. The guest is built with wat2wasm of the package wabt.
 """
 
 import os
-import subprocess
 import sys
 import tempfile
 import time
@@ -13,15 +12,15 @@ import time
 from costs import TOP, parser_of
 from ring import build_ring, pairs, record_ring, rounds_of
 
-# Their client is that of the checks.
+# The client of an editor and the terminal are those of the checks.
 sys.path.append(os.path.join(TOP, "tools", "checks"))
 
-from editor import Editor  # noqa: E402 (it lies beside the checks)
+from check_typed import Terminal, command  # noqa: E402 (they lie beside the checks)
+from editor import Editor  # noqa: E402
 
 TICK = os.sysconf("SC_CLK_TCK")
 # Numbers that each event of a process changes, that change a few times in all, and that never change.
 OFTEN, SELDOM, NEVER = "@p3.events", "@p3.events / 5000", "@p3.u32[8192]"
-MARK = "4294967291"
 
 
 def seconds_of(process):
@@ -106,34 +105,17 @@ def paused(editor):
     return editor.event("stopped")
 
 
-class ByHand:
-    """A session by hand, over pipes."""
-
-    def __init__(self, program, folder):
-        words = [sys.executable, os.path.join(TOP, "tools", "session"), "--program", program, *pairs()]
-        self.tool = subprocess.Popen(words, cwd=folder, stdin=subprocess.PIPE, stdout=subprocess.PIPE, text=True)
-
-    def ask(self, line):
-        """The lines of an answer; the answer to a last line tells where they end."""
-        self.tool.stdin.write("%s\np %s\n" % (line, MARK))
-        self.tool.stdin.flush()
-        answers = []
-        for answer in self.tool.stdout:
-            if answer == MARK + "\n":
-                return answers
-            answers.append(answer)
-        raise EOFError("the session ended")
-
-
 def session_table(program, folder, events):
+    """A session by hand, in a terminal."""
     begun = time.perf_counter()
-    session = ByHand(program, folder)
-    clock = Clock(events, session.tool.pid)
-    clock.time("session: until its first answer", lambda: session.ask("p 1"), begun)
+    terminal = Terminal(command(program, pairs()), folder)
+    clock = Clock(events, terminal.run.pid)
+    clock.time("session: until its first prompt", terminal.wait, begun)
     for line in ("where", "t", "goto %d" % events, "where", "t", "w " + OFTEN, "rc", "c", "d 1", "w " + SELDOM, "rc", "c", "d 2", "w " + NEVER, "rc", "c"):
-        clock.time("session: " + line, lambda: session.ask(line))
-    session.tool.stdin.close()
-    assert session.tool.wait() == 0
+        clock.time("session: " + line, lambda: (terminal.type(line), terminal.wait()))
+    terminal.type("q")
+    status, text = terminal.end()
+    assert status == 0, text[-2000:]
 
 
 def main():

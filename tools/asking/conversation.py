@@ -53,11 +53,13 @@ class Conversation:
         while self.is_paused and not select.select([self.program.stdout], [], [], PAUSE)[0]:
             if self.is_paused():
                 raise Paused
-        while True:
-            answer = self.line()
-            if answer == mark:
-                return
-            yield answer
+        yield from iter(self.line, mark)
+
+    def ask_all(self, lines):
+        """The lines of each answer to a few lines, which are written at once."""
+        mark = str(random.getrandbits(62))
+        self.write([each for line in lines for each in (line, "print " + mark)])
+        return [list(iter(self.line, mark)) for _ in lines]
 
     def ask_each(self, lines):
         """The answers of lines that have one line for an answer."""

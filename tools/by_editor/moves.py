@@ -148,7 +148,7 @@ class Moves:
         return self.engine.names.nodes[(number - 1) // THREADS], (number - 1) % THREADS
 
     def positions_of(self, number):
-        return self.engine.index.of_thread.get(self.thread(number), ())
+        return self.engine.index.of_thread(*self.thread(number))
 
 
 def as_lines(data):

@@ -1,5 +1,8 @@
 """The variables pane: scopes, and what is under a variable. Values are read where a client opens them."""
 
+import itertools
+
+from logs.traffic import is_send
 from logs.wording import shown, source
 from sessions.casts import value_of
 from sessions.names import Refusal
@@ -72,30 +75,36 @@ class Tree:
 
     def on_its_way(self, form, start, count):
         """Datagrams of the group that were sent by now, and that a process takes later or never."""
-        here, made = self.engine.position, []
-        for position in range(here, max(0, here - MOST_LOOKED_AT), -1):
-            event = self.engine.send_at(position)
-            if event is None:
-                continue
-            takers = self.engine.index.taken_at(event)
-            later = [taker for taker in takers if taker > here]
-            if later or not takers:
-                told = "taken at %s" % ", ".join(map(str, later)) if later else "taken at no position"
-                made.append(plain(self.engine.line_at(position), "%s: %s" % (told, shown(event.entry.sent))))
-            if len(made) == MOST_ON_THEIR_WAY:
-                break
+        here, index = self.engine.position, self.engine.index
+        events = filter(lambda event: is_send(event.entry), map(index.event, index.under_way(here, MOST_LOOKED_AT)))
+        made = []
+        for event in itertools.islice(events, MOST_ON_THEIR_WAY):
+            later = ", ".join(str(taker) for taker in index.taken_at(event) if taker > here)
+            told = "taken at %s: %s" % (later or "no position", shown(event.entry.sent))
+            made.append(plain(self.engine.line_at(event.position), told))
         return made[::-1]
 
     def process(self, node):
         def open_(form, start, count):
-            own = [self.expression(name, "@%s.%s" % (node, name), form) for name in ("events", "clock", "size")]
-            variables = [variable.name for variable in self.engine.names.variables(node) if not variable.name.endswith(LAST_CALL)]
-            found = [self.variable(name.rpartition("::")[2], "%s.%s" % (node, name), node, form) for name in variables]
-            return [plain("state", self.engine.threads.standing(node)[0]), *own, *found]
+            own = {name: "@%s.%s" % (node, name) for name in ("events", "clock", "size")}
+            answers = self.engine.ask_each(["print " + text for text in own.values()])
+            numbers = [{**plain(name, of_answer(answer, form)), "evaluateName": own[name]} for name, answer in zip(own, answers)]
+            return [plain("state", self.engine.threads.standing(node)[0]), *numbers, *self.variables(node, form)]
 
         return open_
 
     # Values
+
+    def variables(self, node, form):
+        names = [variable.name for variable in self.engine.names.variables(node) if not variable.name.endswith(LAST_CALL)]
+        paths = {"%s.%s" % (node, name): name.rpartition("::")[2] for name in names}
+        self.fetch(node, paths)
+        return [self.variable(name, path, node, form) for path, name in paths.items()]
+
+    def fetch(self, node, paths):
+        """Reads at once what is spelled of some variables."""
+        ranges = (or_none(lambda: range_of(self.engine.value(path))) for path in paths)
+        self.engine.memory(node).fetch([found for found in ranges if found])
 
     def variable(self, name, path, node, form):
         try:
@@ -104,8 +113,7 @@ class Tree:
             return plain(name, "(%s)" % refusal)
 
     def shown(self, name, path, node, value, form):
-        is_short = value.count(MOST_SPELLED) <= MOST_SPELLED
-        made = {**plain(name, value.text(form) if is_short else value.type), "type": value.type, "evaluateName": path}
+        made = {**plain(name, value.text(form) if is_spelled(value) else value.type), "type": value.type, "evaluateName": path}
         address = address_of(value)
         if address is not None:
             made["memoryReference"] = "%s:%d" % (node, address)
@@ -165,6 +173,16 @@ def or_none(read):
         return read()
     except Refusal:
         return None
+
+
+def is_spelled(value):
+    return value.count(MOST_SPELLED) <= MOST_SPELLED
+
+
+def range_of(value):
+    """The address and the size of what is spelled of a variable; None if it is not in memory."""
+    address = address_of(value) if is_spelled(value) else None
+    return None if address is None else (address, value.size)
 
 
 def address_of(value):

@@ -2,6 +2,7 @@
 
 import re
 
+from by_hand.stopping import walk
 from sessions.names import Refusal
 from sessions.sources import lines_around
 
@@ -88,7 +89,7 @@ def finish(session, rest, form):
     place = session.engine.frames.left_at(node, thread, at)
     if place is None:
         raise Refusal("%s %d does not leave %s up to the end" % (node, thread, stack.frames[at].name))
-    session.walk(place)
+    walk(session, place)
 
 
 def reverse_finish(session, rest, form):

@@ -173,6 +173,6 @@ def show_where(session, rest, form):
 
 def show_position(session, rest, form):
     if session.engine.position == 0:
-        session.print("at 0, before the first of %d events" % session.engine.count)
+        session.print("at 0, before the first of %d events" % session.engine.last)
     else:
         session.send("events 1")

@@ -1,10 +1,10 @@
-"""Lines that move the session forward, and what becomes of a stop."""
+"""Lines that move the session forward."""
 
 import bisect
 import re
 
 from by_hand.framing import thread_of
-from by_hand.words import expanded
+from by_hand.stopping import walk
 from sessions.names import Refusal
 
 MOST_TIMES = 999_999
@@ -25,7 +25,7 @@ def next_of_thread(session, rest, form):
     first = bisect.bisect_right(positions, session.engine.position)
     if first == len(positions):
         raise Refusal("%s %d makes no event after this one: s goes on by one of the group" % thread_of(session))
-    session.walk(positions[min(first + times(rest), len(positions)) - 1])
+    walk(session, positions[min(first + times(rest), len(positions)) - 1])
 
 
 def next_back(session, rest, form):
@@ -36,7 +36,7 @@ def next_back(session, rest, form):
 
 
 def positions_of_thread(session):
-    return session.engine.index.of_thread.get(thread_of(session), ())
+    return session.engine.index.of_thread(*thread_of(session))
 
 
 def times(rest):
@@ -54,23 +54,4 @@ def go_on(session, rest, form):
             for line in answer.lines:
                 session.print_event(line)
             return
-    while goes_on(session, session.walk()):
-        pass
-
-
-def goes_on(session, answer):
-    """Does what the points that stopped a walk want done, and tells whether that is to go on."""
-    for point in session.engine.points.stopped_by(answer.lines):
-        if point.is_temporary:
-            session.engine.points.delete(point.number)
-        for line in point.commands:
-            word, _, rest = expanded(line)
-            if word == "continue" and not rest:
-                return True
-            if word == "silent":
-                continue
-            before = session.engine.position
-            session.handle_line(line)
-            if session.over or session.engine.position != before:
-                return False
-    return False
+    walk(session)

@@ -3,6 +3,7 @@
 import re
 
 from by_hand.reading import show_source
+from by_hand.stopping import walk_back
 from by_hand.words import condition_of
 from logs.format import CALLS
 from sessions.names import Refusal
@@ -152,7 +153,10 @@ def set_variable(session, rest, form):
 
 def go_back_to_point(session, rest, form):
     """Back to where a point fires that may stop there."""
-    session.send(("rcontinue " + rest).strip())
+    if rest:
+        session.send("rcontinue " + rest)
+    else:
+        walk_back(session)
 
 
 def go_to_start(session, rest, form):

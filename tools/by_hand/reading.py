@@ -79,7 +79,7 @@ def show_source(session, where):
     elif found:
         show_lines(session, *found)
     else:
-        raise Refusal("list wants FILE:LINE, a function, or `.`; `l` alone lists the points")
+        raise Refusal("%s is no FILE:LINE, and no function that NAME.places tells; `list .` is where the thread stands, `l` the points" % where)
 
 
 def first_line(names, name):

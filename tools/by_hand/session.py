@@ -57,7 +57,7 @@ class Session:
             self.print("> " + sent)
 
     def greeting(self):
-        return "%d events of %s; help lists the words" % (self.engine.count, ", ".join(self.names.nodes))
+        return "%d events of %s; help lists the words" % (self.engine.last, ", ".join(self.names.nodes))
 
     def prompt(self):
         return "(friday %d) " % self.engine.position
@@ -154,18 +154,22 @@ class Session:
             self.print(each)
 
     def send(self, line, typed=None):
-        """Sends a line, and prints the answer with the bytes of events; whether it was accepted."""
-        verb = line.split(" ", 1)[0]
-        if verb == "quit":
+        """Does a line of the debugger."""
+        if line.split(" ", 1)[0] == "quit":
             self.over = True
-            return True
+        else:
+            self.tell(line, typed)
+
+    def tell(self, line, typed=None):
+        """The answer to a line, which is printed with the bytes of events."""
+        verb = line.split(" ", 1)[0]
         answer = self.engine.ask(line, self.print_event if verb in TELLS_EVENTS else self.print)
         if answer.is_refused:
             self.refused += 1
             self.explain(answer, typed)
         elif verb in MOVES:
             self.print_place(answer)
-        return not answer.is_refused
+        return answer
 
     def print_event(self, line):
         """A line of an answer, and what its event printed, sent or took."""
@@ -223,7 +227,7 @@ class Session:
         elif answer.lines[0].startswith("? 2"):
             self.print("    the processes are %s" % ", ".join(self.names.nodes))
         elif answer.lines[0].startswith("? 7"):
-            self.print("    the logs have %d events" % self.engine.count)
+            self.print("    the logs have %d events" % self.engine.last)
 
     def explain_name(self, found):
         """What a name may be that the debugger does not know."""

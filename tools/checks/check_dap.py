@@ -213,7 +213,7 @@ void _start(void) {
     }
 }
 """
-LONG_EVENTS, WATCHES, SOON = 150_000, 60, 0.2
+LONG_EVENTS, WATCHES, SOON = 900_000, 60, 0.2
 
 
 def check_pauses(program, folder):
@@ -233,7 +233,7 @@ def check_pauses(program, folder):
     begun, spent, places = time.monotonic(), [], []
     for _ in range(3):
         editor.ask("continue", threadId=1)
-        time.sleep(0.3)
+        time.sleep(0.1)
         asked = time.monotonic()
         editor.ask("pause", threadId=1)
         stop = editor.event("stopped")
@@ -248,7 +248,7 @@ def check_pauses(program, folder):
     editor.ask("goto", targetId=1, threadId=1)
     editor.event("stopped")
     console = editor.send("evaluate", {"expression": "c 2", "context": "repl"})
-    time.sleep(0.3)
+    time.sleep(0.1)
     pause = editor.send("pause", {"threadId": 1})
     assert "paused\n" in editor.answer(console)["body"]["result"] and editor.answer(pause)["success"]
     assert 1 <= position_of(editor.event("stopped")) < LONG_EVENTS

@@ -8,9 +8,10 @@ import re
 import time
 
 from asking.conversation import Conversation, Paused
+from logs.format import BadLog
 from logs.index import Index
 from sessions.frames import Frames
-from sessions.names import Names
+from sessions.names import Names, Refusal
 from sessions.places import Threads
 from sessions.points import Points, ignored
 from sessions.reading import Answer, Reading, Walked
@@ -111,7 +112,10 @@ class Engine(Reading):
 
     @functools.cached_property
     def index(self):
-        return Index(self.names.paths, self.verdict.accepted)
+        try:
+            return Index(self.names.paths, self.verdict.accepted)
+        except BadLog as error:
+            raise Refusal(str(error)) from None
 
     def warnings(self):
         """What is wrong with the logs, to be told before anything else."""
@@ -122,21 +126,12 @@ class Engine(Reading):
         return len(self.index)
 
     @property
-    def count(self):
-        """How many events there are, which is known without going through the logs."""
-        return sum(self.verdict.accepted.values())
-
-    @property
     def event(self):
         """The event of the position, or None at 0."""
         return self.event_at(self.position)
 
     def event_at(self, position):
         return self.index.event(position) if 0 < position <= self.last else None
-
-    def send_at(self, position):
-        """The event that led to a position, if it is a send."""
-        return self.index.event(position) if self.index.call_at(position) == "send" else None
 
     def line_at(self, position):
         """The event that led to a position, as the debugger lists it."""

@@ -122,13 +122,15 @@ class Frames:
         return None
 
     def places(self, node, thread):
-        return self.engine.index.of_thread.get((node, thread), ())
+        return self.engine.index.of_thread(node, thread)
 
     def without(self, node, thread, stack, at, positions):
         """Those of some ascending positions at which the thread is not in a frame of this stack."""
         lines = [line for position in positions for line in ("goto %d" % position, "frames %s %d" % (node, thread))]
         answers = self.engine.ask_each([*lines, "goto %d" % self.engine.position])[1:-1:2]
-        return [position for position, answer in zip(positions, answers) if not self.read(node, answer).has(stack, at)]
+        # Most of them are alike.
+        has = {answer: self.read(node, answer).has(stack, at) for answer in set(answers)}
+        return [position for position, answer in zip(positions, answers) if not has[answer]]
 
 
 def in_parts(positions):

@@ -88,6 +88,12 @@ def advice(names, nodes, words):
 STANDS = re.compile(r"(\d+) (ended|at .*)")
 
 
+def standing_in(answer):
+    """How a process is and its threads are, by the answer of a line `threads`."""
+    first, *lines = answer
+    return first.partition(" ")[2], {int(stands[1]): stands[2] for stands in map(STANDS.fullmatch, lines) if stands}
+
+
 class Threads:
     """How threads stand at the position, and at which calls of their source.
 
@@ -100,11 +106,9 @@ class Threads:
     def standing(self, node):
         """How a process is, and the call at which each thread waits, or `ended`, by their numbers."""
         if self.at != self.engine.position:
-            self.at, self.standings = self.engine.position, {}
-        if node not in self.standings:
-            first, *lines = self.engine.debugger.ask("threads " + node)
-            found = map(STANDS.fullmatch, lines)
-            self.standings[node] = first.partition(" ")[2], {int(stands[1]): stands[2] for stands in found if stands}
+            nodes = self.engine.names.nodes
+            answers = self.engine.debugger.ask_all(["threads " + name for name in nodes])
+            self.at, self.standings = self.engine.position, dict(zip(nodes, map(standing_in, answers)))
         return self.standings[node]
 
     def how(self, node, thread):
@@ -126,7 +130,7 @@ class Threads:
 
     def last_event(self, node, thread):
         """The position of the thread's last event up to here, or 0."""
-        return self.engine.at_or_before(self.engine.index.of_thread.get((node, thread), ()))
+        return self.engine.at_or_before(self.engine.index.of_thread(node, thread))
 
     def call_of(self, node, thread):
         """The place at which a thread waits; None where its guest keeps none, before its first call, and once it has ended."""

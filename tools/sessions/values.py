@@ -3,6 +3,7 @@
 from __future__ import annotations
 
 import copy
+import itertools
 import re
 from dataclasses import dataclass, replace
 
@@ -34,6 +35,15 @@ class Memory:
         data = self.asked(start, size)
         self.ranges.append((start, data))
         return data
+
+    def fetch(self, ranges):
+        """Asks at once for ranges that are looked at next; one that goes over the end of the memory is left to that look."""
+        asked = [(start, self.lines(start, size)) for start, size in ranges]
+        answers = iter(self.engine.read([line for _, lines in asked for line in lines]))
+        for start, lines in asked:
+            found = list(itertools.islice(answers, len(lines)))
+            if "undef" not in found:
+                self.ranges.append((start, b"".join(map(bytes.fromhex, found))))
 
     def asked(self, start, size):
         answers = self.engine.read(self.lines(start, size))
