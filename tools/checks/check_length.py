@@ -27,7 +27,6 @@ MOST = {
     "docs/proved.md": 6500,
     "docs/performance.md": 500,
     "docs/architecture.md": 3500,
-    "docs/inside.md": 3000,
     "docs/DECISIONS.md": 3600,
     "docs/contributing.md": 2600,
     "tools/README.md": 3900,
