@@ -21,7 +21,7 @@ MOST = {
     "docs/guests.md": 2750,
     "docs/refusals.md": 1100,
     "docs/limits.md": 700,
-    "docs/formats.md": 6150,
+    "docs/formats.md": 5700,
     "docs/lines.md": 2900,
     "docs/theorem.md": 950,
     "docs/proved.md": 6500,
