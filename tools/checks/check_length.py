@@ -24,7 +24,7 @@ MOST = {
     "docs/formats.md": 5700,
     "docs/lines.md": 2900,
     "docs/theorem.md": 950,
-    "docs/proved.md": 6500,
+    "docs/proved.md": 5400,
     "docs/performance.md": 500,
     "docs/architecture.md": 3500,
     "docs/DECISIONS.md": 3600,
