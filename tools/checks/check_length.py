@@ -28,8 +28,8 @@ MOST = {
     "docs/performance.md": 500,
     "docs/architecture.md": 3500,
     "docs/DECISIONS.md": 3600,
-    "docs/contributing.md": 2600,
-    "tools/README.md": 3900,
+    "docs/contributing.md": 2400,
+    "tools/README.md": 3850,
 }
 
 
