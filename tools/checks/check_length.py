@@ -27,7 +27,7 @@ MOST = {
     "docs/proved.md": 5400,
     "docs/performance.md": 500,
     "docs/architecture.md": 3500,
-    "docs/DECISIONS.md": 3600,
+    "docs/DECISIONS.md": 3400,
     "docs/contributing.md": 2400,
     "tools/README.md": 3850,
 }
