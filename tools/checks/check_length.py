@@ -13,7 +13,7 @@ from tools_path import TOP
 # The words that a reader is asked for, in the order in which readers come to the pages.
 MOST = {
     "README.md": 500,
-    "docs/tutorial.md": 2100,
+    "docs/tutorial.md": 2000,
     "docs/recipes.md": 2450,
     "docs/debugger.md": 2850,
     "docs/gdb.md": 700,
