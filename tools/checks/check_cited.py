@@ -1,8 +1,8 @@
 #!/usr/bin/env python3
 """Holds what the pages for maintainers cite to the sources: a name with `specs/FILE` behind it is declared in that file of the crate that
 is named there, or of some crate if none is; every other name in code marks is one of the crates, files, definitions, functions,
-types, fields, clauses or variants that there are. A crate's page is the text at the top of its `src/lib.rt`, and a file that it cites is
-its own, if no crate is named.
+types, fields, clauses or variants that there are. Each row of what is proved names a contract and a definition. A crate's page is the
+text at the top of its `src/lib.rt`, and a file that it cites is its own, if no crate is named.
 
 check_cited.py [PAGE ..]   (the pages in docs/ about the inside and those of the crates, if none is given)
 """
@@ -15,7 +15,8 @@ from collections import defaultdict
 
 from tools_path import TOP
 
-PAGES = ("README.md", "docs/theorem.md", "docs/proved.md", "docs/architecture.md", "docs/contributing.md", "docs/DECISIONS.md")
+PROVED = "docs/proved.md"
+PAGES = ("README.md", "docs/theorem.md", PROVED, "docs/architecture.md", "docs/contributing.md", "docs/DECISIONS.md")
 CRATES = os.path.join(TOP, "crates")
 SPEC = re.compile(r"^ *(?:(?:abbrev|unfoldable|opaque|pub|record|data) )*([^\s:(){}|]+)(?=[^:\n]* :|(?: [^:\n]*)? where| [^:=\n]*=)", re.M)
 CODE = re.compile(r"\b(?:fn|struct|enum|trait|type|mod|const|static|ghost) (\w+)|^ *(?:ensures|requires)\*? (\w+) \{|^ *(?:pub(?:\([a-z]+\))? )?(\w+)(?=[:,({]| \{| =)|^'(\w+):", re.M)
@@ -102,13 +103,23 @@ def said_by_page(page, by_file, known):
                 yield line(found.start()), "`%s` is no name of the sources" % name
 
 
+def without_contract(page):
+    """The rows of promises that name no contract or no definition, by line."""
+    for number, line in enumerate(text_of(page).split("\n"), 1):
+        cells = line.strip("|").split(" | ")
+        is_row = line.startswith("| ") and len(cells) == 3 and cells[0].strip() != "promise"
+        if is_row and not all("`" in cell for cell in cells[1:]):
+            yield number, "no contract or no definition of: %s" % cells[0].strip()
+
+
 def main(words):
     by_file, known = sources()
     known |= outside()
     lost = [(page, *said) for page in words or pages() for said in said_by_page(page, by_file, known)]
+    lost += [(PROVED, *said) for said in without_contract(PROVED)]
     for said in lost:
         print("%s:%d: %s" % said)
-    print("cited: %s" % ("as expected" if not lost else "%d names are not there" % len(lost)))
+    print("cited: %s" % ("as expected" if not lost else "%d wrong" % len(lost)))
     return 1 if lost else 0
 
 
