@@ -1,9 +1,10 @@
 #!/usr/bin/env python3
-"""Looks up what stands on the pages of the examples without a command. Each such block is a part of one of these: what the debugger
-answers to the example's script, with its lines or those that have names of variables; the list of the events; a file beside the page.
-In a block `...` stands for any lines, and `..` at the end of a line for the rest of it.
+"""Holds the pages of the examples to one form: each begins with what is wrong, a command that records or replays it, and one that opens
+the debugger. And it looks up what stands there without a command. Each such block is a part of one of these: what the debugger answers
+to the example's script, with its lines or those that have names of variables; the list of the events; a file beside the page. In a
+block `...` stands for any lines, and `..` at the end of a line for the rest of it.
 
-check_excerpts.py [PROGRAM]     (the program that answers ./friday, if none is given)
+check_examples.py [PROGRAM]     (the program that answers ./friday, if none is given)
 """
 
 import argparse
@@ -18,7 +19,9 @@ from tools_path import TOP  # before the modules of the tools, which it lets be 
 from asking.program import program_of
 from check_pages import PROMPT, Folder, blocks_of, copy_of_clone, debugged, done
 
-SCRIPTS = ("debug", "debug.in")
+HEAD = re.compile(
+    r"# .*\n\n(?:\S.*\n)+\n    \$ cd examples/\w+\n    \$ \.\./\.\./friday (?:record|replay) .*\n(?:    .*\n)*?    \$ \.\./\.\./(?:tools/session|friday debug) "
+)
 
 
 def words_of(schedule):
@@ -86,6 +89,8 @@ def check(page, program):
         folder.here = os.path.join(top, os.path.dirname(page))
         schedule = next(name for name in ("failing", "schedule") if os.path.exists(os.path.join(folder.here, name)))
         texts = list(texts_of(folder, schedule))
+    with open(os.path.join(TOP, page), encoding="utf-8") as file:
+        assert HEAD.match(file.read()), "%s begins in another way" % page
     blocks = excerpts_on(page)
     for block in blocks:
         assert any(is_part(block, text) for text in texts), "%s:\n%s" % (page, block)
