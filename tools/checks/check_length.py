@@ -25,7 +25,7 @@ MOST = {
     "docs/lines.md": 2900,
     "docs/theorem.md": 900,
     "docs/proved.md": 5400,
-    "docs/performance.md": 500,
+    "docs/performance.md": 450,
     "docs/architecture.md": 3500,
     "docs/DECISIONS.md": 3400,
     "docs/contributing.md": 2400,
