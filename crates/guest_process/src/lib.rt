@@ -17,8 +17,8 @@
 //! datagram or the random bytes from its world (`world_answer`), and says itself what is written of them (`with_given`).
 //!
 //! The code first does what an answer does apart from the end of a thread (`acted_on_answer` of `specs/inside/Advancing`):
-//! it writes, takes or gives back a lock, sets a handler or makes a thread. Then it takes the thread out, which goes on. A
-//! thread that waits keeps the kind of its call, which a valid module found once for each import.
+//! it writes, takes or gives back a lock, sets a handler or makes a thread. Then it takes the thread out, which goes on. The
+//! kind of its call was found once, for the import of the valid module.
 #![tactic(auto)]
 
 mod advance;

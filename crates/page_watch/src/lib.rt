@@ -8,9 +8,7 @@
 //! `Watch::after_event` is promised to leave the watch standing for the state at the view's position, to answer exactly
 //! where the value changed, and to evaluate, which ticks the counter, exactly where a place that was read has the position's
 //! mark. Whoever moves the view by more than one position makes a new watch.
-//!
-//! `Watches` keeps the places of several expressions by node, so at an event it looks only at those of the event's node
-//! (`specs/inside/Places`).
+//! Inside is how the places of watches are kept (`specs/inside/Places`).
 #![tactic(auto)]
 
 mod places;

@@ -15,7 +15,8 @@
 //!
 //! What an expression reads is a list of places: watch pages, globals, clocks and sizes. `eval_reads` is not `eval` with a
 //! list added: an aggregate reads at every node, and `+` reads both its sides, also if one has no value, where `eval` stops.
-//! page_watch keeps value and places, and by the law `reads_tell` they stay if no place was touched.
+//! page_watch keeps value and places, and by the law `reads_tell` they stay if no place was touched. It keeps the places of
+//! several expressions by node, so at an event it looks only at those of the event's node.
 #![tactic(auto)]
 
 pub mod laws;
