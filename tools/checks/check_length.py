@@ -16,7 +16,7 @@ MOST = {
     "docs/tutorial.md": 2000,
     "docs/recipes.md": 2450,
     "docs/debugger.md": 2850,
-    "docs/gdb.md": 680,
+    "docs/gdb.md": 650,
     "docs/editor.md": 1200,
     "docs/guests.md": 2750,
     "docs/refusals.md": 1100,
