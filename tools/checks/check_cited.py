@@ -1,9 +1,10 @@
 #!/usr/bin/env python3
 """Holds what the pages for maintainers cite to the sources: a name with `specs/FILE` behind it is declared in that file of the crate that
 is named there, or of some crate if none is; every other name in code marks is one of the crates, files, definitions, functions,
-types, fields, clauses or variants that there are.
+types, fields, clauses or variants that there are. Each row of what is proved names a contract and a definition. A crate's page is the
+text at the top of its `src/lib.rt`, and a file that it cites is its own, if no crate is named.
 
-check_cited.py [PAGE ..]   (the pages in docs/ about the inside, if none is given)
+check_cited.py [PAGE ..]   (the pages in docs/ about the inside and those of the crates, if none is given)
 """
 
 import glob
@@ -14,12 +15,13 @@ from collections import defaultdict
 
 from tools_path import TOP
 
-PAGES = ("README.md", "docs/theorem.md", "docs/proved.md", "docs/architecture.md", "docs/inside.md", "docs/contributing.md", "docs/DECISIONS.md")
+PROVED = "docs/proved.md"
+PAGES = ("README.md", "docs/theorem.md", PROVED, "docs/architecture.md", "docs/contributing.md", "docs/DECISIONS.md")
 CRATES = os.path.join(TOP, "crates")
 SPEC = re.compile(r"^ *(?:(?:abbrev|unfoldable|opaque|pub|record|data) )*([^\s:(){}|]+)(?=[^:\n]* :|(?: [^:\n]*)? where| [^:=\n]*=)", re.M)
 CODE = re.compile(r"\b(?:fn|struct|enum|trait|type|mod|const|static|ghost) (\w+)|^ *(?:ensures|requires)\*? (\w+) \{|^ *(?:pub(?:\([a-z]+\))? )?(\w+)(?=[:,({]| \{| =)|^'(\w+):", re.M)
-# Names with `specs/FILE` behind them: NAMES in `specs/FILE` of CRATE, or in `specs/FILE` alone.
-CITED = re.compile(r"((?:`[^`\n]+`(?:,? and |, | of \w+, |\s)+)*`[^`\n]+`),? in\s+`specs/([\w/]+)`(?:(?:,? and |, )`(?:specs/)?[\w/]+`)*(?:\s+of\s+`?(\w+)`?)?")
+# Names with `specs/FILE` behind them: NAMES in `specs/FILE` of CRATE, or without one. A crate's page says `of` for `in`.
+CITED = re.compile(r"((?:`[^`\n]+`(?:,? and |, | of \w+, |\s)+)*`[^`\n]+`),?\s+(?:in|of)\s+`specs/([\w/]+)`(?:(?:,? and |, )`(?:specs/)?[\w/]+`)*(?:\s+of\s+`?(\w+)`?)?")
 # The form of many names, as `x_of`, `with_x` and `MOST_X`.
 FORM = re.compile(r"x_\w+|\w+_[xX]")
 NAME = re.compile(r"[A-Za-z][A-Za-z0-9]*(?:_[A-Za-z0-9]+)+|[A-Z][a-z0-9]+(?:[A-Z][a-z0-9]*)+")
@@ -33,6 +35,19 @@ OTHERS = set(
 def read(path):
     with open(path, encoding="utf-8") as file:
         return file.read()
+
+
+def text_of(page):
+    """The text of a page, in its lines. Of code that is what stands at the top about the whole file."""
+    text = read(os.path.join(TOP, page))
+    if not page.endswith(".rt"):
+        return text
+    return "\n".join(line[len("//! ") :] if line.startswith("//!") else "" for line in text.split("\n"))
+
+
+def pages():
+    crates = glob.glob(os.path.join(CRATES, "*", "src", "lib.rt"))
+    return [*PAGES, *(os.path.relpath(path, TOP) for path in sorted(crates))]
 
 
 def names_in(path):
@@ -72,11 +87,12 @@ def outside():
 
 def said_by_page(page, by_file, known):
     """What a page cites that is not there, by line."""
-    text = read(os.path.join(TOP, page))
+    text = text_of(page)
     line = lambda at: text.count("\n", 0, at) + 1
     crates = {crate for crate, _ in by_file}
+    own = page.split(os.sep)[1] if page.endswith(".rt") else None
     for found in CITED.finditer(text):
-        homes = [names for (crate, file), names in by_file.items() if file == found.group(2) and found.group(3) in (None, crate)]
+        homes = [names for (crate, file), names in by_file.items() if file == found.group(2) and (found.group(3) or own) in (None, crate)]
         homes = homes or [names for (_, file), names in by_file.items() if file == found.group(2)]
         for name in re.findall(r"`(\w+)`", found.group(1).rsplit("|", 1)[-1]):
             if name not in crates and not any(name in names for names in homes):
@@ -87,13 +103,23 @@ def said_by_page(page, by_file, known):
                 yield line(found.start()), "`%s` is no name of the sources" % name
 
 
+def without_contract(page):
+    """The rows of promises that name no contract or no definition, by line."""
+    for number, line in enumerate(text_of(page).split("\n"), 1):
+        cells = line.strip("|").split(" | ")
+        is_row = line.startswith("| ") and len(cells) == 3 and cells[0].strip() != "promise"
+        if is_row and not all("`" in cell for cell in cells[1:]):
+            yield number, "no contract or no definition of: %s" % cells[0].strip()
+
+
 def main(words):
     by_file, known = sources()
     known |= outside()
-    lost = [(page, *said) for page in words or PAGES for said in said_by_page(page, by_file, known)]
+    lost = [(page, *said) for page in words or pages() for said in said_by_page(page, by_file, known)]
+    lost += [(PROVED, *said) for said in without_contract(PROVED)]
     for said in lost:
         print("%s:%d: %s" % said)
-    print("cited: %s" % ("as expected" if not lost else "%d names are not there" % len(lost)))
+    print("cited: %s" % ("as expected" if not lost else "%d wrong" % len(lost)))
     return 1 if lost else 0
 
 

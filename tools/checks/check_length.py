@@ -13,24 +13,23 @@ from tools_path import TOP
 # The words that a reader is asked for, in the order in which readers come to the pages.
 MOST = {
     "README.md": 500,
-    "docs/tutorial.md": 2100,
+    "docs/tutorial.md": 2000,
     "docs/recipes.md": 2000,
     "docs/debugger.md": 2300,
-    "docs/gdb.md": 700,
+    "docs/gdb.md": 650,
     "docs/editor.md": 1200,
     "docs/guests.md": 2400,
     "docs/refusals.md": 1100,
     "docs/limits.md": 700,
-    "docs/formats.md": 6150,
+    "docs/formats.md": 5700,
     "docs/lines.md": 2300,
-    "docs/theorem.md": 950,
-    "docs/proved.md": 6500,
-    "docs/performance.md": 500,
+    "docs/theorem.md": 900,
+    "docs/proved.md": 5400,
+    "docs/performance.md": 450,
     "docs/architecture.md": 3500,
-    "docs/inside.md": 3000,
-    "docs/DECISIONS.md": 3600,
-    "docs/contributing.md": 2600,
-    "tools/README.md": 3900,
+    "docs/DECISIONS.md": 3400,
+    "docs/contributing.md": 2400,
+    "tools/README.md": 3850,
 }
 
 

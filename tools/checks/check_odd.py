@@ -20,7 +20,7 @@ import time
 
 from tools_path import TOOLS, TOP  # before the modules of the tools, which it lets be found
 from asking.program import program_of
-from check_typed import STORED_NAMES, prepare, read
+from check_typed import FILES, prepare, read
 from editor import Editor
 import sessions  # before the modules of the kit, which it lets be found
 from place_table import digest_of
@@ -74,7 +74,7 @@ def answered(program, folder, words, lines, name):
 
 
 def check_lines(program, chance):
-    for name in STORED_NAMES:
+    for name in FILES:
         words, typed, _ = read(name)
         corpus = [line.encode() for line in typed if line and is_harmless(line.encode())]
         lines = [line for line in (changed(chance.choice(corpus), chance) for _ in range(400)) if is_harmless(line)]

@@ -1,5 +1,6 @@
 #!/usr/bin/env python3
-"""Does what the pages for users show, in a copy of the tools, the guests' kit and the examples, and compares what is printed.
+"""Does what the pages for users and those of the examples show, in a copy of the tools, the guests' kit and the examples, and compares what
+is printed. The hunts of the examples are left to examples/check_hunted.py.
 
 check_pages.py [PROGRAM]     (the program that answers ./friday, if none is given)
 
@@ -9,6 +10,7 @@ lines of the debugger are its input. A block below "the file `NAME`" and a colon
 """
 
 import argparse
+import glob
 import os
 import re
 import shlex
@@ -21,7 +23,8 @@ from tools_path import TOP  # before the modules of the tools, which it lets be 
 from asking.program import program_of
 from check_typed import typed_here
 
-PAGES = ("tutorial", "recipes", "debugger")
+PAGES = ("docs/tutorial.md", "docs/recipes.md", "docs/debugger.md")
+HUNT = "../../tools/hunt "
 COPIED = ("tools", "guests", "examples", "launcher")
 PROMPT = re.compile(r"\((?:friday|play) \d+\) ?(.*)")
 FILE = re.compile(r"the file `(\S+)`[^\n]*:\n\Z", re.I)
@@ -42,7 +45,7 @@ def copy_of_clone(folder, program):
 
 def blocks_of(page):
     """The text before each indented block, and the block."""
-    with open(os.path.join(TOP, "docs", page + ".md"), encoding="utf-8") as file:
+    with open(os.path.join(TOP, page), encoding="utf-8") as file:
         text = file.read()
     for found in re.finditer(r"(?m)(?<=\n\n)((?:    .*\n|\n(?=    ))+)", text):
         yield text[: found.start()].rstrip("\n") + "\n", re.sub("(?m)^    ", "", found[1])
@@ -113,11 +116,13 @@ class Folder:
         self.kept = ""
 
 
-def do_block(block, folder):
+def do_block(block, folder, passed=None):
+    """Does the commands of a block, but for those that begin with what is to be passed over."""
     if re.match(r"\$ (?:cd|mkdir) (?!\.)", block):
         folder.here = folder.top
     count = 0
-    for count, (command, shown) in enumerate(commands_of(block), 1):
+    to_do = [both for both in commands_of(block) if not passed or not both[0].startswith(passed)]
+    for count, (command, shown) in enumerate(to_do, 1):
         if any(map(PROMPT.fullmatch, shown.splitlines())):
             found = typed(command, folder, shown)
         elif re.search(r"friday debug [^<|]*$", command):
@@ -140,7 +145,7 @@ def check(page, program):
                 with open(os.path.join(folder.here, named[1]), "w", encoding="utf-8") as file:
                     file.write(block)
             elif block.startswith("$ "):
-                count += do_block(block, folder)
+                count += do_block(block, folder, HUNT if page.startswith("examples") else None)
     return count
 
 
@@ -148,7 +153,8 @@ def main():
     parser = argparse.ArgumentParser(description=__doc__, formatter_class=argparse.RawDescriptionHelpFormatter, allow_abbrev=False)
     parser.add_argument("program", nargs="?", metavar="PROGRAM")
     program = os.path.abspath(program_of(parser.parse_args().program))
-    for page in PAGES:
+    of_examples = sorted(os.path.relpath(path, TOP) for path in glob.glob(os.path.join(TOP, "examples", "*", "README.md")))
+    for page in [*PAGES, *of_examples]:
         print("%s: %d commands, as shown" % (page, check(page, program)), flush=True)
 
 

@@ -1,6 +1,6 @@
 #!/usr/bin/env python3
 """Types sessions by hand into a terminal, as users of gdb do, and compares what then stands there with the folder `typed`: once in a
-terminal of this check's own, and once in tmux, if that is installed. So it does with the sessions on the pages of the examples.
+terminal of this check's own, and once in tmux, if that is installed. Sessions on pages are typed by check_pages.py.
 
 check_typed.py [PROGRAM]     (the program that answers ./friday, if none is given)
 check_typed.py --write       (types the lines that stand there again, and writes the folder anew, to be read line by line)
@@ -34,11 +34,6 @@ FILES = {
     "lost_update": (["bank/bank.wasm", "bank/bank.places", "bank/bank.c", *("lost_update/%s.log" % name for name in ("north", "south", "east"))], None),
     "enet": (["enet/faulty.wasm", "enet/faulty.places", "enet/enet.c"], "enet/failing"),
 }
-STORED_NAMES = tuple(FILES)
-# The processes of the hunts, whose pages have sessions over a recording that is made for them.
-HUNTS = {"bank": ("north", "south", "east"), "election": "abc", "register": ("r0", "r1", "r2", "writer", "reader")}
-FILES.update({hunt: (["%s/%s.%s" % (hunt, hunt, kind) for kind in ("wasm", "places")], hunt + "/failing") for hunt in HUNTS})
-PAGES = (*HUNTS, "lost_update", "enet")
 PROMPT = re.compile(r"\(friday ?\d*\) ?(.*)")
 AT_PROMPT = re.compile(r"(?:^|\n)\((?:friday|play) \d+\) \Z")
 # What changes with the tools' own texts.
@@ -196,30 +191,6 @@ def check(name, type_, program, write):
     return len(lines)
 
 
-def on_page(name):
-    """The sessions on an example's page, each from its first prompt on."""
-    with open(os.path.join(EXAMPLES, name, "README.md"), encoding="utf-8") as file:
-        blocks = re.findall(r"(?m)^(?:    .*\n)+", file.read())
-    return [re.sub("(?m)^    ", "", block) for block in blocks if block.startswith("    (friday 0) ")]
-
-
-def words_of(name):
-    if name in HUNTS:
-        return [word for process in HUNTS[name] for word in (name + ".wasm", process + ".log")]
-    return read(name)[0]
-
-
-def check_page(name, program):
-    for block in on_page(name):
-        lines = [found[1] for found in map(PROMPT.fullmatch, block.splitlines()) if found]
-        with tempfile.TemporaryDirectory() as folder:
-            prepare(name, program, folder)
-            text = typed_here(command(program, words_of(name)), folder, [*lines, "q"])
-        found = re.fullmatch(r"(?s).*? help lists the words\n(.*)\(friday \d+\) q\n", text)
-        same(name, found[1], block)
-    return len(on_page(name))
-
-
 def main():
     parser = argparse.ArgumentParser(description=__doc__, formatter_class=argparse.RawDescriptionHelpFormatter, allow_abbrev=False)
     parser.add_argument("program", nargs="?", metavar="PROGRAM")
@@ -231,11 +202,9 @@ def main():
         print("no tmux is installed, so nothing is typed there")
     elif not chosen.write:
         ways["tmux"] = typed_in_tmux
-    for name in STORED_NAMES:
+    for name in FILES:
         for way, type_ in ways.items():
             print("%s: %d lines in %s, as expected" % (name, check(name, type_, program, chosen.write), way), flush=True)
-    for name in PAGES:
-        print("%s: sessions on its page: %d, as expected" % (name, check_page(name, program)), flush=True)
 
 
 if __name__ == "__main__":

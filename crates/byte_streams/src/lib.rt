@@ -4,7 +4,10 @@
 //! of a group, one after the other, and keeps of each stream what was written to it and which of its bytes were taken.
 //! Contracts see what it keeps (`KeptTraffic` of `specs/Stands`), and say that this stands for the sends and receives so far
 //! (`StandsFor`), over the definitions of `specs/Traffic`: which of them count, what was written, and what was read.
-//! Inside is how the code keeps that, step by step (`specs/inside/Keeping`).
+//!
+//! It knows no logs. `StandsFor` says that what it keeps, the bytes written to each stream, which of them are covered, and
+//! the sends that count, represents the whole list of what it was told. Inside is how the code keeps that, step by step
+//! (`specs/inside/Keeping`).
 #![tactic(auto)]
 
 mod chunk;

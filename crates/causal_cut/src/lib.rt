@@ -4,7 +4,10 @@
 //! names within it too, as far as the logs are given. `least_cut` gives the least closed family that holds an event
 //! (`least_past` of `specs/Past`, which speaks of all closed families): its code walks the group once, and goes back once over
 //! the tags that were taken. The law `fronts_replay` says that logs cut in this way are whole and have the states of before.
-//! Inside are the notes of which event asks for which (`specs/inside/Asks`).
+//!
+//! `least_cut` notes for each tag that was taken which event it asks for, and goes back over these notes from the event. The
+//! definition does not follow that way: it is the least of all closed families that hold the event. Inside are the notes
+//! (`specs/inside/Asks`).
 #![tactic(auto)]
 
 mod asks;

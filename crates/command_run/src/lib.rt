@@ -6,6 +6,19 @@
 //! Contracts see a command's outcome (`specs/Outcome`: its work, or the stop at which it ends) as far as the folder tells
 //! its files, and say of a call's end what `CallEnds` says. `specs/OutcomeLaws`, `ApartLaws`, `FileLaws`, `LineLaws` and `CountLaws` are what
 //! follows from these definitions by computing, for the proofs of the commands.
+//!
+//! A command's outcome is one definition of its crate (`record_outcome`, `replay_outcome`, `debug_outcome`), over the files
+//! and the input: the work (`CommandWork`: the text, the files that it writes, whether a log diverged) or the stop
+//! (`CommandStop`: the words are no command, a file is refused, a file is absent). A refusal says what was printed and
+//! written before it. The promises that all commands share are written once, over the outcome that is expected
+//! (`Expectation`): status, text, files, faults and their causes. What a command promises of its own is a record in its
+//! crate; one with none has `LeavesInput`, which says that the input is not read. A command that prints once, at its end,
+//! answers with its text or its refusal (`PerformedCommand`), which `finish` prints. `debug` and `play` print as they go and
+//! read an input.
+//!
+//! record_command asks `ModuleFiles` for the module of each process, and log_pairs for that of each pair. It reads a file of
+//! a new name, and hands out a further owner (`SharedModule`) of the module that it kept for an equal name. The definitions speak of a folder, in which equal names have equal modules, and know nothing of that. Its
+//! clause `once` says that no file is read again.
 #![tactic(auto)]
 
 mod apart;

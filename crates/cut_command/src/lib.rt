@@ -4,7 +4,10 @@
 //! log a file with that part, in version 2. Contracts see the outcome over the files (`cut_outcome` of `specs/Cut`): the text and
 //! the new files, or the stop. What was made is cut to the least past, and each file replays as its log does (`CutsToPast` of
 //! `specs/Laws`); the law `cuts_work` says which files have work, and `process_of` and `event_number_of` (`specs/Words`) read the words that
-//! name an event. Inside are the meanings of the code's own values (`specs/inside/Meanings`).
+//! name an event.
+//!
+//! It puts the inputs before causal_cut, finds the node of the process and the file that goes with a refusal, and writes the
+//! prefixes. Inside are the meanings of the code's own values (`specs/inside/Meanings`).
 #![tactic(auto)]
 
 mod cutting;

@@ -7,7 +7,13 @@
 //! `specs/Faulty` what may be wrong with one, and `specs/Running` what one does to the variables and what it says. Each call
 //! gives exactly that, or wants memory. The law `exact_programs` says that tokens spell at most one program, which
 //! `specs/Reading` computes, and at which token they stop being the front of any.
-//! Inside is how statements and variables are held in memory (`specs/inside/TreeLaws`, `specs/inside/Kept`).
+//!
+//! A program is read by recursive descent (`parser`, `token`), statement by statement; an expression in it is as many tokens
+//! as begin one, which `parse` of expression_text reads. `specs/Reading` is the same descent as a function that computes,
+//! `program_of`. What a program does is a function of the nodes, the variables and what was said before (`after_statements`
+//! of `specs/Running`). `Vars` is a `Scope` of watch_expr. The crate uses none but those of its row in crates.txt and
+//! `indexmap` of the kit. Inside is how statements and variables are held in memory (`specs/inside/TreeLaws`,
+//! `specs/inside/Kept`).
 #![tactic(auto)]
 
 mod faults;

@@ -1,8 +1,8 @@
 //! The expressions of the debugger as text: the tokens of a line, the expression that they spell, and what may be wrong with it.
 //!
-//! `lex` cuts a line into tokens (`specs/Lexing`), `parse` reads an expression from them (`specs/Grammar`, over the words and
-//! signs of `specs/Spelling`), and `find_faults` says what may be wrong with it (`specs/Faulty`). Clauses speak of an `Expr` as a
-//! tree (`expression_of` of `specs/Expression`), and `specs/Coding` has a code for trees. The laws say that the tokens of a line
+//! `lex` cuts a line into tokens, the longest at each place (`specs/Lexing`), `parse` reads an expression from them
+//! (`specs/Grammar`, over the words and signs of `specs/Spelling`), and `find_faults` says what may be wrong with it
+//! (`specs/Faulty`). Clauses speak of an `Expr` as a tree (`expression_of` of `specs/Expression`), and `specs/Coding` has a code for trees. The laws say that the tokens of a line
 //! and the expression of tokens are the only ones and are computed (`exact_cut`, `exact_reading`; `specs/Computed`), and what no
 //! expression has in it (`none_apart`). `specs/Front` computes the token at a place. Expressions are read by a machine with a
 //! stack, which `specs/Machine` computes, so that brackets in brackets take no stack of the program's. Inside is what the

@@ -6,6 +6,16 @@
 //! `CommandRun` (`specs/Run`), over the outcome of the command (`specs/Expected`), with what the command promises of its own
 //! (`specs/Promises`). A further command is a crate beside those nine, and a case in the definitions here. The law `recorded_streams` says what `streams` makes of
 //! a recording's logs. Inside is which command the words of the code stand for (`specs/inside/Meanings`).
+//!
+//! `expected` gives of each command the outcome, as far as files and input are told, the files that it may write, and
+//! whether it may tell that a log diverged. `CommandRun` is what all commands share (`CallEnds` of command_run) with the
+//! record of this one (`Promises`), and is the one clause of `friday` apart from `complete`.
+//!
+//! The commands use command_run; log_files, if they read logs; log_pairs, if they replay them; and conversation, if they
+//! read their input line by line. They do not use each other, except that schedule_command cites definitions of
+//! record_command, since what it prints is for `record`, and that play_command reads its schedule and modules by it, and
+//! speaks of its outcome. No proof or edit of another command is tried again for a further one, unless that has a reason of
+//! its own to refuse a file: the reasons are those of command_run.
 #![tactic(auto)]
 
 mod command;

@@ -1,4 +1,4 @@
-"""Points of the debugger: where watchpoints and break points fire, what is said there, and where `continue` comes to."""
+"""Points of the debugger: where watchpoints and breakpoints fire, what is said there, and where `continue` comes to."""
 
 import logs
 from debugger import CALLS, STANDS, caller, every_event, shown_event
@@ -97,7 +97,7 @@ def numbered(points):
 
 
 def first(script):
-    files(script, "a watchpoint over two processes, and break points on a call")
+    files(script, "a watchpoint over two processes, and breakpoints on a call")
     rows = (
         ("watch sum(@_.u32[64])", "point 1"),
         ("continue", "watch 1: 0 -> 1", "at 1: 1 ping 0 begin"),
@@ -251,7 +251,7 @@ def many(script):
 
 
 def each_call(script):
-    alone(script, "a break point on each call", caller(), logs.held(every_event(), count=2))
+    alone(script, "a breakpoint on each call", caller(), logs.held(every_event(), count=2))
     made = [written for written, _ in CALLS]
     of = [written.rpartition(": ")[2].split()[0] for written in made]
     kinds = list(logs.KINDS)

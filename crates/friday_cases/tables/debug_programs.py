@@ -36,7 +36,7 @@ COUNTED = (
 
 
 def walks(script):
-    files(script, "a program at a break point, and one that counts how often a watchpoint fires")
+    files(script, "a program at a breakpoint, and one that counts how often a watchpoint fires")
     for rows in (WALKS, COUNTED):
         session(script, PAIRS, rows)
         session(script, PAIRS, rows, 1)
@@ -125,7 +125,7 @@ STOPS = (
     ("continue", "two", "three", "four", PLACES[11]),
 )
 
-# A watchpoint and a break point fire at 4: what was said before they did, and in which order.
+# A watchpoint and a breakpoint fire at 4: what was said before they did, and in which order.
 MIXED = (
     ("watch sum(@_.u32[64])", "point 1"),
     ("break pong recv", "point 2"),

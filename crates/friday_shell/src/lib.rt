@@ -6,6 +6,10 @@
 //! the session after it and whether it ends that `answer` of `specs/Answer` gives, and `refused_stays` that a line which
 //! is refused changes nothing. The law `same_group_same_session` says what a session sees of its replays: names, events in
 //! order and states (`specs/SameGroup`).
+//!
+//! A command moves the group or shows it (`answer`, `shown`), or changes the points (`points`) or the variables
+//! (`variables`), so a refused line leaves the session as it was. The answer to a list of lines is a fold of `answer`
+//! (`specs/Talker` of conversation). Nothing is walked ahead: a session begins when the heads of the logs are read.
 #![tactic(auto)]
 
 mod answer;

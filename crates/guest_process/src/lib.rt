@@ -7,6 +7,18 @@
 //! (`live` of `specs/Live`). The laws `one_event` and `possible` say that these events are the legal ones and that `next` makes
 //! their states. The other laws say what holds of each state (`states_fit`) and what each event changes, as that the clock rises
 //! (`rises`) and that a lock has one holder (`lock_kept`).
+//!
+//! The definitions of an event share what a kind of call needs (`need`: the reply and the state with its effects, no answer
+//! now, or the world) and what follows an answer (`thread_goes_on` of `specs/GoesOn`: the reply's value, a signal's handler,
+//! the burst). `live`, `reason`, which says why an entry can't be the next event, and `next` are built on these and do not
+//! mention each other. So it is a theorem that each event of `live` is legal and that `next` makes its state (`one_event`),
+//! and that each legal entry is an event of `live` in some world (`possible`). A reply's value is read from the call table,
+//! and what an answer writes is `memory_after_answer` of lib_calls for all kinds. `live` does not use that: it takes the
+//! datagram or the random bytes from its world (`world_answer`), and says itself what is written of them (`with_given`).
+//!
+//! The code first does what an answer does apart from the end of a thread (`acted_on_answer` of `specs/inside/Advancing`):
+//! it writes, takes or gives back a lock, sets a handler or makes a thread. Then it takes the thread out, which goes on. The
+//! kind of its call was found once, for the import of the valid module.
 #![tactic(auto)]
 
 mod advance;

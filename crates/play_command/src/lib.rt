@@ -7,6 +7,10 @@
 //! run goes is defined here. `PlayRun` of `specs/Run` is the promise of the whole call, and the law `played_is_recorded` says that
 //! a schedule of the items so far is recorded to the run that was played. Inside is how a group goes on under what is told of it
 //! (`specs/inside/Playing`).
+//!
+//! Under it is `LiveGroup`, above it conversation. Each answer is a function of the run of the items, before and after the
+//! line. What a line is, is said in play_lines, by `item_of_line` of schedule_text or by the tokens of the debugger, and
+//! that crate knows no group.
 #![tactic(auto)]
 
 mod going;

@@ -5,6 +5,12 @@
 //! in which a node is a number, or none where no process has the name. `specs/Grammar` says which tokens are which
 //! command, and the law `exact_commands` ties it to `command_spelled`, which computes. What a command does is said
 //! in friday_shell.
+//!
+//! The tests on a line come in their order in `line_meaning`. `exact_commands` rests on the laws of expression_text and
+//! embed_cmds, which say what an expression and a program are. The code cuts and reads a line in `line`, `verbs` and `read`.
+//!
+//! The debugger's lines are four crates, each of which can be proved by itself: this one and group_texts know nothing of each
+//! other, shell_points uses group_texts, and friday_shell all three.
 #![tactic(auto)]
 
 mod command;

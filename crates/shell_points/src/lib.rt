@@ -7,7 +7,15 @@
 //! that of `return_from` of `specs/Returning`. Both evaluate a watchpoint where they begin, and then where an event touched
 //! something that it reads (`watched_expressions` of `specs/Watching`, `ticks` of group_state). The law `exact_firing` says at which
 //! positions points fire. How many points there may be, and what a line answers that changes them, is said in friday_shell.
-//! Inside is what points read at one position (`specs/inside/Reading`).
+//!
+//! `treat_points` of `specs/Walking` says what the points do at one position, and `walk_from` how `continue` goes from one
+//! to the next. The walk (`walk`) makes a watch of each watchpoint where it begins, and asks all of them together at each
+//! further position (`watching`); it holds the values of two positions, and a session keeps none. If no watch evaluated and
+//! no breakpoint is held nothing can fire, and nothing else is done there. One function does what the points do at a
+//! position (`points_run`), and runs programs by embed_cmds. A walk back (`back`) goes forward once too, from position 0,
+//! since the values before a position are known there only; it keeps what was said last, and then goes there. `specs/Laws`
+//! says in plain relations where points fire and both walks end. Inside is what points read at one position
+//! (`specs/inside/Reading`).
 #![tactic(auto)]
 
 mod back;

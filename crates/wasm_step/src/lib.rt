@@ -6,8 +6,21 @@
 //! instruction after the other by `specs/Reduce`, or wants memory. `answer` gives the result of its call, and `push_handler`
 //! puts a handler's frame on top. The law `never_stuck` says that a burst of a valid module always ends in one of these ways,
 //! and what it does to the marks of the store.
-//! Inside, a thread is a `Stack` of `wasm_stack`, which does what needs no module and no store, and most instructions are done
-//! in place, without a call that could want memory. `specs/inside/Paused` is inside too.
+//!
+//! Inside, a thread is a `Stack` of wasm_stack, which does what needs no module and no store. A strand holds it behind a
+//! box, as a process of guest_process holds its body: at an event pointers are moved, and not the stacks. A burst takes an
+//! instruction off and does it in place if the thread is within its limits and a vector has room (`try_in_place`, one flat
+//! match that becomes one table of jumps, as are loads, stores and numbers). A burst of a thread that fits never sticks
+//! (`RunsByRules` of `specs/inside/Rules`), so what the rule of an instruction needs is not tested. If it cannot be done in place
+//! nothing was done, and the full case follows (`step`), which may want memory and tests the limits.
+//!
+//! What is left to do in the innermost level is a variable of the burst, since most instructions take one off and do nothing
+//! else with it (`proofs/BurstTodo`). It is put back into the stack before a branch, a return, a call and a full case, and
+//! read again after it. A level that opens takes it along.
+//!
+//! A call of an own function is made in place too (`call_in_place`, and through the table `call_indirect_in_place`), in a
+//! function apart, so that the burst keeps its registers: all its tests come first, and the frame wants no memory. What its
+//! locals start as is copied from the module, which keeps it (`Declared` of wasm_types).
 #![tactic(auto)]
 
 mod calls;

@@ -8,6 +8,15 @@
 //! do not matter to an expression that names none. What a line spells is
 //! `expression_text`, whose calls, laws and definitions are handed on from here. Inside is the tally of an aggregate
 //! (`specs/inside/ValueTally`).
+//!
+//! `View` and `Scope` are traits, so a group and the commands of a watchpoint hand in their own. Crates whose clauses or
+//! proofs speak of the declared types of expression_text, as of an `Expr` or the cases of `ExprError`, have to stand on that
+//! crate too.
+//!
+//! What an expression reads is a list of places: watch pages, globals, clocks and sizes. `eval_reads` is not `eval` with a
+//! list added: an aggregate reads at every node, and `+` reads both its sides, also if one has no value, where `eval` stops.
+//! page_watch keeps value and places, and by the law `reads_tell` they stay if no place was touched. It keeps the places of
+//! several expressions by node, so at an event it looks only at those of the event's node.
 #![tactic(auto)]
 
 pub mod laws;
