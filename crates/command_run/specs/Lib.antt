@@ -14,4 +14,7 @@ pub mod LineLaws
 pub mod Run
 pub mod Valid
 pub mod Laws
+pub mod Logs
+pub mod LogValid
+pub mod LogLaws
 pub mod inside

@@ -19,12 +19,14 @@
 //! record_command asks `ModuleFiles` for the module of each process, and log_pairs for that of each pair. It reads a file of
 //! a new name, and hands out a further owner (`SharedModule`) of the module that it kept for an equal name. The definitions speak of a folder, in which equal names have equal modules, and know nothing of that. Its
 //! clause `once` says that no file is read again.
+//! `take_log` and `begin_log` find the log that a file holds (`specs/Logs`, `specs/LogValid`).
 #![tactic(auto)]
 
 mod apart;
 mod inputs;
 mod kept;
 pub mod laws;
+mod logs;
 mod printing;
 mod refusal;
 mod status;
@@ -32,6 +34,7 @@ mod status;
 pub use apart::keep_apart;
 pub use inputs::{begin_process, take_file, take_module};
 pub use kept::ModuleFiles;
+pub use logs::{begin_log, take_log};
 pub use printing::{finish, give_up, refuse_words, say_refused};
 pub use refusal::{Reason, StopCause, WorkText};
 pub use status::Status;

@@ -9,8 +9,8 @@ ghost use Rattle.cut_command.specs.inside.Meanings.{front_file, front_line, fron
 use call_log::LogView;
 use causal_cut::Cut;
 use fri_text::Text;
-use process_files::process_file;
 use proc_replay::Replayer;
+use process_files::process_file;
 use std::alloc::{AllocError, Global};
 
 /// A log, how many of its first events are kept, and how many are accepted.

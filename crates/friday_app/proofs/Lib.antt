@@ -2,3 +2,5 @@ pub mod WorkIsDone
 pub mod CommandRuns
 pub mod WordTests
 pub mod RecordedStreams
+pub mod LeftByRecording
+pub mod SecondCall

@@ -4,4 +4,5 @@ pub mod Promises
 pub mod Run
 pub mod Valid
 pub mod Streams
+pub mod TwoCalls
 pub mod inside

@@ -16,11 +16,15 @@
 //! record_command, since what it prints is for `record`, and that play_command reads its schedule and modules by it, and
 //! speaks of its outcome. No proof or edit of another command is tried again for a further one, unless that has a reason of
 //! its own to refuse a file: the reasons are those of command_run.
+//! `record_and_show` makes two calls, of which the second shows what the first recorded: what it says (`ShowsRecorded` of
+//! `specs/TwoCalls`) is the main theorem seen from outside, and follows from what `friday` promises.
 #![tactic(auto)]
 
 mod command;
 pub mod laws;
 mod top;
+mod two_calls;
 
 pub use command_run::Status;
 pub use top::friday;
+pub use two_calls::record_and_show;

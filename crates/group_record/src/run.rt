@@ -10,8 +10,8 @@ use crate::images::write_images;
 use crate::summary::{Summary, summary_of};
 use fri_outside::Files;
 use schedule_text::Schedule;
-use shared_module::SharedModule;
 use std::alloc::Global;
+use wasm_types::SharedModule;
 
 /// Records the group of a schedule, whose processes are of these modules, one for each. All processes
 /// begin; then the logs are made and their heads written, each in order of the processes; then each

@@ -15,7 +15,7 @@ use Rattle.group_order.specs.Order.{NodeEvent}
 use Rattle.proc_replay.specs.Replaying.{Replaying}
 use Rattle.group_state.specs.Moves.{last_event_of}
 use Rattle.group_state.specs.Place.{GroupPlace, events_of_replays, node_names}
-use Rattle.end_text.specs.Ends.{end_text}
+use Rattle.guest_process.specs.Ends.{end_text}
 
 -- ---- calls
 

@@ -5,10 +5,9 @@ ghost use Rattle.guest_process.specs.State.{is_running, thread_at};
 ghost use Rattle.group_state.specs.Moves.{event_of};
 ghost use Rattle.group_texts.specs.Texts.{arguments_text, call_text, event_line, event_text, named_event_text, node_name, position_line, process_lines, reply_text, signal_text, signed_text, stamp_text, standing_text, thread_lines, threads_text};
 
-use end_text::push_end;
 use fri_text::Text;
 use group_state::{Group, GroupEvent};
-use guest_process::{End, Process};
+use guest_process::{End, Process, push_end};
 use lib_calls::{Call, EntryView, Signature};
 use std::alloc::{AllocError, Global};
 

@@ -1,6 +1,7 @@
 pub mod Answers
 pub mod Coding
 pub mod Crews
+pub mod Ends
 pub mod EventCount
 pub mod Fits
 pub mod GoesOn

@@ -19,6 +19,7 @@
 //! The code first does what an answer does apart from the end of a thread (`acted_on_answer` of `specs/inside/Advancing`):
 //! it writes, takes or gives back a lock, sets a handler or makes a thread. Then it takes the thread out, which goes on. The
 //! kind of its call was found once, for the import of the valid module.
+//! `push_end` writes how a process ended, in words (`specs/Ends`): `record`, `replay` and the debugger all print them.
 #![tactic(auto)]
 
 mod advance;
@@ -27,6 +28,7 @@ mod body;
 mod calls;
 mod divergence;
 mod end;
+mod ends;
 mod frames;
 mod handlers;
 mod judge;
@@ -42,6 +44,7 @@ mod world;
 pub use answer::is_due;
 pub use divergence::Divergence;
 pub use end::End;
+pub use ends::push_end;
 pub use judge::ends_process;
 pub use need::Need;
 pub use process::Process;

@@ -19,7 +19,7 @@ use Rattle.command_run.specs.declared.refusal.Reason.TheVariants as reason
 use Rattle.command_run.specs.Inputs.{module_in, state_or_bad_segment}
 use Rattle.command_run.specs.Laws.{ReadsModules}
 use Rattle.command_run.specs.Outcome.{CommandStop, and_then}
-use Rattle.log_files.specs.Logs.{log_in, log_or_bad_head}
+use Rattle.command_run.specs.Logs.{log_in, log_or_bad_head}
 use Rattle.log_pairs.specs.Pairs.{Loaded, Pair, clash_of_logs, has_name, has_process, is_other_group, loaded_pair, loaded_pairs, replay_of_log, replays_of, unless_clash}
 use Rattle.log_pairs.specs.Valid.{GoTogether}
 

@@ -6,12 +6,11 @@
 #![tactic(auto)]
 
 use fri_outside::{MemFiles, MemSink, MemSource, MemTerminal};
-use friday_app::Status;
+use friday_app::{Status, record_and_show};
 use std::alloc::{AllocError, Global};
 use std::fs;
 use std::io::{self, Write};
 use std::rt::Files;
-use two_calls::record_and_show;
 
 fn split_words(alloc: Global, words: &str) -> Result<Vec<String>, AllocError> {
     let mut list = Vec::new(alloc);

@@ -13,7 +13,7 @@ use Rattle.command_run.specs.Laws.{ReadsModules}
 use Rattle.command_run.specs.Outcome.{CommandStop, and_then}
 use Rattle.command_run.specs.Valid.{ProcessBegins}
 use Rattle.log_pairs.specs.Laws.{OpensGroups}
-use Rattle.log_files.specs.Laws.{FindsLogs}
+use Rattle.command_run.specs.LogLaws.{FindsLogs}
 use Rattle.log_pairs.specs.Pairs.{Loaded, Pair, loaded_pairs, replay_of_log, replays_of, replays_of_pairs, sort_replays}
 use Rattle.log_pairs.specs.Valid.{ArePairs, GoTogether, IsGroup, IsPairOfFiles, heads_in}
 use Rattle.log_pairs.proofs.LoadedPairs.{pair_stands, read_as}

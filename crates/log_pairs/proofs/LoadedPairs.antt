@@ -11,7 +11,7 @@ use Rattle.log_pairs.specs.declared.pairs.Loaded.{Loaded as LoadedFiles}
 use Rattle.command_run.specs.declared.refusal.StopCause.{StopCause}
 use Rattle.command_run.specs.Call.{StopsAsCause}
 use Rattle.log_pairs.specs.Pairs.{Pair}
-use Rattle.log_files.specs.Logs.{log_in, log_or_bad_head}
+use Rattle.command_run.specs.Logs.{log_in, log_or_bad_head}
 use Rattle.command_run.specs.Inputs.{module_in}
 use Rattle.command_run.specs.Outcome.{CommandStop, and_then, file_of}
 use Rattle.log_pairs.specs.Pairs.{Loaded, clash_of_logs, loaded_pair, loaded_pairs, unless_clash}

@@ -9,7 +9,7 @@ use Rattle.proc_replay.specs.Replaying.{Replaying}
 use Rattle.command_run.specs.declared.refusal.Reason.{Reason}
 use Rattle.command_run.specs.declared.refusal.Reason.TheVariants as reason
 use Rattle.command_run.specs.Inputs.{first_state_of, module_in}
-use Rattle.log_files.specs.Logs.{log_in}
+use Rattle.command_run.specs.Logs.{log_in}
 use Rattle.command_run.specs.declared.refusal.StopCause.{StopCause}
 use Rattle.command_run.specs.Call.{StopsAsCause}
 use Rattle.command_run.specs.Outcome.{CommandStop, and_then, refuses_at_once}

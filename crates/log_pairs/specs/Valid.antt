@@ -3,7 +3,7 @@ use Rattle.std.specs.Prelude.{◌≡◌, ◌≢◌, ℕ, AllPairs, List, [], ◌
 use Rattle.fri_outside.specs.Outside.{Folder}
 use Rattle.call_log.specs.Head.{Head}
 use Rattle.command_run.specs.Valid.{IsModuleFile, ProcessBegins}
-use Rattle.log_files.specs.Valid.{IsLogFile}
+use Rattle.command_run.specs.LogValid.{IsLogFile}
 use Rattle.log_pairs.specs.Pairs.{Pair}
 
 -- a module and a log of a process that begins

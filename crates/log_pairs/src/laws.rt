@@ -6,5 +6,5 @@ pub fn opens_groups()
     ensures { OpensGroups }
 {
     command_run::laws::reads_modules();
-    log_files::laws::finds_logs();
+    command_run::laws::finds_logs();
 }

@@ -12,13 +12,12 @@ ghost use Rattle.log_pairs.specs.Meanings.{AreLoadedPairs, AreOneGroup, IsLoaded
 ghost use Rattle.log_pairs.specs.inside.Loading.{LoadsPair};
 
 use call_log::{LogHead, LogView};
-use command_run::{ModuleFiles, Reason, StopCause, begin_process};
+use command_run::{ModuleFiles, Reason, StopCause, begin_log, begin_process, take_log};
 use fri_bytes::Bytes;
 use fri_outside::Files;
-use log_files::{begin_log, take_log};
 use proc_replay::Replayer;
-use shared_module::SharedModule;
 use std::alloc::{AllocError, Global};
+use wasm_types::SharedModule;
 
 /// The names of the files of a module and of a log of its process.
 #[derive(Clone, Copy)]

@@ -12,12 +12,12 @@ use friday_shell::Session;
 use group_state::Group;
 use log_pairs::{Loaded, Pair};
 use page_watch::Watches;
-use shared_module::SharedModule;
 use std::alloc::{AllocError, Global};
 use std::marker::Brand;
 use std::process::Abort;
 use std::sync::ledger::{Blank, Ledger};
 use std::test::Fail;
+use wasm_types::SharedModule;
 use watch_expr::{Agg, Expr, NodeName, Steps, Width};
 
 // It counts up at 64, sends the number to process 1, and takes an answer, again and again.

@@ -5,7 +5,7 @@ use Rattle.call_log.specs.Head.{Head}
 use Rattle.call_log.specs.Limits.{most_log}
 use Rattle.call_log.specs.Log.{Unread, head_at}
 use Rattle.command_run.specs.Outcome.{CommandStop, and_then, file_of}
-use Rattle.log_files.specs.Logs.{log_or_bad_head}
+use Rattle.command_run.specs.Logs.{log_or_bad_head}
 use Rattle.migrate_command.specs.Migrate.{migrate_outcome, work_unless_grown}
 
 pub at_log : (log_name new_name : List ℕ) (folder : Folder) (bytes : List ℕ) (log : Head × Unread) → file_of folder log_name most_log ≡ Ok bytes → log_or_bad_head log_name (head_at bytes) ≡ Ok log

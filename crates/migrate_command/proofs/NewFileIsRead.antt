@@ -16,8 +16,8 @@ use Rattle.command_run.specs.declared.refusal.Reason.TheVariants as reason
 use Rattle.command_run.specs.Laws.{ReadsModules}
 use Rattle.command_run.specs.Outcome.{CommandStop, CommandWork, and_then, file_of, refuses_at_once}
 use Rattle.command_run.specs.OutcomeLaws.{result_follows, same_Ok_value}
-use Rattle.log_files.specs.Laws.{FindsLogs}
-use Rattle.log_files.specs.Logs.{log_in, log_or_bad_head}
+use Rattle.command_run.specs.LogLaws.{FindsLogs}
+use Rattle.command_run.specs.Logs.{log_in, log_or_bad_head}
 use Rattle.migrate_command.specs.Laws.{KeepsLog, MigrationsKeep, MigrationsWork, newer_head}
 use Rattle.migrate_command.specs.Migrate.{migrate_work, new_log, work_unless_grown}
 

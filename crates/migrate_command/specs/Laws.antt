@@ -6,7 +6,7 @@ use Rattle.call_log.specs.declared.version.Version.TheVariants.{Two}
 use Rattle.call_log.specs.Head.{Head}
 use Rattle.call_log.specs.Log.{Unread, entries_of, head_at, rest_of_log}
 use Rattle.command_run.specs.Outcome.{CommandWork}
-use Rattle.log_files.specs.Logs.{log_in}
+use Rattle.command_run.specs.Logs.{log_in}
 use Rattle.migrate_command.specs.Migrate.{migrate_outcome}
 use Rattle.migrate_command.specs.Valid.{IsMigration}
 

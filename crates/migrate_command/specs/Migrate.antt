@@ -6,7 +6,7 @@ use Rattle.call_log.specs.Limits.{most_log}
 use Rattle.call_log.specs.Log.{Unread, entries_of, rest_of_log, rewritten_log}
 use Rattle.command_run.specs.declared.refusal.Reason.TheVariants as reason
 use Rattle.command_run.specs.Outcome.{CommandOutcome, CommandWork, and_then, refuses_at_once}
-use Rattle.log_files.specs.Logs.{log_in}
+use Rattle.command_run.specs.Logs.{log_in}
 
 -- the process's name, how many entries there are, and how many bytes are left after them
 abbrev pub migrate_text : List ℕ → ℕ → ℕ → List ℕ

@@ -3,7 +3,7 @@ use Rattle.std.specs.Prelude.{ℕ, ◌≤◌, List, length}
 use Rattle.fri_outside.specs.Outside.{Folder}
 use Rattle.call_log.specs.Limits.{most_log}
 use Rattle.call_log.specs.Log.{unread_after_head}
-use Rattle.log_files.specs.Valid.{IsLogFile}
+use Rattle.command_run.specs.LogValid.{IsLogFile}
 use Rattle.migrate_command.specs.Migrate.{new_log}
 
 -- a file is a log, and its newer form is within the limit

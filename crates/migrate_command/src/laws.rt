@@ -16,5 +16,5 @@ pub fn migrations_keep()
 pub fn migrations_work()
     ensures { MigrationsWork }
 {
-    log_files::laws::finds_logs();
+    command_run::laws::finds_logs();
 }

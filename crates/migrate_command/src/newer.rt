@@ -7,10 +7,9 @@ ghost use Rattle.migrate_command.specs.Migrate.{migrate_outcome, migrate_text, w
 ghost use Rattle.migrate_command.specs.inside.Meanings.{work_of_migration};
 
 use call_log::{LogView, MOST_LOG, rewrite};
-use command_run::{Reason, StopCause};
+use command_run::{Reason, StopCause, begin_log, take_log};
 use fri_outside::Files;
 use fri_text::Text;
-use log_files::{begin_log, take_log};
 use std::alloc::{AllocError, Global};
 
 /// A migration that was made ready: the bytes of the new log, and the text that tells what was migrated.

@@ -6,7 +6,7 @@ ghost use Rattle.play_command.specs.inside.Playing.{IsPlaying};
 use fri_bytes::Bytes;
 use group_record::LiveGroup;
 use schedule_text::Schedule;
-use shared_module::SharedModule;
+use wasm_types::SharedModule;
 
 /// A group that goes on by the items so far, how often these try, and whether a log is full.
 #[derive(Drop)]

@@ -24,8 +24,8 @@ use group_record::{LiveGroup, RecordError};
 use play_lines::{PlayLine, PlayRefusal, PlayerCommand, read_play_line, refused_play};
 use record_command::push_items_line;
 use schedule_text::{Item, MOST_RUNS, Schedule};
-use shared_module::SharedModule;
 use std::alloc::{AllocError, Global};
+use wasm_types::SharedModule;
 
 impl<'m> Playing<'m> {
     /// The play of a schedule, whose processes are of these modules, once its items are done, and the line with which it

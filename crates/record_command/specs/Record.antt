@@ -8,7 +8,7 @@ use Rattle.group_record.specs.Images.{images_of}
 use Rattle.group_record.specs.Logs.{logs_of_steps}
 use Rattle.group_record.specs.Run.{GroupStart, RunProgress}
 use Rattle.command_run.specs.declared.refusal.Reason.TheVariants as reason
-use Rattle.end_text.specs.Ends.{end_text}
+use Rattle.guest_process.specs.Ends.{end_text}
 use Rattle.command_run.specs.Outcome.{CommandOutcome, Refuses, CommandWork}
 
 -- how a process stands, and `killed` where it was killed

@@ -13,8 +13,8 @@ use command_run::{ModuleFiles, Reason, StopCause, take_file};
 use fri_outside::Files;
 use group_record::RecordError;
 use schedule_text::{MOST_SCHEDULE, ProcessLine, Schedule, ScheduleError, read_schedule};
-use shared_module::SharedModule;
 use std::alloc::Global;
+use wasm_types::SharedModule;
 
 // The module of a process.
 fn take_module_of<F: Files>(

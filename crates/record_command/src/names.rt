@@ -44,11 +44,7 @@ fn push_images(
     push_names(alloc, lines, ".out", names)
 }
 
-fn made_names(
-    alloc: Global,
-    images: bool,
-    schedule: &Schedule,
-) -> Result<Vec<String>, AllocError>
+fn made_names(alloc: Global, images: bool, schedule: &Schedule) -> Result<Vec<String>, AllocError>
     ensures { IfOk result (λ names. map string_bytes names.items ≡ made_names images schedule.now) }
 {
     let lines = schedule.processes();

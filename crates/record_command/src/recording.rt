@@ -16,8 +16,8 @@ use command_run::{StopCause, WorkText};
 use fri_outside::Files;
 use group_record::run_record;
 use schedule_text::Schedule;
-use shared_module::SharedModule;
 use std::alloc::Global;
+use wasm_types::SharedModule;
 
 // Records a group, and prints what came of it.
 fn record_group<F: Files>(

@@ -2,9 +2,9 @@
 ghost use Rattle.std.specs.Prelude.{◌≡◌, ◌++◌, IfOk, OnOk};
 ghost use Rattle.record_command.specs.Record.{process_line, items_line, state_text, summary_text};
 
-use end_text::push_end;
 use fri_text::Text;
 use group_record::{Summary, SummaryLine};
+use guest_process::push_end;
 use std::alloc::{AllocError, Global};
 
 /// The line of a process. After want of memory a part of it may be at the end of the text.

@@ -14,7 +14,7 @@ use Rattle.group_state.specs.Image.{memory_of_image, print_of_image}
 use Rattle.group_state.specs.Place.{group_count}
 use Rattle.group_state.specs.Report.{all_accepted_events, report_line}
 use Rattle.group_state.specs.Tally.{tally_of_events}
-use Rattle.end_text.specs.Ends.{end_text}
+use Rattle.guest_process.specs.Ends.{end_text}
 use Rattle.command_run.specs.Apart.{apart_work}
 use Rattle.command_run.specs.Outcome.{CommandOutcome, CommandWork, and_then}
 use Rattle.log_pairs.specs.Pairs.{Pair, names_of_pairs, replays_of_pairs}

@@ -14,10 +14,7 @@ use proc_replay::Replayer;
 use process_files::process_file;
 use std::alloc::{AllocError, Global};
 
-fn image_names(
-    alloc: Global,
-    replayers: &[Replayer<'_, '_>],
-) -> Result<Vec<String>, AllocError>
+fn image_names(alloc: Global, replayers: &[Replayer<'_, '_>]) -> Result<Vec<String>, AllocError>
     requires { All (λ r. IsHead r.head) replayers.now }
     ensures { IfOk result (λ names. map string_bytes names.items ≡ map (λ file. file.0) (images_in replayers.now)) }
 {

@@ -5,10 +5,9 @@ ghost use Rattle.replay_command.specs.Report.{count_text, divergence_text, some_
 ghost use Rattle.replay_command.specs.inside.Ending.{PrintsAtEnd};
 
 use command_run::WorkText;
-use end_text::push_end;
 use fri_text::Text;
 use group_state::{Report, ReportLine};
-use guest_process::{Divergence, Verdict};
+use guest_process::{Divergence, Verdict, push_end};
 use std::alloc::{AllocError, Global};
 
 // The number and the name of a divergence.

@@ -13,7 +13,7 @@ use Rattle.command_run.specs.declared.refusal.Reason.{Reason}
 use Rattle.command_run.specs.declared.refusal.Reason.TheVariants as reason
 use Rattle.command_run.specs.Inputs.{first_state_of, module_in, state_or_bad_segment}
 use Rattle.command_run.specs.OutcomeLaws.{result_follows, same_Ok_value}
-use Rattle.log_files.specs.Logs.{log_in}
+use Rattle.command_run.specs.Logs.{log_in}
 use Rattle.log_pairs.specs.Pairs.{Loaded, Pair, clash_of_logs, has_name, has_process, is_other_group, loaded_pair, loaded_pairs, replay_of_log, replays_of, unless_clash}
 
 -- ---- one pair

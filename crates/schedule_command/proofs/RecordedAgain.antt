@@ -28,7 +28,7 @@ use Rattle.schedule_back.specs.Meanings.{BringBytes}
 use Rattle.command_run.specs.Inputs.{module_in}
 use Rattle.command_run.specs.Laws.{ReadsModules}
 use Rattle.record_command.specs.Agreement.{group_in, steps_in}
-use Rattle.log_files.specs.Logs.{log_in}
+use Rattle.command_run.specs.Logs.{log_in}
 use Rattle.log_pairs.specs.Pairs.{Loaded, Pair, loaded_pairs, replays_of, sort_replays}
 use Rattle.schedule_command.specs.Laws.{IsRecordedAgain, IsRecording, RecordsToLogs}
 use Rattle.schedule_command.specs.Schedule.{is_complete, line_of_replay, lines_of_replays}

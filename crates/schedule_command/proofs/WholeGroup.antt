@@ -25,7 +25,7 @@ use Rattle.schedule_back.specs.Laws.{IsWholeGroup}
 use Rattle.command_run.specs.Laws.{ReadsModules}
 use Rattle.command_run.specs.Outcome.{bytes_or_stop, file_of}
 use Rattle.command_run.specs.OutcomeLaws.{result_follows, same_Ok_value}
-use Rattle.log_files.specs.Logs.{log_in, log_or_bad_head}
+use Rattle.command_run.specs.Logs.{log_in, log_or_bad_head}
 use Rattle.log_pairs.specs.Pairs.{Loaded, Pair}
 use Rattle.log_pairs.specs.Finding.{module_file}
 use Rattle.schedule_command.specs.Schedule.{is_complete, line_of_replay, lines_of_replays}

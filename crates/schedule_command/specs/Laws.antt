@@ -7,7 +7,7 @@ use Rattle.call_log.specs.Head.{Head}
 use Rattle.call_log.specs.Log.{Unread, entries_of, head_at, rest_of_log}
 use Rattle.group_record.specs.Logs.{log_name, logs_of_steps}
 use Rattle.command_run.specs.Outcome.{CommandWork}
-use Rattle.log_files.specs.Logs.{log_in}
+use Rattle.command_run.specs.Logs.{log_in}
 use Rattle.log_pairs.specs.Pairs.{Pair}
 use Rattle.record_command.specs.Agreement.{IsRecordable, group_in, run_in, steps_in}
 use Rattle.record_command.specs.Expected.{KeepsSchedule, record_outcome}

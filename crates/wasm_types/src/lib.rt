@@ -8,6 +8,7 @@
 //! functions (`specs/Functions`), a function as calls take it (`Callee`), and what it exports as its start (`specs/Start`). The
 //! law `types_agree` says that typing and running see the same types. A `Slot` is a value as it is copied, in two words.
 //! `importable` finds a call of the library by its name (`specs/Library`).
+//! A `SharedModule` is one of several owners of a valid module, which is kept once.
 #![tactic(auto)]
 
 mod accesses;
@@ -19,6 +20,7 @@ pub mod laws;
 mod library;
 mod modules;
 mod operators;
+mod shared;
 mod slot;
 mod start;
 mod traps;
@@ -35,6 +37,7 @@ pub use modules::{
     Segment,
 };
 pub use operators::{Operator, operator_of};
+pub use shared::SharedModule;
 pub use slot::Slot;
 pub use start::{exported_start, has_plain_type, import_count};
 pub use traps::Trap;

@@ -3,8 +3,8 @@ use Rattle.call_log.specs.Head.{head_bytes}
 use Rattle.call_log.specs.Limits.{most_log}
 use Rattle.call_log.specs.Log.{unread_after_head, head_at}
 use Rattle.command_run.specs.Outcome.{CommandStop, and_then}
-use Rattle.log_files.specs.Logs.{log_or_bad_head}
-use Rattle.log_files.proofs.laws.finds_logs.Goals as goal
+use Rattle.command_run.specs.Logs.{log_or_bad_head}
+use Rattle.command_run.proofs.laws.finds_logs.Goals as goal
 
 pub returns : goal.returns
 returns c = λ folder name h.

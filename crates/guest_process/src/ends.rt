@@ -1,9 +1,9 @@
 // How the end of a process is shown.
 ghost use Rattle.std.specs.Prelude.{◌≡◌, ◌++◌, IfOk, OnErr, OnOk};
-ghost use Rattle.end_text.specs.Ends.{end_text, trap_text};
+ghost use Rattle.guest_process.specs.Ends.{end_text, trap_text};
 
+use crate::end::End;
 use fri_text::Text;
-use guest_process::End;
 use std::alloc::{AllocError, Global};
 use wasm_types::Trap;
 

@@ -2,8 +2,8 @@
 use Rattle.std.specs.Prelude.{◌≡◌, ℕ, List, Ok}
 use Rattle.fri_outside.specs.Outside.{Folder}
 use Rattle.call_log.specs.Log.{unread_after_head}
-use Rattle.log_files.specs.Logs.{log_in}
-use Rattle.log_files.specs.Valid.{IsLogFile}
+use Rattle.command_run.specs.Logs.{log_in}
+use Rattle.command_run.specs.LogValid.{IsLogFile}
 
 -- a file that is a log is read as that log
 abbrev pub FindsLogs : Type 0

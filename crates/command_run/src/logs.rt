@@ -6,10 +6,11 @@ ghost use Rattle.call_log.specs.Limits.{most_log};
 ghost use Rattle.call_log.specs.Log.{head_at};
 ghost use Rattle.command_run.specs.Call.{CountsFaults, RaisesCount, TellsResult, reads_after, writes_after};
 ghost use Rattle.command_run.specs.Outcome.{file_of};
-ghost use Rattle.log_files.specs.Logs.{log_or_bad_head};
+ghost use Rattle.command_run.specs.Logs.{log_or_bad_head};
 
+use crate::inputs::take_file;
+use crate::refusal::{Reason, StopCause};
 use call_log::{LogView, MOST_LOG};
-use command_run::{Reason, StopCause, take_file};
 use fri_outside::Files;
 use std::alloc::Global;
 

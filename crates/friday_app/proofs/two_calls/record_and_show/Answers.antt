@@ -1,5 +1,5 @@
-use Rattle.two_calls.proofs.SecondCall.{shows_recorded}
-use Rattle.two_calls.proofs.calls.record_and_show.Goals as goal
+use Rattle.friday_app.proofs.SecondCall.{shows_recorded}
+use Rattle.friday_app.proofs.two_calls.record_and_show.Goals as goal
 
 pub returns-in-Done-clause-shown : goal.returns-in-Done-clause-shown
 returns-in-Done-clause-shown g c =

@@ -1,10 +1,10 @@
 // A module with several owners.
 ghost use Rattle.std.specs.Prelude.{◌≡◌, IfOk};
 
+use crate::valid::ValidModule;
 use std::alloc::{AllocError, Global};
 use std::marker::Model;
 use std::rc::Rc;
-use wasm_types::ValidModule;
 
 /// An owner of a valid module, which is kept once however many owners it has. Contracts see it as its module.
 #[derive(Drop)]

@@ -25,11 +25,11 @@ use Rattle.debug_command.specs.Debug.{debug_outcome, session_outcome}
 use Rattle.friday_app.specs.Command.{Command, Debug, Record, Replay}
 use Rattle.friday_app.specs.Expected.{expected}
 use Rattle.friday_app.specs.Run.{CommandRun}
-use Rattle.two_calls.specs.Calls.{CameTo, ShowsRecorded, ShowsThese, pairs_of_processes, printed_by}
+use Rattle.friday_app.specs.TwoCalls.{CameTo, ShowsRecorded, ShowsThese, pairs_of_processes, printed_by}
 use Rattle.headline.specs.Headline.{AreHeld, AreProcesses, ShowsSteps, logs_in, run_to, sorted_of}
 use Rattle.headline.specs.Shown.{no_cut, recorded_report}
-use Rattle.two_calls.proofs.ImagesApart.{images_apart}
-use Rattle.two_calls.proofs.LeftByRecording.{IsDone, is_done, module_not_written, schedule_formed}
+use Rattle.friday_app.proofs.ImagesApart.{images_apart}
+use Rattle.friday_app.proofs.LeftByRecording.{IsDone, is_done, module_not_written, schedule_formed}
 
 -- ---- the recording
 

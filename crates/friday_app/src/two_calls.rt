@@ -2,10 +2,11 @@
 ghost use Rattle.std.specs.Prelude.{◌≢◌, IfErr, IfOk, map, string_bytes};
 ghost use Rattle.command_run.specs.Run.{outside};
 ghost use Rattle.friday_app.specs.Command.{command_of};
-ghost use Rattle.two_calls.specs.Calls.{ShowsRecorded};
+ghost use Rattle.friday_app.specs.TwoCalls.{ShowsRecorded};
 
+use crate::top::friday;
+use command_run::Status;
 use fri_outside::{Files, Terminal};
-use friday_app::{Status, friday};
 use std::alloc::Global;
 
 /// Makes a call with the first words, and where its work is done one with the second. Gives the second status, or that of

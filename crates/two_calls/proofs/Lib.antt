@@ -1,3 +1,0 @@
-pub mod LeftByRecording
-pub mod ImagesApart
-pub mod SecondCall
