@@ -11,7 +11,7 @@ use Rattle.group_state.specs.Moves.{GroupMoves, event_of}
 use Rattle.group_state.specs.Place.{GroupPlace, events_of_replays}
 use Rattle.page_watch.specs.Firing.{is_same_value}
 use Rattle.shell_points.specs.Firing.{watchpoint_fires, place_at, value_at_position}
-use Rattle.watch_expr.specs.Expression.{Expression}
+use Rattle.expression_text.specs.Expression.{Expression}
 use Rattle.drill_command.specs.Drill.{drill_watch}
 use Rattle.drill_command.specs.inside.Results.{IsWatchedDrill}
 

@@ -1,6 +1,6 @@
 // The walk over all positions, with a watchpoint.
 ghost use Rattle.std.specs.Prelude.{◌≡◌, IfOk};
-ghost use Rattle.watch_expr.specs.Expression.{expression_of};
+ghost use Rattle.expression_text.specs.Expression.{expression_of};
 ghost use Rattle.drill_command.specs.Drill.{drill_watch};
 ghost use Rattle.drill_command.specs.inside.Results.{IsWatchedDrill};
 

@@ -1,7 +1,7 @@
 -- A choice runs one of its parts, and sets what both set.
 use Rattle.std.proofs.Common.{◌≡◌, List, Bool, true, false, cond, ap, sym, ◌∙◌}
 use Rattle.std.specs.Global.{Vec}
-use Rattle.watch_expr.specs.Expression.{expression_of}
+use Rattle.expression_text.specs.Expression.{expression_of}
 use Rattle.expression_text.specs.declared.expr.Expr.{Expr}
 use Rattle.embed_cmds.proofs.MentionOrder.{mention_all_append}
 use Rattle.embed_cmds.specs.Faulty.{set_by_statement, set_names}

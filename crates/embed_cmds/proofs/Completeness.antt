@@ -1,10 +1,10 @@
 -- What the grammar spells is read so, as far as it goes.
 use Rattle.std.proofs.Common.{◌≡◌, ℕ, zero, suc, ◌≤◌, true, List, [], ◌∷◌, ◌++◌, length, Option, Ok, codes, refl, ap, ◌∙◌, append_assoc, arith}
 use Rattle.std.proofs.lemmas.List.{length-append}
-use Rattle.watch_expr.specs.Grammar.{IsExpr}
-use Rattle.watch_expr.specs.Laws.{ExactReading, NoneApart, is_apart_token}
-use Rattle.watch_expr.specs.Spelling.{is_word}
-use Rattle.watch_expr.specs.Expression.{Expression}
+use Rattle.expression_text.specs.Grammar.{IsExpr}
+use Rattle.expression_text.specs.Laws.{ExactReading, NoneApart, is_apart_token}
+use Rattle.expression_text.specs.Spelling.{is_word}
+use Rattle.expression_text.specs.Expression.{Expression}
 use Rattle.embed_cmds.specs.declared.keyword.Keyword.{Keyword}
 use Rattle.embed_cmds.specs.declared.keyword.Keyword.TheVariants as keyword
 use Rattle.embed_cmds.specs.Grammar.{AreSayItems, IsStatement, IsProgram, last, more, set, say, stop, if_alone, if_else}

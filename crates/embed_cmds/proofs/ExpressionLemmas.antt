@@ -3,11 +3,11 @@ use Rattle.std.proofs.Common.{◌≡◌, ℕ, zero, suc, ◌+◌, ◌<◌, ◌�
 use Rattle.std.specs.List.{list_all}
 use Rattle.std.proofs.lemmas.Bool.{and_parts, both_ways, not-true}
 use Rattle.std.proofs.lemmas.List.{length-append, length_push, length-take-le, take-append-drop, take_at, drop_at}
-use Rattle.watch_expr.specs.Computed.{expression_spelled, begins_some_expression, viable_tokens}
-use Rattle.watch_expr.specs.Grammar.{IsExpr, BeginsExpr, TakesExpr, higher, number}
-use Rattle.watch_expr.specs.Laws.{ExactReading, NoneApart, is_apart_token}
-use Rattle.watch_expr.specs.Spelling.{number_of}
-use Rattle.watch_expr.specs.Expression.{Expression, Number}
+use Rattle.expression_text.specs.Computed.{expression_spelled, begins_some_expression, viable_tokens}
+use Rattle.expression_text.specs.Grammar.{IsExpr, BeginsExpr, TakesExpr, higher, number}
+use Rattle.expression_text.specs.Laws.{ExactReading, NoneApart, is_apart_token}
+use Rattle.expression_text.specs.Spelling.{number_of}
+use Rattle.expression_text.specs.Expression.{Expression, Number}
 use Rattle.embed_cmds.specs.Reading.{LeftTokens, expression_or, expression_in, expression}
 use Rattle.embed_cmds.proofs.TokenSplits.{SameHead, empty_too, headed_too, outcome, Spelled, Split, SpellsSome}
 

@@ -3,10 +3,10 @@ use Rattle.std.proofs.Common.{◌≡◌, ℕ, zero, suc, Bool, true, false, cond
 use Rattle.std.specs.List.{list_all}
 use Rattle.std.proofs.lemmas.Bool.{and_parts, cases_Bool, not-true, or_parts}
 use Rattle.expression_text.specs.declared.expr.NodeName.TheVariants as node
-use Rattle.watch_expr.specs.Grammar.{IsExpr, clock, higher}
-use Rattle.watch_expr.specs.Laws.{ExactReading, NoneApart, is_apart_token}
-use Rattle.watch_expr.specs.Computed.{begins_some_expression, expression_spelled, viable_tokens}
-use Rattle.watch_expr.specs.Expression.{Clock, Expression}
+use Rattle.expression_text.specs.Grammar.{IsExpr, clock, higher}
+use Rattle.expression_text.specs.Laws.{ExactReading, NoneApart, is_apart_token}
+use Rattle.expression_text.specs.Computed.{begins_some_expression, expression_spelled, viable_tokens}
+use Rattle.expression_text.specs.Expression.{Clock, Expression}
 use Rattle.embed_cmds.specs.Grammar.{IsSayItem, words, value, event_node}
 use Rattle.embed_cmds.specs.Reading.{LeftTokens, ReadOfTokens, then_reads, before_quote, begins_with_dot, string_of, expression, item, names_event_node, node_or_value}
 use Rattle.embed_cmds.specs.Tree.{SaidItem, Words, Value, NodeOfEvent}

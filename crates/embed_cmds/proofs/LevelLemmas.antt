@@ -1,8 +1,8 @@
 -- How deep braces may nest does not matter to what is read, where the bound is no less than how many tokens there are.
 use Rattle.std.proofs.Common.{◌≡◌, ℕ, zero, suc, ◌<◌, ◌≤◌, List, [], ◌∷◌, length, Option, Some, None, Ok, bytes_eq, codes, if◌then◌else◌, inl, inr, refl, ap, ◌∙◌, arith}
 use Rattle.std.proofs.lemmas.Bool.{cases_Bool}
-use Rattle.watch_expr.specs.Laws.{ExactReading}
-use Rattle.watch_expr.specs.Expression.{Expression}
+use Rattle.expression_text.specs.Laws.{ExactReading}
+use Rattle.expression_text.specs.Expression.{Expression}
 use Rattle.embed_cmds.specs.declared.keyword.Keyword.{Keyword}
 use Rattle.embed_cmds.specs.declared.keyword.Keyword.TheVariants as keyword
 use Rattle.embed_cmds.specs.Grammar.{IsProgram}

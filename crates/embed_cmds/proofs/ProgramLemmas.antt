@@ -1,6 +1,6 @@
 -- What is computed of tokens is the program that they spell, or the place where they stop to begin one.
 use Rattle.std.proofs.Common.{◌≡◌, ◌↔◌, ◌⊎◌, ℕ, ◌+◌, ◌≤◌, List, [], ◌∷◌, ◌++◌, length, Option, Some, None, Result, Ok, Err, inl, inr, refl, sym, ap, ◌∙◌, subst, append_assoc, append-nil, arith}
-use Rattle.watch_expr.specs.Laws.{ExactReading, NoneApart}
+use Rattle.expression_text.specs.Laws.{ExactReading, NoneApart}
 use Rattle.embed_cmds.specs.Grammar.{IsProgram, BeginsProgram, NoProgramGoesOn, StopsAtTokens}
 use Rattle.embed_cmds.specs.Reading.{LeftTokens, ReadOfTokens, program_in, whole_program, program_of}
 use Rattle.embed_cmds.specs.Tree.{Statements}

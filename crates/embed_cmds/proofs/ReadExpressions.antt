@@ -4,11 +4,11 @@ use Rattle.std.proofs.lemmas.List.{drop-drop}
 use Rattle.expression_text.specs.declared.error.ExprError.{ExprError}
 use Rattle.expression_text.specs.declared.error.ExprError.TheVariants.{Syntax, NoNode, TooDeep, Nested, NoMemory}
 use Rattle.expression_text.specs.declared.expr.Expr.{Expr}
-use Rattle.watch_expr.specs.Computed.{expression_spelled, viable_tokens}
-use Rattle.watch_expr.specs.Grammar.{IsExpr, ParsedExpr, TakesExpr}
-use Rattle.watch_expr.specs.Laws.{ExactReading}
-use Rattle.watch_expr.specs.Lexing.{LexedLine, token_texts}
-use Rattle.watch_expr.specs.Expression.{Expression, expression_of}
+use Rattle.expression_text.specs.Computed.{expression_spelled, viable_tokens}
+use Rattle.expression_text.specs.Grammar.{IsExpr, ParsedExpr, TakesExpr}
+use Rattle.expression_text.specs.Laws.{ExactReading}
+use Rattle.expression_text.specs.Lexing.{LexedLine, token_texts}
+use Rattle.expression_text.specs.Expression.{Expression, expression_of}
 use Rattle.embed_cmds.specs.inside.Parsed.{ReadAsTokens}
 use Rattle.embed_cmds.specs.Reading.{LeftTokens, expression, expression_in, expression_or}
 use Rattle.embed_cmds.proofs.ReadTokens.{column_here}

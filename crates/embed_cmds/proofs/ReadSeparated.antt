@@ -4,7 +4,7 @@ use Rattle.std.proofs.lemmas.List.{map-append}
 use Rattle.std.specs.Result.{is_ok}
 use Rattle.expression_text.specs.declared.error.ExprError.{ExprError}
 use Rattle.expression_text.specs.declared.error.ExprError.TheVariants.{Syntax, NoNode, TooDeep, Nested, NoMemory}
-use Rattle.watch_expr.specs.Lexing.{LexedLine}
+use Rattle.expression_text.specs.Lexing.{LexedLine}
 use Rattle.embed_cmds.specs.inside.Parsed.{ReadAsTokens}
 use Rattle.embed_cmds.specs.Reading.{LeftTokens, ReadOfTokens, after_token, separated_items, separated_in, then_more_items, then_reads}
 use Rattle.embed_cmds.proofs.ReadTokens.{drop_one, first_is}

@@ -5,9 +5,9 @@ use Rattle.std.specs.Global.{Vec}
 use Rattle.std.specs.Option.{option_and_then}
 use Rattle.expression_text.specs.declared.error.ExprError.{ExprError}
 use Rattle.expression_text.specs.declared.error.ExprError.TheVariants.{Syntax, NoNode, TooDeep, Nested, NoMemory}
-use Rattle.watch_expr.specs.Computed.{expression_spelled}
-use Rattle.watch_expr.specs.Lexing.{LexedLine, token_texts}
-use Rattle.watch_expr.specs.Expression.{Expression, expression_of}
+use Rattle.expression_text.specs.Computed.{expression_spelled}
+use Rattle.expression_text.specs.Lexing.{LexedLine, token_texts}
+use Rattle.expression_text.specs.Expression.{Expression, expression_of}
 use Rattle.expression_text.specs.declared.expr.Expr.{Expr}
 use Rattle.std.specs.Result.{is_ok}
 use Rattle.embed_cmds.specs.declared.program.Stmt.TheVariants as stmt

@@ -6,7 +6,7 @@ use Rattle.std.proofs.lemmas.Option.{get_or_from_slice_get, slice_get_cases, sli
 use Rattle.std.proofs.lemmas.Bool.{ne_eqb}
 use Rattle.std.specs.Option.{option_and_then}
 use Rattle.std.specs.Result.{is_ok}
-use Rattle.watch_expr.specs.Lexing.{LexedLine, PlacedToken, column_of_token, token_texts}
+use Rattle.expression_text.specs.Lexing.{LexedLine, PlacedToken, column_of_token, token_texts}
 use Rattle.embed_cmds.specs.Parsing.{column_of}
 use Rattle.embed_cmds.specs.Reading.{LeftTokens, before_quote, after_token, names_event_node, read_or_stays, token_read_as}
 

@@ -2,10 +2,10 @@
 use Rattle.std.proofs.Common.{◌≡◌, ℕ, zero, suc, Bool, true, false, cond, List, [], ◌∷◌, ◌++◌, Option, Some, None, Ok, bytes_eq, codes, inl, inr, refl, sym, ap, ◌∙◌, subst, append_assoc, append-nil}
 use Rattle.std.specs.List.{find}
 use Rattle.std.proofs.lemmas.Bool.{cases_Bool}
-use Rattle.watch_expr.specs.Grammar.{IsExpr}
-use Rattle.watch_expr.specs.Laws.{ExactReading}
-use Rattle.watch_expr.specs.Spelling.{is_word}
-use Rattle.watch_expr.specs.Expression.{Expression}
+use Rattle.expression_text.specs.Grammar.{IsExpr}
+use Rattle.expression_text.specs.Laws.{ExactReading}
+use Rattle.expression_text.specs.Spelling.{is_word}
+use Rattle.expression_text.specs.Expression.{Expression}
 use Rattle.embed_cmds.specs.declared.keyword.Keyword.{Keyword}
 use Rattle.embed_cmds.specs.declared.keyword.Keyword.TheVariants as keyword
 use Rattle.embed_cmds.specs.Grammar.{IsSayItem, AreSayItems, IsStatement, IsProgram, last, more, set, say, stop, if_alone, if_else}

@@ -3,8 +3,8 @@
 use Rattle.std.specs.Prelude.{◌≡◌, ℕ, List, [], ◌∷◌, nat_eq, if◌then◌else◌, refl}
 use Rattle.std.proofs.Common.{ap, ◌∙◌, ◌⊎◌, inl, inr}
 use Rattle.std.specs.Coded.{Coded, code_by, coded×, coded⊎, coded_ℕ, coded_list}
-use Rattle.watch_expr.specs.Coding.{expression_code}
-use Rattle.watch_expr.specs.Expression.{Expression}
+use Rattle.expression_text.specs.Coding.{expression_code}
+use Rattle.expression_text.specs.Expression.{Expression}
 use Rattle.embed_cmds.specs.Tree.{SaidItem, Words, Value, NodeOfEvent, Statement, Set, Say, Stop, If, Statements, End, Then}
 
 -- ---- items

@@ -1,7 +1,7 @@
 -- What may be wrong with a program that is of the grammar, and which variables it sets.
 use Rattle.std.specs.Prelude.{ℕ, List, [], ◌∷◌, ◌++◌, Bool, false, ◌||◌}
 use Rattle.std.specs.List.{list_any}
-use Rattle.watch_expr.specs.Faulty.{is_nested, lacks_node}
+use Rattle.expression_text.specs.Faulty.{is_nested, lacks_node}
 use Rattle.embed_cmds.specs.Tree.{SaidItem, Words, Value, NodeOfEvent, Statement, Set, Say, Stop, If, Statements, End, Then}
 
 abbrev pub nests_item : SaidItem → Bool

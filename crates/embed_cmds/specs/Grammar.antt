@@ -1,8 +1,8 @@
 -- The grammar of programs, over the texts of tokens.
 use Rattle.std.specs.Prelude.{◌≡◌, ℕ, true, codes, List, [], ◌∷◌, ◌++◌}
-use Rattle.watch_expr.specs.Grammar.{IsExpr}
-use Rattle.watch_expr.specs.Spelling.{is_word}
-use Rattle.watch_expr.specs.Expression.{Expression}
+use Rattle.expression_text.specs.Grammar.{IsExpr}
+use Rattle.expression_text.specs.Spelling.{is_word}
+use Rattle.expression_text.specs.Expression.{Expression}
 use Rattle.embed_cmds.specs.Tree.{SaidItem, Words, Value, NodeOfEvent, Statement, Set, Say, Stop, If, Statements, End, Then}
 
 -- with these names of nodes, the tokens spell the item: a string in its quotes, an expression, or the node of the position's

@@ -2,7 +2,7 @@
 use Rattle.std.specs.Prelude.{◌≡◌, ℕ, ◌-◌, true, false, List, length, drop, Result, Ok, Err}
 use Rattle.expression_text.specs.declared.error.ExprError.{ExprError}
 use Rattle.expression_text.specs.declared.error.ExprError.TheVariants.{Syntax, NoNode, TooDeep, Nested, NoMemory}
-use Rattle.watch_expr.specs.Lexing.{LexedLine, column_of_token, token_texts}
+use Rattle.expression_text.specs.Lexing.{LexedLine, column_of_token, token_texts}
 use Rattle.embed_cmds.specs.declared.program.Program.{Program}
 use Rattle.embed_cmds.specs.Faulty.{lacks_names, nests_aggregates}
 use Rattle.embed_cmds.specs.Reading.{LeftTokens, program_of}

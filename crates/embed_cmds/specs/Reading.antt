@@ -1,9 +1,9 @@
 -- What the tokens of a program spell, as a function that computes. The tokens are read from the first one on.
 use Rattle.std.specs.Prelude.{ℕ, zero, suc, ◌==◌, Bool, true, false, ◌&&◌, not, List, [], ◌∷◌, length, take, drop, codes, bytes_eq, Option, Some, None, option_map, Result, Ok, Err, if◌then◌else◌}
 use Rattle.std.specs.List.{find}
-use Rattle.watch_expr.specs.Computed.{expression_spelled, viable_tokens}
-use Rattle.watch_expr.specs.Spelling.{is_word}
-use Rattle.watch_expr.specs.Expression.{Expression}
+use Rattle.expression_text.specs.Computed.{expression_spelled, viable_tokens}
+use Rattle.expression_text.specs.Spelling.{is_word}
+use Rattle.expression_text.specs.Expression.{Expression}
 use Rattle.embed_cmds.specs.declared.keyword.Keyword.{Keyword}
 use Rattle.embed_cmds.specs.declared.keyword.Keyword.TheVariants as keyword
 use Rattle.embed_cmds.specs.Tree.{SaidItem, Words, Value, NodeOfEvent, Statement, Set, Say, Stop, If, Statements, End, sequence}

@@ -2,7 +2,7 @@
 use Rattle.std.specs.Prelude.{ℕ, List, ◌++◌, Bool, true, false, not, ◌||◌, codes, Option, Some, None, ℤ, if◌then◌else◌}
 use Rattle.std.specs.Fmt.{signed_decimal}
 use Rattle.std.specs.List.{flat_map}
-use Rattle.watch_expr.specs.Expression.{Expression}
+use Rattle.expression_text.specs.Expression.{Expression}
 use Rattle.watch_expr.specs.Value.{is_zero, value, value_in_event}
 use Rattle.watch_expr.specs.View.{Node}
 use Rattle.embed_cmds.specs.Tree.{SaidItem, Words, Value, NodeOfEvent, Statement, Set, Say, Stop, If, Statements, End, Then}

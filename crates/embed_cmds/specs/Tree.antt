@@ -1,6 +1,6 @@
 -- Programs as contracts see them: trees, with lists where the program has vectors.
 use Rattle.std.specs.Prelude.{ℕ, List, [], ◌∷◌, map}
-use Rattle.watch_expr.specs.Expression.{Expression, expression_of}
+use Rattle.expression_text.specs.Expression.{Expression, expression_of}
 use Rattle.embed_cmds.specs.declared.program.Program.{Program}
 use Rattle.embed_cmds.specs.declared.program.SayItem.{SayItem}
 use Rattle.embed_cmds.specs.declared.program.SayItem.TheVariants as said

@@ -1,8 +1,8 @@
 // What may be wrong with a program that is of the grammar.
 ghost use Rattle.std.specs.Prelude.{◌≡◌, ◌||◌, false, map};
 ghost use Rattle.std.specs.List.{list_any};
-ghost use Rattle.watch_expr.specs.Faulty.{is_nested, lacks_node};
-ghost use Rattle.watch_expr.specs.Expression.{expression_of};
+ghost use Rattle.expression_text.specs.Faulty.{is_nested, lacks_node};
+ghost use Rattle.expression_text.specs.Expression.{expression_of};
 ghost use Rattle.embed_cmds.specs.Faulty.{lacks_names, lacks_item, lacks_one, nests_aggregates, nests_item, nests_one};
 ghost use Rattle.embed_cmds.specs.Tree.{program_body, item_of, statement_of, statements};
 

@@ -1,6 +1,6 @@
 // Reads a program, statement by statement.
 ghost use Rattle.std.specs.Prelude.{◌≡◌, ◌≤◌, ◌<◌, ◌^◌, IfOk, codes, drop, length, map};
-ghost use Rattle.watch_expr.specs.Lexing.{token_texts};
+ghost use Rattle.expression_text.specs.Lexing.{token_texts};
 ghost use Rattle.embed_cmds.specs.Parsing.{ParsedProgram};
 ghost use Rattle.embed_cmds.specs.inside.Parsed.{ReadAsTokens};
 ghost use Rattle.embed_cmds.specs.Reading.{else_part, if_statement, item as item_in, braced_part, program_in, say_statement, separated_items, set_statement, statement as statement_in, statement_by};

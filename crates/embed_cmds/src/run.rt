@@ -1,6 +1,6 @@
 // What programs do.
 ghost use Rattle.std.specs.Prelude.{◌≡◌, ◌++◌, false, map, IfOk, OnErr, OnOk};
-ghost use Rattle.watch_expr.specs.Expression.{expression_of};
+ghost use Rattle.expression_text.specs.Expression.{expression_of};
 ghost use Rattle.embed_cmds.specs.Running.{after_statement, after_statements, is_nonzero, program_setting, program_state, said_item, said_line, value_over, value_word};
 ghost use Rattle.embed_cmds.specs.Tree.{program_body, item_of, statement_of, statements};
 ghost use Rattle.embed_cmds.specs.Variables.{with_value};

@@ -2,8 +2,8 @@
 ghost use Rattle.std.specs.Prelude.{◌≡◌, ◌+◌, ◌≤◌, ◌<◌, ◌^◌, ◌&&◌, IfOk, IfSome, codes, drop, length, not, option_map, slice_get, true};
 ghost use Rattle.std.specs.Option.{option_and_then};
 ghost use Rattle.std.specs.Result.{is_ok};
-ghost use Rattle.watch_expr.specs.Lexing.{token_texts};
-ghost use Rattle.watch_expr.specs.Expression.{expression_of};
+ghost use Rattle.expression_text.specs.Lexing.{token_texts};
+ghost use Rattle.expression_text.specs.Expression.{expression_of};
 ghost use Rattle.embed_cmds.specs.inside.Parsed.{GoesAsToken, ReadAsTokens};
 ghost use Rattle.embed_cmds.specs.Reading.{before_quote as before_quote_of, after_token, expression, keyword_of, names_event_node, string_of, token_read_as, word_of};
 

@@ -5,7 +5,7 @@ use Rattle.call_table.specs.declared.kind.Kind.{Kind}
 use Rattle.guest_process.specs.State.{State}
 use Rattle.group_state.specs.Place.{events_of_replays, states_of_nodes}
 use Rattle.embed_cmds.specs.Faulty.{set_names}
-use Rattle.watch_expr.specs.Expression.{Expression}
+use Rattle.expression_text.specs.Expression.{Expression}
 use Rattle.embed_cmds.specs.Tree.{Statements}
 use Rattle.embed_cmds.specs.Variables.{is_mentioned, mention_all}
 use Rattle.shell_lines.specs.Lines.{At, Back, Break, LineCommand, Continue, Delete, Do, Events, Everywhere, Frames, Goto, ListPoints, ListVariables, Mem, Print, Quit, Rcontinue, WhichNodes, SetTo, Step, Threads, Watch}

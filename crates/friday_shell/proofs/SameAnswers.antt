@@ -6,7 +6,7 @@ use Rattle.guest_process.specs.State.{State}
 use Rattle.proc_replay.specs.Replaying.{Replaying}
 use Rattle.group_state.specs.Nodes.{nodes_at}
 use Rattle.group_state.specs.Place.{node_names, states_of_nodes}
-use Rattle.watch_expr.specs.Expression.{Expression}
+use Rattle.expression_text.specs.Expression.{Expression}
 use Rattle.embed_cmds.specs.Faulty.{set_names}
 use Rattle.embed_cmds.specs.Running.{value_in}
 use Rattle.embed_cmds.specs.Tree.{Statements}

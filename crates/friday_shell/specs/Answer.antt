@@ -5,7 +5,7 @@ use Rattle.fri_text.specs.Hex.{hex_word}
 use Rattle.call_table.specs.declared.kind.Kind.{Kind}
 use Rattle.guest_process.specs.Meanings.{thread_frames}
 use Rattle.guest_process.specs.State.{State}
-use Rattle.watch_expr.specs.Expression.{Expression}
+use Rattle.expression_text.specs.Expression.{Expression}
 use Rattle.watch_expr.specs.View.{bytes_of_node}
 use Rattle.group_state.specs.Place.{GroupPlace, events_of_replays, node_names, states_of_nodes}
 use Rattle.group_state.specs.Nodes.{nodes_at}
@@ -20,8 +20,7 @@ use Rattle.shell_lines.specs.Refusals.{refusal_line}
 use Rattle.shell_lines.specs.declared.refusal.LineRefusal.{LineRefusal}
 use Rattle.shell_lines.specs.declared.refusal.LineRefusal.TheVariants as refusal
 use Rattle.shell_points.specs.Firing.{place_at}
-use Rattle.shell_points.specs.Points.{Trigger, has_point, index_of_point, point_text, with_program, without_point}
-use Rattle.shell_points.specs.Points.{Break as OnCall, Watch as OnChange}
+use Rattle.shell_points.specs.Points.{Trigger, has_point, index_of_point, point_text, with_program, without_point, Break as OnCall, Watch as OnChange}
 use Rattle.shell_points.specs.Returning.{Return, return_from}
 use Rattle.shell_points.specs.Walking.{Walk, walk_from}
 use Rattle.friday_shell.specs.Points.{SessionState, with_point}

@@ -1,7 +1,7 @@
 -- What a session keeps.
 use Rattle.std.specs.Prelude.{ℕ, ◌+◌, List, [], ◌∷◌, ◌++◌, Option}
 use Rattle.group_state.specs.Place.{GroupPlace}
-use Rattle.watch_expr.specs.Expression.{Expression}
+use Rattle.expression_text.specs.Expression.{Expression}
 use Rattle.embed_cmds.specs.Variables.{Variable}
 use Rattle.shell_points.specs.Points.{Point, Trigger, new_point}
 

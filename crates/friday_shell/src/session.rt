@@ -39,7 +39,7 @@ impl<'m, 'a> Model for Session<'m, 'a> {
     ghost use Rattle.std.specs.Prelude.{◌≡◌, ◌<◌, ◌^◌, length};
     ghost use Rattle.std.specs.Coded.{codes};
     ghost use Rattle.guest_process.specs.Coding.{crew_code, trees_code};
-    ghost use Rattle.watch_expr.specs.Coding.{expression_code};
+    ghost use Rattle.expression_text.specs.Coding.{expression_code};
     ghost use Rattle.embed_cmds.specs.Coding.{statements_code};
     ghost use Rattle.friday_shell.specs.Points.{SessionState};
 

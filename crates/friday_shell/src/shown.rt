@@ -4,7 +4,7 @@ ghost use Rattle.friday_shell.specs.Answer.{memory_text, shows_frames, threads_o
 ghost use Rattle.friday_shell.specs.inside.Meanings.{session_state};
 ghost use Rattle.embed_cmds.specs.Running.{value_in};
 ghost use Rattle.group_state.specs.Nodes.{nodes_at};
-ghost use Rattle.watch_expr.specs.Expression.{expression_of};
+ghost use Rattle.expression_text.specs.Expression.{expression_of};
 
 use crate::state::State;
 use crate::variables::value_here;

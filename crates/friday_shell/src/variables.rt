@@ -6,7 +6,7 @@ ghost use Rattle.friday_shell.specs.Answer.{command_answer, sets_variable, varia
 ghost use Rattle.friday_shell.specs.inside.Meanings.{PerformsCommand, session_state};
 ghost use Rattle.group_state.specs.Nodes.{nodes_at};
 ghost use Rattle.shell_lines.specs.Lines.{SetTo};
-ghost use Rattle.watch_expr.specs.Expression.{expression_of};
+ghost use Rattle.expression_text.specs.Expression.{expression_of};
 
 use crate::state::State;
 use embed_cmds::{Vars, push_value};

@@ -24,8 +24,7 @@ use Rattle.guest_process.specs.Fits.{StateFits}
 use Rattle.guest_process.specs.Legal.{reason}
 use Rattle.guest_process.specs.Live.{AnsweredCall, Env, Event, answered_now, event, event_of_waiting, from_world, live}
 use Rattle.guest_process.specs.Next.{next}
-use Rattle.guest_process.specs.OneEvent.{IsKeptByEvents, IsStarted, OneEvent, Rises, RisesTo}
-use Rattle.guest_process.specs.OneEvent.{AgreesWithEvent as IsTold}
+use Rattle.guest_process.specs.OneEvent.{IsKeptByEvents, IsStarted, OneEvent, Rises, RisesTo, AgreesWithEvent as IsTold}
 use Rattle.guest_process.specs.Replay.{accepted, reach_of_entries, reach_with_entry, replayed}
 use Rattle.guest_process.specs.State.{State, thread_at}
 use Rattle.group_world.specs.History.{Act, put_last_if, time}

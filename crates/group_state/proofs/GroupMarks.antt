@@ -9,7 +9,7 @@ use Rattle.std.proofs.lemmas.Option.{same_Some, slice_get-map, slice_get_past, s
 use Rattle.guest_memory.specs.Memory.{IsMemory, size_of}
 use Rattle.lib_calls.specs.declared.entry.Entry.{Entry}
 use Rattle.wasm_types.specs.declared.code.Value.{Value}
-use Rattle.wasm_step.specs.Marks.{StoreMarksTell as StoreTells}
+use Rattle.wasm_store.specs.Marks.{StoreMarksTell as StoreTells}
 use Rattle.guest_process.specs.Fits.{StateFits}
 use Rattle.guest_process.specs.Marks.{UnmarkedStays}
 use Rattle.guest_process.specs.Next.{next}

@@ -8,7 +8,7 @@ use Rattle.std.proofs.lemmas.List.{get_or_append_left, length-append, take_more}
 use Rattle.std.proofs.lemmas.Option.{get_or_from_slice_get, same_Some, slice_get-map, slice_get_past, slice_get_within}
 use Rattle.guest_memory.specs.Stamps.{AreWithin}
 use Rattle.lib_calls.specs.declared.entry.Entry.{Entry}
-use Rattle.wasm_step.specs.Marks.{StoreMarksTell}
+use Rattle.wasm_store.specs.Marks.{StoreMarksTell}
 use Rattle.guest_process.specs.Fits.{StateFits}
 use Rattle.guest_process.specs.Marks.{UnmarkedStays}
 use Rattle.guest_process.specs.Next.{next}

@@ -10,7 +10,7 @@ use Rattle.guest_process.specs.OneEvent.{IsKeptByEvents, Rises as AreRising}
 use Rattle.group_order.specs.Order.{NodeEvent}
 use Rattle.proc_replay.specs.Replaying.{Replaying}
 use Rattle.watch_expr.specs.declared.reads.Place.{Place as Location}
-use Rattle.watch_expr.specs.Expression.{Expression}
+use Rattle.expression_text.specs.Expression.{Expression}
 use Rattle.watch_expr.specs.Reads.{AreMemories, ReadsTell, SameAtPlace, no_variables, reads_of_expression}
 use Rattle.watch_expr.specs.Value.{value}
 use Rattle.watch_expr.specs.View.{Node}

@@ -9,7 +9,7 @@ use Rattle.guest_process.specs.State.{State}
 use Rattle.group_order.specs.Order.{IsOrder, NodeEvent}
 use Rattle.proc_replay.specs.Course.{entries_ahead}
 use Rattle.proc_replay.specs.Replaying.{Replaying}
-use Rattle.watch_expr.specs.Expression.{Expression}
+use Rattle.expression_text.specs.Expression.{Expression}
 use Rattle.watch_expr.specs.Reads.{AreMemories, no_variables, reads_of_expression}
 use Rattle.watch_expr.specs.Value.{value}
 use Rattle.watch_expr.specs.View.{Node}

@@ -8,7 +8,7 @@ use Rattle.group_order.specs.Order.{NodeEvent}
 use Rattle.proc_replay.specs.Replaying.{Replaying}
 use Rattle.watch_expr.specs.declared.reads.Place.{Place as Location}
 use Rattle.watch_expr.specs.declared.reads.Place.TheVariants as location
-use Rattle.watch_expr.specs.Expression.{Expression}
+use Rattle.expression_text.specs.Expression.{Expression}
 use Rattle.watch_expr.specs.Reads.{reads_of_expression}
 use Rattle.page_watch.specs.Touch.{node_of}
 use Rattle.group_state.specs.Moves.{event_before}

@@ -14,7 +14,7 @@ use Rattle.lib_calls.specs.Effects.{is_good, minus_one}
 use Rattle.lib_calls.specs.declared.entry.Call.{Call}
 use Rattle.signal_points.specs.Signals.{with_handler}
 use Rattle.wasm_step.specs.Strand.{new_thread}
-use Rattle.wasm_step.specs.Thread.{Thread}
+use Rattle.wasm_stack.specs.Thread.{Thread}
 use Rattle.guest_process.specs.inside.Advancing.{acted_on_answer}
 use Rattle.guest_process.specs.Answers.{Fixed, World, after_need, need_of_world, effects_of_answer, exited_process, handled, handler_given, handles_signal, is_lock_holder, joined, joins_standing, locked, asks_for_lock, narrow, spawnable, spawned, spawned_at_index, spawns_thread, unlocked, with_answer}
 use Rattle.guest_process.specs.Start.{waiting_at}

@@ -13,9 +13,9 @@ use Rattle.coop_threads.specs.declared.slot.Slot.TheVariants.{Kept, Over}
 use Rattle.lib_calls.specs.Answer.{answer_of}
 use Rattle.lib_calls.specs.declared.entry.Entry.{Entry}
 use Rattle.wasm_step.specs.Laws.{KeepsModule}
-use Rattle.wasm_step.specs.Store.{handler_at}
+use Rattle.wasm_store.specs.Store.{handler_at}
 use Rattle.wasm_step.specs.Strand.{new_thread}
-use Rattle.wasm_step.specs.Thread.{Thread}
+use Rattle.wasm_stack.specs.Thread.{Thread}
 use Rattle.guest_process.specs.declared.waiting.Waiting.{Waiting}
 use Rattle.guest_process.specs.Answers.{effects_of_answer, narrow, spawnable}
 use Rattle.guest_process.specs.Crews.{AsMany, LockAfter, LockKept, Locked, MadeAfter, OneMore, OnlySpawnAdds, OtherThreadsStay, Same, Unlocked}

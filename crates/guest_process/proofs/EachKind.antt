@@ -22,7 +22,7 @@ use Rattle.call_table.specs.declared.kind.Kind.{Kind}
 use Rattle.call_table.specs.declared.kind.Kind.TheVariants.{Begin, Exit, Note, Print, Now, SleepUntil, Random, Me, Send, Recv, TryRecv, Spawn, Yield, Join, Lock, Unlock, OnSignal, Thread as Number}
 use Rattle.lib_calls.specs.Answer.{Answer}
 use Rattle.wasm_step.specs.Strand.{new_thread}
-use Rattle.wasm_step.specs.Thread.{Thread}
+use Rattle.wasm_stack.specs.Thread.{Thread}
 use Rattle.guest_process.specs.Answers.{Need, Fixed, Blocked, World, need_of_world, need, handled, handler_given, handles_signal, is_empty, is_lock_holder, is_payload, is_possible, is_due, brings_nothing, takes_datagram, joined, joins_standing, locked, asks_for_lock, narrow, replied, replies_with, spawnable, spawned, spawned_at_index, spawns_thread, unlocked}
 use Rattle.guest_process.specs.Fits.{EnvFits, StateFits}
 use Rattle.guest_process.specs.Legal.{need_gives_answer}

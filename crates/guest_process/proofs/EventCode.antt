@@ -11,13 +11,12 @@ use Rattle.lib_calls.specs.declared.entry.Entry.{Entry}
 use Rattle.wasm_types.specs.Library.{kind_at}
 use Rattle.wasm_types.specs.Modules.{module_of}
 use Rattle.wasm_types.specs.declared.traps.Trap.TheVariants.{Exhausted, Unreachable}
-use Rattle.wasm_step.specs.After.{Halt, Calls, Ends, Traps, Sticks}
+use Rattle.wasm_stack.specs.After.{Halt, Calls, Ends, Traps, Sticks}
 use Rattle.wasm_step.specs.Strand.{Strand, answered_strand}
 use Rattle.wasm_step.specs.Burst.{burst}
-use Rattle.wasm_step.specs.Suits.{SuitsModule}
+use Rattle.wasm_store.specs.Suits.{SuitsModule}
 use Rattle.wasm_step.specs.Laws.{KeepsModule}
-use Rattle.wasm_step.specs.Thread.{Thread}
-use Rattle.wasm_stack.specs.Thread.{functions_of}
+use Rattle.wasm_stack.specs.Thread.{Thread, functions_of}
 use Rattle.wasm_stack.specs.declared.call.CallSite.{CallSite}
 use Rattle.guest_process.specs.declared.end.End.{End}
 use Rattle.guest_process.specs.declared.end.End.TheVariants.{Exited, Trapped}

@@ -6,12 +6,12 @@ use Rattle.lib_calls.specs.Answer.{Answer, answer_of}
 use Rattle.lib_calls.specs.declared.entry.Call.{Call}
 use Rattle.lib_calls.specs.declared.entry.Entry.{Entry}
 use Rattle.wasm_types.specs.Library.{kind_at}
-use Rattle.wasm_step.specs.After.{Halt, Calls, Ends, Traps, Sticks}
+use Rattle.wasm_stack.specs.After.{Halt, Calls, Ends, Traps, Sticks}
 use Rattle.wasm_step.specs.Burst.{burst}
-use Rattle.wasm_step.specs.Start.{first_store}
-use Rattle.wasm_step.specs.Store.{Store}
+use Rattle.wasm_store.specs.Start.{first_store}
+use Rattle.wasm_store.specs.Store.{Store}
 use Rattle.wasm_step.specs.Strand.{answered_strand, first_thread}
-use Rattle.wasm_step.specs.Thread.{Thread}
+use Rattle.wasm_stack.specs.Thread.{Thread}
 use Rattle.wasm_stack.specs.declared.call.CallSite.{CallSite}
 use Rattle.guest_process.specs.declared.end.End.TheVariants.{Finished}
 use Rattle.guest_process.specs.declared.waiting.Waiting.{Waiting}

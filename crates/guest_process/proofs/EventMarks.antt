@@ -18,13 +18,13 @@ use Rattle.wasm_types.specs.Modules.{GlobalDef, Module, Segment}
 use Rattle.wasm_types.specs.declared.code.Value.{Value}
 use Rattle.wasm_step.specs.Burst.{burst}
 use Rattle.wasm_step.specs.Laws.{KeepsStamps, TellsMarks}
-use Rattle.wasm_step.specs.Marks.{MarkedStore, MarksFollow, StoreMarksTell, MarksWithin, NothingMarks, WritesMark}
-use Rattle.wasm_step.specs.After.{Halt, Calls, Ends, Traps, Sticks}
-use Rattle.wasm_step.specs.Start.{memory_before_segments, first_min, first_most, first_store, initial_value, initial_globals, offset_in, put_segments, segments_fit, unset_globals}
-use Rattle.wasm_step.specs.Store.{Store}
+use Rattle.wasm_store.specs.Marks.{MarkedStore, MarksFollow, StoreMarksTell, MarksWithin, NothingMarks, WritesMark}
+use Rattle.wasm_stack.specs.After.{Halt, Calls, Ends, Traps, Sticks}
+use Rattle.wasm_store.specs.Start.{memory_before_segments, first_min, first_most, first_store, initial_value, initial_globals, offset_in, put_segments, segments_fit, unset_globals}
+use Rattle.wasm_store.specs.Store.{Store}
 use Rattle.wasm_step.specs.Strand.{answered_strand}
-use Rattle.wasm_step.specs.Suits.{SuitsModule}
-use Rattle.wasm_step.specs.Thread.{Thread}
+use Rattle.wasm_store.specs.Suits.{SuitsModule}
+use Rattle.wasm_stack.specs.Thread.{Thread}
 use Rattle.wasm_stack.specs.declared.call.CallSite.{CallSite}
 use Rattle.guest_process.specs.declared.end.End.TheVariants.{Finished}
 use Rattle.guest_process.specs.declared.waiting.Waiting.{Waiting}

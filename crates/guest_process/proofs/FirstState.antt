@@ -7,11 +7,11 @@ use Rattle.guest_memory.specs.Laws.{FreshIsUnstamped, NoLaterWhenWritten}
 use Rattle.wasm_types.specs.Modules.{Module, module_of}
 use Rattle.wasm_types.specs.Library.{IsOfLibrary}
 use Rattle.wasm_types.specs.Valid.{IsValid}
-use Rattle.wasm_step.specs.Start.{first_store, memory_before_segments, empty_table, initial_globals, is_elem_inside, is_segment_inside}
-use Rattle.wasm_step.specs.Store.{Store}
+use Rattle.wasm_store.specs.Start.{first_store, memory_before_segments, empty_table, initial_globals, is_elem_inside, is_segment_inside}
+use Rattle.wasm_store.specs.Store.{Store}
 use Rattle.wasm_step.specs.Strand.{first_thread}
-use Rattle.wasm_step.specs.Suits.{SuitsModule}
-use Rattle.wasm_step.specs.Thread.{Thread}
+use Rattle.wasm_store.specs.Suits.{SuitsModule}
+use Rattle.wasm_stack.specs.Thread.{Thread}
 use Rattle.signal_points.specs.Signals.{handler_of, no_handlers}
 use Rattle.guest_process.specs.GoesOn.{handler}
 use Rattle.guest_process.specs.Fits.{StateFits}

@@ -13,7 +13,7 @@ use Rattle.wasm_types.specs.declared.code.ValType.{ValType}
 use Rattle.wasm_types.specs.declared.code.ValType.TheVariants as types
 use Rattle.wasm_types.specs.Functions.{type_of}
 use Rattle.wasm_types.specs.Modules.{FuncType, Module}
-use Rattle.wasm_step.specs.Store.{Store, func_in_table, handler_at, handler_in, is_handler, is_number_param, takes_number}
+use Rattle.wasm_store.specs.Store.{Store, func_in_table, handler_at, handler_in, is_handler, is_number_param, takes_number}
 use Rattle.wasm_step.specs.Strand.{IsHandler}
 use Rattle.guest_process.specs.Answers.{after_need, effects_of_answer, handled, handler_given, handler_named, handles_signal, narrow, handler_removal}
 use Rattle.guest_process.specs.GoesOn.{handler}

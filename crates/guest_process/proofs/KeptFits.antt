@@ -11,7 +11,7 @@ use Rattle.lib_calls.specs.declared.entry.Entry.{Entry}
 use Rattle.wasm_types.specs.Library.{kind_at}
 use Rattle.wasm_types.specs.Modules.{Module}
 use Rattle.wasm_step.specs.Laws.{KeepsModule}
-use Rattle.wasm_step.specs.Thread.{Thread}
+use Rattle.wasm_stack.specs.Thread.{Thread}
 use Rattle.wasm_stack.specs.declared.call.CallSite.{CallSite}
 use Rattle.guest_process.specs.declared.waiting.Waiting.{Waiting}
 use Rattle.guest_process.specs.Answers.{need}

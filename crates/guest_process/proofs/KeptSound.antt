@@ -17,7 +17,7 @@ use Rattle.wasm_types.specs.Modules.{Module, Import, FuncType}
 use Rattle.wasm_types.specs.Functions.{described_type, imported_type}
 use Rattle.wasm_step.specs.Laws.{KeepsModule}
 use Rattle.wasm_step.specs.Strand.{IsHandler, IsResult, first_result, library_result}
-use Rattle.wasm_step.specs.Thread.{Thread}
+use Rattle.wasm_stack.specs.Thread.{Thread}
 use Rattle.wasm_stack.specs.declared.call.CallSite.{CallSite}
 use Rattle.guest_process.specs.declared.waiting.Waiting.{Waiting}
 use Rattle.guest_process.specs.Answers.{effects_of_answer, narrow}

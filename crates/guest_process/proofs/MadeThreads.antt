@@ -5,9 +5,9 @@ use Rattle.std.proofs.lemmas.Bool.{ltb-true}
 use Rattle.coop_threads.specs.Crew.{most_threads}
 use Rattle.wasm_types.specs.Functions.{imported_type, own_func, own_type}
 use Rattle.wasm_types.specs.Modules.{Func, FuncType, Module}
-use Rattle.wasm_step.specs.Store.{handler_at}
+use Rattle.wasm_store.specs.Store.{handler_at}
 use Rattle.wasm_step.specs.Strand.{IsHandler, Strand, new_thread, started_above}
-use Rattle.wasm_step.specs.Thread.{Thread}
+use Rattle.wasm_stack.specs.Thread.{Thread}
 use Rattle.wasm_types.specs.declared.code.ValType.TheVariants as types
 use Rattle.wasm_types.specs.declared.code.Value.TheVariants.{I32}
 use Rattle.lib_calls.specs.Effects.{minus_one}

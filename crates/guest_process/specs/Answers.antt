@@ -16,9 +16,9 @@ use Rattle.lib_calls.specs.declared.entry.Call.{Call}
 use Rattle.lib_calls.specs.Answer.{Answer}
 use Rattle.lib_calls.specs.Effects.{is_good, minus_one, minus_two, takes_counted, memory_after_answer as memory_with}
 use Rattle.signal_points.specs.Signals.{is_signal, with_handler}
-use Rattle.wasm_step.specs.Store.{Store, handler_at}
+use Rattle.wasm_store.specs.Store.{Store, handler_at}
 use Rattle.wasm_step.specs.Strand.{new_thread}
-use Rattle.wasm_step.specs.Thread as stack
+use Rattle.wasm_stack.specs.Thread as stack
 use Rattle.guest_process.specs.declared.end.End.TheVariants.{Exited}
 use Rattle.guest_process.specs.Start.{waiting_at}
 use Rattle.guest_process.specs.State.{State, with_handlers, with_lock, with_memory, with_new_thread, with_thread, without_lock}

@@ -4,9 +4,9 @@ use Rattle.call_table.specs.declared.kind.Kind.TheVariants.{Spawn, Lock, Unlock}
 use Rattle.coop_threads.specs.Crew.{holder_of, most_threads}
 use Rattle.coop_threads.specs.declared.slot.Slot.TheVariants.{Kept}
 use Rattle.lib_calls.specs.declared.entry.Entry.{Entry}
-use Rattle.wasm_step.specs.Store.{handler_at}
+use Rattle.wasm_store.specs.Store.{handler_at}
 use Rattle.wasm_step.specs.Strand.{new_thread}
-use Rattle.wasm_step.specs.Thread.{Thread}
+use Rattle.wasm_stack.specs.Thread.{Thread}
 use Rattle.guest_process.specs.Answers.{narrow}
 use Rattle.guest_process.specs.Fits.{StateFits}
 use Rattle.guest_process.specs.Legal.{reason}

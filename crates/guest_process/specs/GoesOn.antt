@@ -11,7 +11,7 @@ use Rattle.wasm_types.specs.declared.traps.Trap.TheVariants.{Exhausted, Unreacha
 use Rattle.wasm_types.specs.Library.{kind_at}
 use Rattle.wasm_types.specs.Modules.{Module}
 use Rattle.wasm_step.specs.Burst.{BurstResult, burst, most_instructions}
-use Rattle.wasm_step.specs.After.{Halt, Calls, Ends, Traps, Sticks}
+use Rattle.wasm_stack.specs.After.{Halt, Calls, Ends, Traps, Sticks}
 use Rattle.wasm_step.specs.Strand.{Strand, answered_strand, thread_in_handler, is_in}
 use Rattle.wasm_stack.specs.Thread.{Thread, functions_of}
 use Rattle.wasm_stack.specs.declared.call.CallSite.{CallSite}

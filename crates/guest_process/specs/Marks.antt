@@ -1,7 +1,7 @@
 -- What the marks of a process tell.
 use Rattle.std.specs.Prelude.{◌≡◌, ◌+◌, None}
 use Rattle.lib_calls.specs.declared.entry.Entry.{Entry}
-use Rattle.wasm_step.specs.Marks.{StoreMarksTell}
+use Rattle.wasm_store.specs.Marks.{StoreMarksTell}
 use Rattle.guest_process.specs.Fits.{StateFits}
 use Rattle.guest_process.specs.Legal.{reason}
 use Rattle.guest_process.specs.Next.{next}

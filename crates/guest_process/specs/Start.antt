@@ -5,10 +5,10 @@ use Rattle.coop_threads.specs.Crew.{empty, with_live}
 use Rattle.lib_calls.specs.declared.entry.Call.{Call}
 use Rattle.signal_points.specs.Signals.{no_handlers}
 use Rattle.wasm_types.specs.Modules.{Module}
-use Rattle.wasm_step.specs.Start.{first_store}
-use Rattle.wasm_step.specs.Store.{Store}
+use Rattle.wasm_store.specs.Start.{first_store}
+use Rattle.wasm_store.specs.Store.{Store}
 use Rattle.wasm_step.specs.Strand.{Strand, first_thread}
-use Rattle.wasm_step.specs.Thread.{Thread}
+use Rattle.wasm_stack.specs.Thread.{Thread}
 use Rattle.guest_process.specs.declared.end.End.TheVariants.{Running}
 use Rattle.guest_process.specs.declared.waiting.Waiting.{Waiting}
 use Rattle.guest_process.specs.State.{State, awaits_event}

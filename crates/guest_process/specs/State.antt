@@ -3,7 +3,7 @@ use Rattle.std.specs.Prelude.{ℕ, ◌+◌, Bool, true, false, List, Option}
 use Rattle.coop_threads.specs.Crew.{Crew, live_at, after_lock, with_live, with_slot, after_unlock}
 use Rattle.coop_threads.specs.declared.slot.Slot.{Slot}
 use Rattle.guest_memory.specs.Memory.{Memory}
-use Rattle.wasm_step.specs.Store.{Store}
+use Rattle.wasm_store.specs.Store.{Store}
 use Rattle.guest_process.specs.declared.end.End.{End}
 use Rattle.guest_process.specs.declared.end.End.TheVariants.{Running}
 use Rattle.guest_process.specs.declared.waiting.Waiting.{Waiting}

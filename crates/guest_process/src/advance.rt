@@ -6,7 +6,7 @@ ghost use Rattle.lib_calls.specs.Effects.{is_answer};
 ghost use Rattle.lib_calls.specs.Entry.{entry_of};
 ghost use Rattle.wasm_types.specs.Modules.{module_of};
 ghost use Rattle.wasm_step.specs.Burst.{burst};
-ghost use Rattle.wasm_step.specs.Suits.{SuitsModule};
+ghost use Rattle.wasm_store.specs.Suits.{SuitsModule};
 ghost use Rattle.wasm_step.specs.Strand.{IsHandler};
 ghost use Rattle.guest_process.specs.inside.Advancing.{acted_by_entry, thread_gone_on};
 ghost use Rattle.guest_process.specs.Answers.{with_answer};

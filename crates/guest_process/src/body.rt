@@ -3,7 +3,7 @@ ghost use Rattle.std.specs.Prelude.{◌≡◌, IfOk};
 ghost use Rattle.coop_threads.specs.Crew.{IsTaken};
 ghost use Rattle.wasm_types.specs.Modules.{module_of};
 ghost use Rattle.wasm_step.specs.Pause.{StandsAt, pause_halt};
-ghost use Rattle.wasm_step.specs.After.{Ends};
+ghost use Rattle.wasm_stack.specs.After.{Ends};
 ghost use Rattle.guest_process.specs.Answers.{exited_process};
 ghost use Rattle.guest_process.specs.GoesOn.{all_over, stopped_thread, trapped_thread};
 ghost use Rattle.guest_process.specs.inside.Meanings.{state_of};

@@ -22,8 +22,8 @@ use Rattle.group_state.specs.declared.report.ReportLine.{ReportLine}
 use Rattle.group_state.specs.Nodes.{nodes_at, seen_node}
 use Rattle.group_state.specs.Place.{after_entries, entry_clock, events_of_replays, node_event_count, node_names, states_of_nodes}
 use Rattle.group_state.specs.Tally.{AcceptedEvent, of_process, tally_of_events}
-use Rattle.watch_expr.specs.Expression.{Expression}
-use Rattle.watch_expr.specs.Faulty.{names_variable}
+use Rattle.expression_text.specs.Expression.{Expression}
+use Rattle.expression_text.specs.Faulty.{names_variable}
 use Rattle.watch_expr.specs.Reads.{no_variables}
 use Rattle.watch_expr.specs.Value.{value}
 use Rattle.embed_cmds.specs.Running.{value_in}

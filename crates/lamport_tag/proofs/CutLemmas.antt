@@ -1,7 +1,6 @@
 -- What is cut at its end has no tag that it did not have.
-use Rattle.std.proofs.Common.{◌≡◌, ℕ, ◌≤◌, ◌^◌, List, ◌++◌, drop, take, Some, None, sym, ap, ◌∙◌}
+use Rattle.std.proofs.Common.{◌≡◌, ℕ, ◌≤◌, ◌^◌, List, ◌++◌, drop, take, Some, None, sym, ap, ◌∙◌, append_assoc}
 use Rattle.std.proofs.lemmas.List.{take-append-drop}
-use Rattle.std.proofs.Common.{append_assoc}
 use Rattle.lamport_tag.specs.Tag.{IsUntagged, tag_at, tag_bytes}
 use Rattle.lamport_tag.proofs.TagLemmas.{tag_at-tagged, untagged_at}
 

@@ -17,8 +17,7 @@ use Rattle.command_run.specs.Outcome.{CommandStop, and_then}
 use Rattle.log_pairs.specs.Pairs.{Loaded, insert_replay, replay_of_log, replays_of, sort_replays}
 use Rattle.log_pairs.specs.Meanings.{AreLoadedPairs, AreOneGroup, IsApartPair, IsLoadedPair}
 use Rattle.log_pairs.proofs.LogClashes.{all_so}
-use Rattle.command_run.specs.OutcomeLaws.{stops_before_next}
-use Rattle.command_run.specs.OutcomeLaws.{result_follows}
+use Rattle.command_run.specs.OutcomeLaws.{stops_before_next, result_follows}
 use Rattle.log_pairs.proofs.PlacedReplays.{AreDistinct, Differ, all_ascend, all_placed_keeps, few_from, none_new, placed_last}
 
 -- before its first event

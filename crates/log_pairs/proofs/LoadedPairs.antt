@@ -10,11 +10,10 @@ use Rattle.log_pairs.specs.declared.pairs.Pair.{Pair as PairOfWords}
 use Rattle.log_pairs.specs.declared.pairs.Loaded.{Loaded as LoadedFiles}
 use Rattle.command_run.specs.declared.refusal.StopCause.{StopCause}
 use Rattle.command_run.specs.Call.{StopsAsCause}
-use Rattle.log_pairs.specs.Pairs.{Pair}
+use Rattle.log_pairs.specs.Pairs.{Pair, Loaded, clash_of_logs, loaded_pair, loaded_pairs, unless_clash}
 use Rattle.command_run.specs.Logs.{log_in, log_or_bad_head}
 use Rattle.command_run.specs.Inputs.{module_in}
 use Rattle.command_run.specs.Outcome.{CommandStop, and_then, file_of}
-use Rattle.log_pairs.specs.Pairs.{Loaded, clash_of_logs, loaded_pair, loaded_pairs, unless_clash}
 use Rattle.log_pairs.specs.Meanings.{AreLoadedPairs, AreOneGroup, IsLoadedPair, pair_of}
 use Rattle.log_pairs.proofs.LogClashes.{apart_more}
 use Rattle.command_run.specs.OutcomeLaws.{stops_before_next}

@@ -6,7 +6,7 @@ use Rattle.std.proofs.lemmas.List.Sums.{sum_by-cons, sum_by_more}
 use Rattle.std.specs.Prelude.{All, ◌||◌, count_by, nat_eq}
 use Rattle.std.specs.List.{AllByRecursion, list_any}
 use Rattle.watch_expr.specs.declared.reads.Place.{Place}
-use Rattle.watch_expr.specs.Expression.{Expression}
+use Rattle.expression_text.specs.Expression.{Expression}
 use Rattle.watch_expr.specs.Reads.{ReadsTell, reads_of_expression}
 use Rattle.watch_expr.specs.View.{Node}
 use Rattle.page_watch.specs.inside.Places.{AreUnion, CoversPlaces, places_of}

@@ -1,7 +1,7 @@
 -- What a watch is.
 use Rattle.std.specs.Prelude.{◌≡◌, List, Option, ℤ}
 use Rattle.watch_expr.specs.declared.reads.Place.{Place}
-use Rattle.watch_expr.specs.Expression.{Expression}
+use Rattle.expression_text.specs.Expression.{Expression}
 use Rattle.watch_expr.specs.Reads.{AreMemories, no_variables, reads_of_expression}
 use Rattle.watch_expr.specs.Value.{value}
 use Rattle.watch_expr.specs.View.{Node}

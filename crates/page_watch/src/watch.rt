@@ -4,7 +4,7 @@ ghost use Rattle.page_watch.specs.Firing.{is_same_value};
 ghost use Rattle.page_watch.specs.Touch.{meets};
 ghost use Rattle.page_watch.specs.Watched.{WatchStands};
 ghost use Rattle.page_watch.specs.inside.Watching.{watch_after_event};
-ghost use Rattle.watch_expr.specs.Expression.{expression_of};
+ghost use Rattle.expression_text.specs.Expression.{expression_of};
 ghost use Rattle.watch_expr.specs.Reads.{reads_of_expression};
 
 use crate::touched::is_touched;
@@ -24,13 +24,13 @@ pub(crate) struct Watch {
 impl Model for Watch {
     ghost use Rattle.std.specs.Coded.{codes};
     ghost use Rattle.page_watch.specs.Watched.{Watched};
-    ghost use Rattle.watch_expr.specs.Coding.{expression_code};
+    ghost use Rattle.expression_text.specs.Coding.{expression_code};
 
     ghost Value = { Watched };
 
     ghost coded = { Prim.hlevel (codes, expression_code) };
 
-    ghost use Rattle.watch_expr.specs.Expression.{expression_of};
+    ghost use Rattle.expression_text.specs.Expression.{expression_of};
 
     ghost view = { λ w. record { expression = expression_of w.expr; value = w.reading.value; places = w.reading.places.items } };
 }

@@ -4,7 +4,7 @@ ghost use Rattle.page_watch.specs.inside.Places.{CoversPlaces, places_of};
 ghost use Rattle.page_watch.specs.Touch.{meets};
 ghost use Rattle.page_watch.specs.Watched.{WatchStands};
 ghost use Rattle.page_watch.specs.inside.Watching.{watch_after_event};
-ghost use Rattle.watch_expr.specs.Expression.{expression_of};
+ghost use Rattle.expression_text.specs.Expression.{expression_of};
 ghost use Rattle.watch_expr.specs.Reads.{reads_of_expression};
 
 use crate::places::AllPlaces;
@@ -27,7 +27,7 @@ impl Model for Watches {
     ghost use Rattle.std.specs.Prelude.{List};
     ghost use Rattle.std.specs.Coded.{codes};
     ghost use Rattle.page_watch.specs.Watched.{Watched};
-    ghost use Rattle.watch_expr.specs.Coding.{expression_code};
+    ghost use Rattle.expression_text.specs.Coding.{expression_code};
 
     ghost Value = { List Watched };
 

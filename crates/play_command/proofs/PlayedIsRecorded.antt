@@ -5,8 +5,8 @@ use Rattle.std.specs.Prelude.{is_some, nat_lt}
 use Rattle.std.proofs.lemmas.Bool.Decides.{nat_tests}
 use Rattle.fri_outside.specs.Outside.{Folder}
 use Rattle.wasm_types.specs.Modules.{Module}
-use Rattle.watch_expr.specs.Computed.{cut_tokens}
-use Rattle.watch_expr.specs.Lexing.{LexedLine, PlacedToken, is_too_deep, token_texts}
+use Rattle.expression_text.specs.Computed.{cut_tokens}
+use Rattle.expression_text.specs.Lexing.{LexedLine, PlacedToken, is_too_deep, token_texts}
 use Rattle.schedule_text.specs.ItemLine.{is_item_line, item_of_line}
 use Rattle.schedule_text.specs.Laws.{CountsItem, GivesItems, GivesSchedules, TakesItem}
 use Rattle.schedule_text.specs.Limits.{most_runs, most_schedule}

@@ -18,7 +18,7 @@ use Rattle.group_record.specs.declared.summary.SummaryLine.{SummaryLine}
 use Rattle.group_state.specs.Nodes.{seen_node}
 use Rattle.group_texts.specs.Texts.{process_lines}
 use Rattle.record_command.specs.Record.{process_line}
-use Rattle.watch_expr.specs.Expression.{Expression}
+use Rattle.expression_text.specs.Expression.{Expression}
 use Rattle.watch_expr.specs.Reads.{no_variables}
 use Rattle.watch_expr.specs.Value.{value}
 use Rattle.watch_expr.specs.View.{Node, ◌>>=◌, bytes_of_node, piece_in_memory}

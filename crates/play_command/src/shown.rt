@@ -3,7 +3,7 @@ ghost use Rattle.std.specs.Prelude.{◌≡◌, ◌<◌, ◌++◌, IfOk, codes, d
 ghost use Rattle.lossy_net.specs.Network.{kept_sent};
 ghost use Rattle.group_record.specs.Live.{live_count};
 ghost use Rattle.group_texts.specs.Texts.{process_lines};
-ghost use Rattle.watch_expr.specs.Expression.{expression_of};
+ghost use Rattle.expression_text.specs.Expression.{expression_of};
 ghost use Rattle.play_lines.specs.Lines.{Datagram, Mem, Print, Printed, Processes, Threads};
 ghost use Rattle.play_command.specs.Play.{bytes_line, datagram_line};
 ghost use Rattle.play_command.specs.inside.Playing.{IsUnderWay};

@@ -1,9 +1,9 @@
 -- The commands that lines of a play spell.
 use Rattle.std.specs.Prelude.{ℕ, ◌-◌, Bool, false, nat_le, is_none, List, [], ◌∷◌, length, codes, bytes_eq, Option, Result, Ok, Err, if◌then◌else◌}
 use Rattle.std.specs.List.{find}
-use Rattle.watch_expr.specs.Expression.{Expression}
-use Rattle.watch_expr.specs.Faulty.{is_nested, lacks_some_node}
-use Rattle.watch_expr.specs.Spelling.{most_number}
+use Rattle.expression_text.specs.Expression.{Expression}
+use Rattle.expression_text.specs.Faulty.{is_nested, lacks_some_node}
+use Rattle.expression_text.specs.Spelling.{most_number}
 use Rattle.shell_lines.specs.Limits.{most_shown_bytes}
 use Rattle.shell_lines.specs.Lines.{expression_from, node_named, number_from, then_takes, token_at}
 use Rattle.play_lines.specs.declared.command.PlayVerb.{PlayVerb}

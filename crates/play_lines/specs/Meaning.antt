@@ -1,7 +1,7 @@
 -- What a line of a play is: nothing, a line that is refused, an item, or a command.
 use Rattle.std.specs.Prelude.{ℕ, ◌+◌, nat_lt, List, length, Option, Some, None, Result, Ok, Err, if◌then◌else◌}
-use Rattle.watch_expr.specs.Computed.{cut_tokens}
-use Rattle.watch_expr.specs.Lexing.{LexedLine, PlacedToken, column_of_token, is_too_deep, token_texts}
+use Rattle.expression_text.specs.Computed.{cut_tokens}
+use Rattle.expression_text.specs.Lexing.{LexedLine, PlacedToken, column_of_token, is_too_deep, token_texts}
 use Rattle.schedule_text.specs.ItemLine.{is_item_line, item_of_line}
 use Rattle.schedule_text.specs.declared.item.Item.{Item}
 use Rattle.shell_lines.specs.Limits.{most_line}

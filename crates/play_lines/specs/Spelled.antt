@@ -1,5 +1,5 @@
 -- The line, and the command, that the values of the code spell.
-use Rattle.watch_expr.specs.Expression.{expression_of}
+use Rattle.expression_text.specs.Expression.{expression_of}
 use Rattle.play_lines.specs.declared.command.PlayerCommand.{PlayerCommand}
 use Rattle.play_lines.specs.declared.command.PlayerCommand.TheVariants as spelled
 use Rattle.play_lines.specs.declared.line.PlayLine.{PlayLine}

@@ -5,7 +5,7 @@ ghost use Rattle.play_lines.specs.Spelled.{player_command};
 ghost use Rattle.play_lines.specs.inside.Reading.{ReadsPlay};
 ghost use Rattle.shell_lines.specs.Lines.{token_at};
 ghost use Rattle.shell_lines.specs.Reads.{ReadsAs};
-ghost use Rattle.watch_expr.specs.Lexing.{token_texts};
+ghost use Rattle.expression_text.specs.Lexing.{token_texts};
 
 use crate::command::{PlayVerb, PlayerCommand};
 use fri_bytes::Bytes;

@@ -5,10 +5,10 @@ use Rattle.std.proofs.lemmas.Bool.Decides.{leb_tells}
 use Rattle.std.proofs.lemmas.List.{length-append}
 use Rattle.std.proofs.lemmas.Slice.Eq.{bytes_eq-Decides}
 use Rattle.std.specs.Prelude.{codes}
-use Rattle.watch_expr.specs.Computed.{begins_some_expression, expression_spelled, viable_tokens}
-use Rattle.watch_expr.specs.Expression.{Expression, Var}
-use Rattle.watch_expr.specs.Grammar.{BeginsExpr, IsExpr, higher, variable}
-use Rattle.watch_expr.specs.Laws.{ExactReading}
+use Rattle.expression_text.specs.Computed.{begins_some_expression, expression_spelled, viable_tokens}
+use Rattle.expression_text.specs.Expression.{Expression, Var}
+use Rattle.expression_text.specs.Grammar.{BeginsExpr, IsExpr, higher, variable}
+use Rattle.expression_text.specs.Laws.{ExactReading}
 use Rattle.embed_cmds.specs.Grammar.{BeginsProgram, NoProgramGoesOn, IsProgram, last, stop}
 use Rattle.embed_cmds.specs.Laws.{ExactPrograms}
 use Rattle.embed_cmds.specs.Reading.{program_of}

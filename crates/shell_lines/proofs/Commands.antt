@@ -9,8 +9,8 @@ use Rattle.std.specs.Str.Parse.{digits_value}
 use Rattle.fri_text.specs.Decimal.{decimal_of}
 use Rattle.call_table.specs.Table.{kind_named, row}
 use Rattle.call_table.specs.declared.kind.Kind.{Kind}
-use Rattle.watch_expr.specs.Laws.{ExactReading}
-use Rattle.watch_expr.specs.Spelling.{number_at_most, hex_number_of, is_word, most_number, number_of}
+use Rattle.expression_text.specs.Laws.{ExactReading}
+use Rattle.expression_text.specs.Spelling.{number_at_most, hex_number_of, is_word, most_number, number_of}
 use Rattle.embed_cmds.specs.Laws.{ExactPrograms}
 use Rattle.embed_cmds.specs.Reading.{word_of}
 use Rattle.shell_lines.specs.declared.command.Verb.{Verb}

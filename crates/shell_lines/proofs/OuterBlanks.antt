@@ -2,7 +2,7 @@
 use Rattle.std.proofs.Common.{◌≡◌, ℕ, zero, suc, ◌+◌, ◌<◌, ◌≤◌, Bool, true, false, ◌&&◌, List, [], ◌∷◌, length, get_or, take, drop, refl, ap, ◌∙◌, arith}
 use Rattle.std.proofs.lemmas.Bool.{cond-true, cond-false}
 use Rattle.std.specs.List.{list_all}
-use Rattle.watch_expr.specs.Lexing.{is_blank}
+use Rattle.expression_text.specs.Lexing.{is_blank}
 use Rattle.shell_lines.specs.Meaning.{without_end_blanks, without_front_blanks}
 
 pub front_at : (bytes : List ℕ) (n : ℕ) → n < length bytes → is_blank (get_or bytes n 0) ≡ false

@@ -2,7 +2,7 @@
 use Rattle.std.proofs.Common.{◌≡◌, ℕ, ◌-◌, List, length, Result, Ok, Err, ap, subst, sym}
 use Rattle.expression_text.specs.declared.error.ExprError.{ExprError}
 use Rattle.expression_text.specs.declared.error.ExprError.TheVariants.{Syntax, NoNode, TooDeep, Nested, NoMemory}
-use Rattle.watch_expr.specs.Lexing.{LexedLine, token_texts}
+use Rattle.expression_text.specs.Lexing.{LexedLine, token_texts}
 use Rattle.embed_cmds.specs.Parsing.{ParsedProgram}
 use Rattle.embed_cmds.specs.Tree.{Statements}
 use Rattle.shell_lines.specs.Lines.{LineCommand, Do, located_program, program_from, then_takes}

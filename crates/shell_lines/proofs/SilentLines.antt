@@ -1,7 +1,7 @@
 -- Lines that are silent, by their first byte after blanks.
 use Rattle.std.proofs.Common.{◌≡◌, ℕ, Bool, true, false, not, cond, nat_eq, List, [], ◌∷◌, Option, Some, None, refl, ap}
 use Rattle.std.specs.List.{find}
-use Rattle.watch_expr.specs.Lexing.{is_blank}
+use Rattle.expression_text.specs.Lexing.{is_blank}
 use Rattle.shell_lines.specs.Meaning.{is_silent}
 
 some_by : (t : Bool) (b first : ℕ) (found : Option ℕ) (silent : Bool) → Some first ≡ cond (not t) (Some b) found → (Some first ≡ found → nat_eq first 35 ≡ silent) → nat_eq first 35 ≡ cond t silent (nat_eq b 35)

@@ -6,11 +6,11 @@ use Rattle.std.proofs.lemmas.List.{take-append-drop}
 use Rattle.expression_text.specs.declared.error.ExprError.{ExprError}
 use Rattle.expression_text.specs.declared.expr.Expr.{Expr}
 use Rattle.expression_text.specs.declared.error.ExprError.TheVariants.{Syntax, NoNode, TooDeep, Nested, NoMemory}
-use Rattle.watch_expr.specs.Computed.{expression_spelled, viable_tokens}
-use Rattle.watch_expr.specs.Grammar.{IsExpr, ParsedExpr, TakesExpr}
-use Rattle.watch_expr.specs.Laws.{ExactReading}
-use Rattle.watch_expr.specs.Lexing.{LexedLine, token_texts}
-use Rattle.watch_expr.specs.Expression.{Expression, expression_of}
+use Rattle.expression_text.specs.Computed.{expression_spelled, viable_tokens}
+use Rattle.expression_text.specs.Grammar.{IsExpr, ParsedExpr, TakesExpr}
+use Rattle.expression_text.specs.Laws.{ExactReading}
+use Rattle.expression_text.specs.Lexing.{LexedLine, token_texts}
+use Rattle.expression_text.specs.Expression.{Expression, expression_of}
 use Rattle.shell_lines.specs.Lines.{expression_and_end, expression_before, expression_from, expression_or_at}
 use Rattle.shell_lines.specs.Reads.{ReadsAs}
 

@@ -3,10 +3,10 @@ use Rattle.std.proofs.Common.{◌≡◌, ℕ, zero, suc, ◌+◌, ◌<◌, ◌�
 use Rattle.std.proofs.Math.Seq.{drop-append_seam}
 use Rattle.std.proofs.lemmas.List.{length-append, length-take-le, take-append-drop}
 use Rattle.std.specs.Prelude.{codes}
-use Rattle.watch_expr.specs.Computed.{expression_spelled, viable_tokens}
-use Rattle.watch_expr.specs.Expression.{Expression, Var}
-use Rattle.watch_expr.specs.Grammar.{BeginsExpr, IsExpr}
-use Rattle.watch_expr.specs.Laws.{ExactReading}
+use Rattle.expression_text.specs.Computed.{expression_spelled, viable_tokens}
+use Rattle.expression_text.specs.Expression.{Expression, Var}
+use Rattle.expression_text.specs.Grammar.{BeginsExpr, IsExpr}
+use Rattle.expression_text.specs.Laws.{ExactReading}
 use Rattle.shell_lines.specs.Grammar.{IsCondition, left_out, given}
 use Rattle.shell_lines.specs.Lines.{LineCommand, Watch, condition_from, expression_and_end, expression_before, then_takes}
 use Rattle.shell_lines.proofs.TokenForms.{Form, Stop, Tokens}

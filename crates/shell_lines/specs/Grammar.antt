@@ -2,9 +2,9 @@
 use Rattle.std.specs.Prelude.{◌≡◌, ℕ, ◌+◌, ◌≤◌, ◌<◌, true, codes, List, [], ◌∷◌, ◌++◌, length, take, Option, Some, None}
 use Rattle.call_table.specs.Table.{row}
 use Rattle.call_table.specs.declared.kind.Kind.{Kind}
-use Rattle.watch_expr.specs.Expression.{Expression}
-use Rattle.watch_expr.specs.Grammar.{IsExpr}
-use Rattle.watch_expr.specs.Spelling.{is_word, number_of}
+use Rattle.expression_text.specs.Expression.{Expression}
+use Rattle.expression_text.specs.Grammar.{IsExpr}
+use Rattle.expression_text.specs.Spelling.{is_word, number_of}
 use Rattle.embed_cmds.specs.Grammar.{IsProgram}
 use Rattle.embed_cmds.specs.Tree.{Statements}
 use Rattle.shell_lines.specs.Limits.{most_shown_bytes, most_shown_events, greatest_thread}

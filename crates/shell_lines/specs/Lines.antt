@@ -1,12 +1,12 @@
 -- The commands that lines spell.
 use Rattle.std.specs.Prelude.{ℕ, ◌+◌, ◌-◌, Bool, false, ◌&&◌, ◌||◌, nat_le, is_none, List, [], ◌∷◌, length, take, drop, codes, bytes_eq, position, slice_get, Option, Some, None, option_and_then, option_map, Result, Ok, Err, if◌then◌else◌}
 use Rattle.std.specs.List.{find}
-use Rattle.watch_expr.specs.Computed.{expression_spelled, viable_tokens}
+use Rattle.expression_text.specs.Computed.{expression_spelled, viable_tokens}
 use Rattle.call_table.specs.Table.{kind_named}
 use Rattle.call_table.specs.declared.kind.Kind.{Kind}
-use Rattle.watch_expr.specs.Faulty.{is_nested, lacks_node, lacks_some_node, names_variable}
-use Rattle.watch_expr.specs.Spelling.{is_word, most_number, number_of}
-use Rattle.watch_expr.specs.Expression.{Expression}
+use Rattle.expression_text.specs.Faulty.{is_nested, lacks_node, lacks_some_node, names_variable}
+use Rattle.expression_text.specs.Spelling.{is_word, most_number, number_of}
+use Rattle.expression_text.specs.Expression.{Expression}
 use Rattle.embed_cmds.specs.Faulty.{lacks_names, nests_aggregates}
 use Rattle.embed_cmds.specs.Reading.{program_of, word_of}
 use Rattle.embed_cmds.specs.Tree.{Statements}

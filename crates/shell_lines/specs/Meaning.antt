@@ -2,8 +2,8 @@
 use Rattle.std.specs.Prelude.{ℕ, ◌+◌, Bool, true, nat_lt, ◌==◌, List, [], ◌∷◌, length, Result, Ok, Err, if◌then◌else◌}
 use Rattle.std.specs.List.{list_all}
 use Rattle.shell_lines.specs.Limits.{most_line}
-use Rattle.watch_expr.specs.Computed.{cut_tokens}
-use Rattle.watch_expr.specs.Lexing.{LexedLine, PlacedToken, column_of_token, is_blank, is_too_deep, token_texts}
+use Rattle.expression_text.specs.Computed.{cut_tokens}
+use Rattle.expression_text.specs.Lexing.{LexedLine, PlacedToken, column_of_token, is_blank, is_too_deep, token_texts}
 use Rattle.shell_lines.specs.Lines.{LineCommand, command_spelled, has_nested, names_none, watches_variable}
 use Rattle.shell_lines.specs.declared.refusal.LineRefusal.{LineRefusal}
 use Rattle.shell_lines.specs.declared.refusal.LineRefusal.TheVariants as refusal

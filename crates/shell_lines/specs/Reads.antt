@@ -2,7 +2,7 @@
 use Rattle.std.specs.Prelude.{◌≡◌, ℕ, Result, Ok, Err}
 use Rattle.expression_text.specs.declared.error.ExprError.{ExprError}
 use Rattle.expression_text.specs.declared.error.ExprError.TheVariants.{Syntax, NoNode, TooDeep, Nested, NoMemory}
-use Rattle.watch_expr.specs.Lexing.{LexedLine, column_of_token}
+use Rattle.expression_text.specs.Lexing.{LexedLine, column_of_token}
 
 -- what was read of tokens: what there is to read, or the column of the token that is none such; or want of memory
 abbrev pub ReadsAs : {A B : Type 0} → (A → B) → LexedLine → Result B ℕ → Result A ExprError → Type 0

@@ -1,7 +1,7 @@
 -- The line, and the command, that the values of the code spell.
 use Rattle.std.specs.Prelude.{Option, option_map}
 use Rattle.expression_text.specs.declared.expr.Expr.{Expr}
-use Rattle.watch_expr.specs.Expression.{Expression, expression_of}
+use Rattle.expression_text.specs.Expression.{Expression, expression_of}
 use Rattle.embed_cmds.specs.Tree.{program_body}
 use Rattle.shell_lines.specs.declared.command.DebuggerCommand.{DebuggerCommand as Spelled}
 use Rattle.shell_lines.specs.declared.command.DebuggerCommand.TheVariants as spelled

@@ -6,9 +6,9 @@ ghost use Rattle.shell_lines.specs.Meaning.{is_silent, judged_command, line_mean
 ghost use Rattle.shell_lines.specs.declared.line.Line.TheVariants.{Silent};
 ghost use Rattle.shell_lines.specs.inside.Reading.{SpellsCommand};
 ghost use Rattle.shell_lines.specs.Spelled.{command, condition as condition_meant, meaning, scope};
-ghost use Rattle.watch_expr.specs.Expression.{expression_of};
-ghost use Rattle.watch_expr.specs.Faulty.{is_nested, lacks_node, names_variable};
-ghost use Rattle.watch_expr.specs.Lexing.{is_blank};
+ghost use Rattle.expression_text.specs.Expression.{expression_of};
+ghost use Rattle.expression_text.specs.Faulty.{is_nested, lacks_node, names_variable};
+ghost use Rattle.expression_text.specs.Lexing.{is_blank};
 
 use crate::command::{DebuggerCommand, WhichNodes};
 use crate::refusal::LineRefusal;

@@ -5,8 +5,8 @@ ghost use Rattle.shell_lines.specs.Lines.{calls_named, condition_from, count_or,
 ghost use Rattle.shell_lines.specs.Reads.{ReadsAs};
 ghost use Rattle.shell_lines.specs.inside.Reading.{ReadsCommand};
 ghost use Rattle.shell_lines.specs.Spelled.{command, condition, scope};
-ghost use Rattle.watch_expr.specs.Lexing.{token_texts};
-ghost use Rattle.watch_expr.specs.Expression.{expression_of};
+ghost use Rattle.expression_text.specs.Lexing.{token_texts};
+ghost use Rattle.expression_text.specs.Expression.{expression_of};
 
 use crate::command::{DebuggerCommand, WhichNodes};
 use fri_bytes::Bytes;

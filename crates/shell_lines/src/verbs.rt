@@ -4,7 +4,7 @@ ghost use Rattle.shell_lines.specs.Lines.{command_of_verb, command_spelled, cont
 ghost use Rattle.shell_lines.specs.declared.command.Verb.TheVariants as verb;
 ghost use Rattle.shell_lines.specs.Reads.{ReadsAs};
 ghost use Rattle.shell_lines.specs.inside.Reading.{ReadsCommand};
-ghost use Rattle.watch_expr.specs.Lexing.{token_texts};
+ghost use Rattle.expression_text.specs.Lexing.{token_texts};
 
 use crate::command::{DebuggerCommand, Verb};
 use crate::read::{

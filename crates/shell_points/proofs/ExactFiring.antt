@@ -11,7 +11,7 @@ use Rattle.embed_cmds.specs.Tree.{Statements}
 use Rattle.embed_cmds.specs.Variables.{Variable}
 use Rattle.page_watch.specs.Firing.{is_same_value}
 use Rattle.proc_replay.specs.Replaying.{Replaying}
-use Rattle.watch_expr.specs.Expression.{Expression}
+use Rattle.expression_text.specs.Expression.{Expression}
 use Rattle.watch_expr.specs.Value.{equal, is_zero}
 use Rattle.shell_points.specs.Firing.{condition_value, firing_line, firing_lines, has_due_point, is_due_at, is_due_point, meets_condition, place_at, point_said_at, value_at_position}
 use Rattle.shell_points.specs.Laws.{ExactFiring, IsContinuedTo, IsLastDue, IsNextDue, NoPointBelow, ends, stops}

@@ -12,7 +12,7 @@ use Rattle.group_state.specs.Nodes.{nodes_at}
 use Rattle.group_state.specs.Touch.{is_met_by_event, mark_of_place, watch_ticks, is_touched_at}
 use Rattle.watch_expr.specs.declared.reads.Place.{Place as Location}
 use Rattle.expression_text.specs.declared.expr.Expr.{Expr}
-use Rattle.watch_expr.specs.Expression.{Expression, expression_of}
+use Rattle.expression_text.specs.Expression.{Expression, expression_of}
 use Rattle.watch_expr.specs.Reads.{no_variables, reads_of_expression}
 use Rattle.watch_expr.specs.Value.{value}
 use Rattle.page_watch.specs.Touch.{meets}

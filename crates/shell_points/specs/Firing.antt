@@ -9,7 +9,7 @@ use Rattle.proc_replay.specs.Replaying.{Replaying}
 use Rattle.group_state.specs.Moves.{last_event_of}
 use Rattle.group_state.specs.Place.{GroupPlace}
 use Rattle.group_state.specs.Nodes.{nodes_at}
-use Rattle.watch_expr.specs.Expression.{Expression}
+use Rattle.expression_text.specs.Expression.{Expression}
 use Rattle.watch_expr.specs.Reads.{no_variables}
 use Rattle.watch_expr.specs.Value.{value, value_in_event}
 use Rattle.embed_cmds.specs.Running.{is_nonzero, value_word}

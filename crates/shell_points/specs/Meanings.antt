@@ -1,7 +1,7 @@
 -- The trigger and the condition of a point of the code, and where the walks of the code end.
 use Rattle.std.specs.Prelude.{◌≡◌, ℕ, List, Option, option_map}
 use Rattle.expression_text.specs.declared.expr.Expr.{Expr}
-use Rattle.watch_expr.specs.Expression.{Expression, expression_of}
+use Rattle.expression_text.specs.Expression.{Expression, expression_of}
 use Rattle.group_state.specs.Place.{GroupPlace}
 use Rattle.embed_cmds.specs.Variables.{Variable}
 use Rattle.shell_points.specs.declared.point.Trigger.{Trigger as HeldTrigger}

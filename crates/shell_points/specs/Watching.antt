@@ -1,7 +1,7 @@
 -- What points read on a walk, by the watches of those that are watchpoints.
 use Rattle.std.specs.Prelude.{List, [], ◌∷◌}
 use Rattle.std.specs.List.{flat_map}
-use Rattle.watch_expr.specs.Expression.{Expression}
+use Rattle.expression_text.specs.Expression.{Expression}
 use Rattle.shell_points.specs.Points.{Break, Point, Trigger, Watch}
 
 -- the expression of a watchpoint

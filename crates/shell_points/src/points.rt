@@ -29,7 +29,7 @@ pub struct Points {
 impl Model for Points {
     ghost use Rattle.std.specs.Prelude.{List};
     ghost use Rattle.std.specs.Coded.{codes};
-    ghost use Rattle.watch_expr.specs.Coding.{expression_code};
+    ghost use Rattle.expression_text.specs.Coding.{expression_code};
     ghost use Rattle.embed_cmds.specs.Coding.{statements_code};
     ghost use Rattle.shell_points.specs.Points.{Point};
 

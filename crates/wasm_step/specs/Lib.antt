@@ -5,10 +5,3 @@ pub mod Pause
 pub mod Reduce
 pub mod Strand
 pub mod inside
-pub use Rattle.wasm_stack.specs.After
-pub use Rattle.wasm_stack.specs.Thread
-pub use Rattle.wasm_store.specs.Marks
-pub use Rattle.wasm_store.specs.Start
-pub use Rattle.wasm_store.specs.Store
-pub use Rattle.wasm_store.specs.Suits
-pub use Rattle.wasm_values.specs.Values

@@ -4,8 +4,3 @@ pub mod Start
 pub mod Store
 pub mod Suits
 pub mod inside
-pub use Rattle.guest_memory.specs.LittleEndian
-pub use Rattle.guest_memory.specs.Memory
-pub use Rattle.wasm_types.specs.Coding
-pub use Rattle.wasm_types.specs.Functions
-pub use Rattle.wasm_values.specs.Values

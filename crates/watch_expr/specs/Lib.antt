@@ -2,11 +2,3 @@ pub mod Reads
 pub mod Value
 pub mod View
 pub mod inside
-pub use Rattle.expression_text.specs.Coding
-pub use Rattle.expression_text.specs.Computed
-pub use Rattle.expression_text.specs.Expression
-pub use Rattle.expression_text.specs.Faulty
-pub use Rattle.expression_text.specs.Grammar
-pub use Rattle.expression_text.specs.Laws
-pub use Rattle.expression_text.specs.Lexing
-pub use Rattle.expression_text.specs.Spelling

@@ -2,7 +2,7 @@
 use Rattle.std.specs.Prelude.{◌≡◌, ℕ, drop, Result, Ok, Err}
 use Rattle.expression_text.specs.declared.error.ExprError.{ExprError}
 use Rattle.expression_text.specs.declared.error.ExprError.TheVariants.{Syntax, NoNode, TooDeep, Nested, NoMemory}
-use Rattle.watch_expr.specs.Lexing.{LexedLine, token_texts}
+use Rattle.expression_text.specs.Lexing.{LexedLine, token_texts}
 use Rattle.embed_cmds.specs.Reading.{LeftTokens, ReadOfTokens}
 use Rattle.embed_cmds.specs.Parsing.{column_of}
 

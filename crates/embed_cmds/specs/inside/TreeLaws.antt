@@ -2,7 +2,7 @@
 use Rattle.std.proofs.Common.{◌≡◌, refl, ap, ◌∙◌}
 use Rattle.std.specs.Global.{Vec}
 use Rattle.expression_text.specs.declared.expr.Expr.{Expr}
-use Rattle.watch_expr.specs.Expression.{expression_of}
+use Rattle.expression_text.specs.Expression.{expression_of}
 use Rattle.embed_cmds.specs.declared.program.Stmt.{Stmt, Row_of-Stmt, end_of-Stmt, more_of-Stmt, items-the_row-Stmt, items_hidden-the_row-Stmt-0}
 use Rattle.embed_cmds.specs.declared.program.Stmt.TheBlock.{hidden-the_row-Stmt-0}
 use Rattle.embed_cmds.specs.declared.program.Stmt.TheVariants as stmt

@@ -2,7 +2,7 @@
 use Rattle.std.specs.Prelude.{◌≡◌}
 use Rattle.guest_process.specs.declared.body.Body.{Body}
 use Rattle.wasm_types.specs.Modules.{module_of}
-use Rattle.wasm_step.specs.Suits.{SuitsModule}
+use Rattle.wasm_store.specs.Suits.{SuitsModule}
 use Rattle.guest_process.specs.State.{State}
 use Rattle.guest_process.specs.Fits.{StateFits}
 use Rattle.guest_process.specs.Sound.{IsSoundProcess}

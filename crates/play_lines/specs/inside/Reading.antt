@@ -2,8 +2,8 @@
 use Rattle.std.specs.Prelude.{◌≡◌, ℕ, Result, Ok, Err, List}
 use Rattle.expression_text.specs.declared.error.ExprError.{ExprError}
 use Rattle.expression_text.specs.declared.error.ExprError.TheVariants.{Syntax, NoNode, TooDeep, Nested, NoMemory}
-use Rattle.watch_expr.specs.Computed.{cut_tokens}
-use Rattle.watch_expr.specs.Lexing.{LexedLine, column_of_token}
+use Rattle.expression_text.specs.Computed.{cut_tokens}
+use Rattle.expression_text.specs.Lexing.{LexedLine, column_of_token}
 use Rattle.shell_lines.specs.declared.refusal.LineRefusal.TheVariants as line
 use Rattle.play_lines.specs.Lines.{PlayCommand}
 use Rattle.play_lines.specs.Meaning.{Refuses, judged_play, play_by_cut}

@@ -2,9 +2,9 @@
 use Rattle.std.specs.Prelude.{◌≡◌, ℕ, Result, Ok, Err, true, false, List}
 use Rattle.expression_text.specs.declared.error.ExprError.{ExprError}
 use Rattle.expression_text.specs.declared.error.ExprError.TheVariants.{Syntax, NoNode, TooDeep, Nested, NoMemory}
-use Rattle.watch_expr.specs.Lexing.{LexedLine, column_of_token}
+use Rattle.expression_text.specs.Lexing.{LexedLine, column_of_token}
 use Rattle.shell_lines.specs.declared.command.DebuggerCommand.{DebuggerCommand as Spelled}
-use Rattle.watch_expr.specs.Computed.{cut_tokens}
+use Rattle.expression_text.specs.Computed.{cut_tokens}
 use Rattle.shell_lines.specs.declared.refusal.LineRefusal.TheVariants as refusal
 use Rattle.shell_lines.specs.Lines.{LineCommand, has_nested, names_none}
 use Rattle.shell_lines.specs.Spelled.{command}

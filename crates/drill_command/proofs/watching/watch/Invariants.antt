@@ -1,6 +1,6 @@
 use Rattle.std.proofs.Common.{◌≡◌, ◌-◌, length}
 use Rattle.group_state.specs.Place.{events_of_replays}
-use Rattle.watch_expr.specs.Expression.{expression_of}
+use Rattle.expression_text.specs.Expression.{expression_of}
 use Rattle.drill_command.specs.Drill.{drill_watch}
 use Rattle.drill_command.proofs.PositionWalk.{WalkedTo}
 use Rattle.drill_command.proofs.watching.watch.Given as goal

@@ -1,7 +1,7 @@
 use Rattle.std.proofs.Common.{codes, drop, map, refl, sym, subst, ◌∙◌, ◌-◌, arith}
 use Rattle.std.specs.Global.{Vec}
 use Rattle.std.proofs.lemmas.Result.{err_from_is_err_and}
-use Rattle.watch_expr.specs.Lexing.{token_texts}
+use Rattle.expression_text.specs.Lexing.{token_texts}
 use Rattle.embed_cmds.specs.declared.program.Stmt.{Stmt}
 use Rattle.embed_cmds.specs.inside.Parsed.{ReadAsTokens}
 use Rattle.embed_cmds.specs.Reading.{ReadOfTokens, program_in, separated_items, statement}

@@ -1,5 +1,5 @@
 use Rattle.std.proofs.Common.{◌≤◌, ◌+◌, ◌-◌, ◌*◌, codes, drop, length, map}
-use Rattle.watch_expr.specs.Lexing.{token_texts}
+use Rattle.expression_text.specs.Lexing.{token_texts}
 use Rattle.embed_cmds.specs.Reading.{program_in, statement}
 use Rattle.embed_cmds.specs.Tree.{statement_of}
 use Rattle.embed_cmds.proofs.ReadSeparated.{Reached}

@@ -1,6 +1,6 @@
 use Rattle.std.proofs.Common.{sym, ◌∙◌, arith, drop}
 use Rattle.std.proofs.lemmas.Result.{err_from_is_err_and}
-use Rattle.watch_expr.specs.Lexing.{token_texts}
+use Rattle.expression_text.specs.Lexing.{token_texts}
 use Rattle.embed_cmds.specs.Tree.{statements}
 use Rattle.embed_cmds.proofs.ReadPrograms.{read_all, read_less, stopped}
 use Rattle.embed_cmds.proofs.ReadTokens.{column_here}

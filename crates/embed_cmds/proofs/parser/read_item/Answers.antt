@@ -1,7 +1,7 @@
 use Rattle.std.proofs.Common.{List, ℕ, Some, drop, sym, ap, ◌∙◌}
 use Rattle.std.proofs.lemmas.Result.{err_from_is_err_and}
-use Rattle.watch_expr.specs.Lexing.{token_texts}
-use Rattle.watch_expr.specs.Expression.{expression_of}
+use Rattle.expression_text.specs.Lexing.{token_texts}
+use Rattle.expression_text.specs.Expression.{expression_of}
 use Rattle.embed_cmds.specs.Reading.{ReadOfTokens, expression, then_reads}
 use Rattle.embed_cmds.specs.Tree.{item_of}
 use Rattle.embed_cmds.proofs.ReadSteps.{as_value, item_node, item_value, item_words, refused_first}

@@ -1,7 +1,7 @@
 use Rattle.std.proofs.Common.{codes, drop, map, refl, sym, ◌∙◌, arith}
 use Rattle.std.specs.Global.{Vec}
 use Rattle.std.proofs.lemmas.Result.{err_from_is_err_and}
-use Rattle.watch_expr.specs.Lexing.{token_texts}
+use Rattle.expression_text.specs.Lexing.{token_texts}
 use Rattle.embed_cmds.specs.declared.program.SayItem.{SayItem}
 use Rattle.embed_cmds.specs.Reading.{item}
 use Rattle.embed_cmds.specs.Tree.{item_of}

@@ -1,5 +1,5 @@
 use Rattle.std.proofs.Common.{Ok, drop, sym, ap, ◌∙◌}
-use Rattle.watch_expr.specs.Lexing.{token_texts}
+use Rattle.expression_text.specs.Lexing.{token_texts}
 use Rattle.embed_cmds.specs.Reading.{LeftTokens}
 use Rattle.embed_cmds.proofs.ReadTokens.{column_here, drop_one, goes, stays}
 use Rattle.embed_cmds.proofs.token.expect.Goals as goal

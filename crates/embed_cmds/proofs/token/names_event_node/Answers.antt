@@ -1,6 +1,6 @@
 use Rattle.std.proofs.Common.{◌∙◌, ◌+◌, ◌&&◌, Bool, ap, codes, drop, not, refl, sym}
 use Rattle.std.specs.Result.{is_ok}
-use Rattle.watch_expr.specs.Lexing.{token_texts}
+use Rattle.expression_text.specs.Lexing.{token_texts}
 use Rattle.embed_cmds.specs.Reading.{after_token}
 use Rattle.embed_cmds.proofs.ReadTokens.{node_from}
 use Rattle.embed_cmds.proofs.token.names_event_node.Goals as goal

@@ -1,5 +1,5 @@
 use Rattle.std.proofs.Common.{sym}
-use Rattle.watch_expr.specs.Lexing.{token_texts}
+use Rattle.expression_text.specs.Lexing.{token_texts}
 use Rattle.embed_cmds.specs.Reading.{keyword_of}
 use Rattle.embed_cmds.proofs.ReadTokens.{not_taken, taken}
 use Rattle.embed_cmds.proofs.token.read_keyword.Goals as goal

@@ -1,5 +1,5 @@
 use Rattle.std.proofs.Common.{List, ℕ, Some, sym, ap, ◌∙◌}
-use Rattle.watch_expr.specs.Lexing.{token_texts}
+use Rattle.expression_text.specs.Lexing.{token_texts}
 use Rattle.embed_cmds.specs.Reading.{word_of}
 use Rattle.embed_cmds.proofs.ReadTokens.{not_taken, taken}
 use Rattle.embed_cmds.proofs.token.read_word.Goals as goal

@@ -1,6 +1,6 @@
 use Rattle.std.proofs.Common.{ap, bytes_eq, sym, ◌∙◌}
 use Rattle.std.proofs.lemmas.Option.{slice_get_within}
-use Rattle.watch_expr.specs.Lexing.{token_texts}
+use Rattle.expression_text.specs.Lexing.{token_texts}
 use Rattle.embed_cmds.proofs.ReadTokens.{stands_here, stands_nowhere}
 use Rattle.embed_cmds.proofs.token.stands.Goals as goal
 

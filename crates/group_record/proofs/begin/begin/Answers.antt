@@ -1,6 +1,5 @@
-use Rattle.std.proofs.Common.{◌≡◌, ◌∙◌, List, length, map, sym, subst}
+use Rattle.std.proofs.Common.{◌≡◌, ◌∙◌, List, length, map, sym, subst, Vec}
 use Rattle.std.specs.Prelude.{Ok, Err}
-use Rattle.std.proofs.Common.{Vec}
 use Rattle.std.specs.Global.{Global}
 use Rattle.std.proofs.lemmas.Result.{err_from_is_err_and}
 use Rattle.schedule_text.specs.declared.process.ProcessLine.{ProcessLine}

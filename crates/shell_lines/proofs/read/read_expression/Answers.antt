@@ -1,8 +1,8 @@
 use Rattle.std.proofs.Common.{◌<◌, ◌≤◌, length, arith, inr}
 use Rattle.std.proofs.lemmas.List.{length-map}
 use Rattle.std.proofs.lemmas.Result.{err_from_is_err_and}
-use Rattle.watch_expr.specs.Lexing.{token_texts}
-use Rattle.watch_expr.specs.Expression.{expression_of}
+use Rattle.expression_text.specs.Lexing.{token_texts}
+use Rattle.expression_text.specs.Expression.{expression_of}
 use Rattle.shell_lines.proofs.ViableTokens.{refused_as, stops_at, whole_is}
 use Rattle.shell_lines.proofs.read.read_expression.Goals as goal
 

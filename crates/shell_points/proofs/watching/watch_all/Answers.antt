@@ -1,5 +1,5 @@
 use Rattle.std.proofs.Common.{◌<◌, ◌++◌, List, length, sym, ap, ◌∙◌, arith}
-use Rattle.watch_expr.specs.Expression.{Expression}
+use Rattle.expression_text.specs.Expression.{Expression}
 use Rattle.shell_points.specs.inside.Meanings.{point}
 use Rattle.shell_points.specs.Watching.{expressions_of}
 use Rattle.shell_points.proofs.PointReads.{watched_next}

@@ -1,5 +1,4 @@
-use Rattle.std.proofs.Common.{List, [], length, map, subst, arith}
-use Rattle.std.proofs.Common.{Vec}
+use Rattle.std.proofs.Common.{List, [], length, map, subst, arith, Vec}
 use Rattle.std.specs.Prelude.{Ok, Err}
 use Rattle.std.specs.Global.{Global}
 use Rattle.std.proofs.lemmas.List.{length-map}

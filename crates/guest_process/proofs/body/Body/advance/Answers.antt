@@ -1,6 +1,6 @@
 use Rattle.std.proofs.Common.{ap, arith, subst, sym, ◌∙◌}
 use Rattle.lib_calls.specs.Entry.{entry_of}
-use Rattle.wasm_step.specs.Suits.{SuitsModule}
+use Rattle.wasm_store.specs.Suits.{SuitsModule}
 use Rattle.guest_process.specs.inside.Meanings.{state_of}
 use Rattle.guest_process.proofs.EventCounts.{counts}
 use Rattle.guest_process.proofs.EventMarks.{numbered_suits}
