@@ -2,7 +2,7 @@
 use Rattle.std.proofs.Common.{◌≡◌, ◌≢◌, ℕ, List, Some, None, refl, ap}
 use Rattle.std.specs.Prelude.{option_and_then}
 use Rattle.wasm_types.specs.Modules.{Module}
-use Rattle.wasm_types.specs.Valid.{IsValid}
+use Rattle.guest_module.specs.Valid.{IsValid}
 use Rattle.wasm_validate.specs.declared.invalid.Invalid.{Invalid}
 use Rattle.wasm_validate.specs.declared.invalid.Invalid.TheVariants as invalid
 use Rattle.wasm_validate.specs.Fault.{ExactFault}

@@ -5,7 +5,7 @@ use Rattle.fri_outside.specs.Laws.{KeepsFiles}
 use Rattle.fri_outside.specs.Outside.{Folder, found_within}
 use Rattle.wasm_types.specs.Floats.{is_with_floats}
 use Rattle.wasm_types.specs.Modules.{Module}
-use Rattle.wasm_types.specs.Valid.{IsValid, has_no_start, is_over_limit}
+use Rattle.guest_module.specs.Valid.{IsValid, has_no_start, is_over_limit}
 use Rattle.wasm_decode.specs.Grammar.{SpellsModule}
 use Rattle.wasm_decode.specs.Sections.{module_of_bytes}
 use Rattle.wasm_validate.specs.Fault.{ExactFault, fault}

@@ -2,7 +2,7 @@
 use Rattle.std.specs.Prelude.{◌≡◌, ℕ, List, Ok}
 use Rattle.fri_outside.specs.Outside.{Folder}
 use Rattle.wasm_types.specs.Modules.{Module}
-use Rattle.wasm_types.specs.Valid.{IsValid}
+use Rattle.guest_module.specs.Valid.{IsValid}
 use Rattle.command_run.specs.Inputs.{module_in}
 use Rattle.command_run.specs.Outcome.{file_of}
 use Rattle.command_run.specs.Valid.{IsFileWithin, IsModuleFile}

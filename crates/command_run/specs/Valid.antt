@@ -3,7 +3,7 @@ use Rattle.std.specs.Prelude.{◌≡◌, ℕ, ◌≤◌, List, length, Some}
 use Rattle.std.specs.FinMap.{get}
 use Rattle.fri_outside.specs.Outside.{Folder}
 use Rattle.wasm_types.specs.Modules.{Module}
-use Rattle.wasm_types.specs.Valid.{IsValid as IsValidModule}
+use Rattle.guest_module.specs.Valid.{IsValid as IsValidModule}
 use Rattle.wasm_decode.specs.Grammar.{SpellsModule}
 use Rattle.guest_process.specs.Start.{start}
 use Rattle.guest_process.specs.State.{State}

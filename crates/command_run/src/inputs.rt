@@ -11,11 +11,12 @@ ghost use Rattle.command_run.specs.Call.{CountsFaults, RaisesCount, TellsResult,
 
 use crate::refusal::{Reason, StopCause};
 use fri_outside::{FileError, Files};
+use guest_module::ValidModule;
 use guest_process::Process;
 use std::alloc::Global;
 use wasm_decode::{DecodeError, decode};
 use wasm_step::StartError;
-use wasm_types::{Module, ValidModule};
+use wasm_types::Module;
 use wasm_validate::{Invalid, validate};
 
 const MOST_MODULE: usize = 4_194_304;

@@ -10,8 +10,8 @@ ghost use Rattle.command_run.specs.Kept.{AreOfFiles, has_file};
 use crate::inputs::take_module;
 use crate::refusal::StopCause;
 use fri_outside::Files;
+use guest_module::SharedModule;
 use std::alloc::{AllocError, Global};
-use wasm_types::SharedModule;
 
 /// A module, and the name of its file.
 #[derive(Drop)]

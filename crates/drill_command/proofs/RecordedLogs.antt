@@ -10,7 +10,7 @@ use Rattle.fri_outside.specs.Memory.{FilesInMemory}
 use Rattle.fri_outside.specs.Outside.{Folder}
 use Rattle.fri_outside.specs.Several.{AddsFiles, AreApartNames, with_files}
 use Rattle.wasm_types.specs.Modules.{Module}
-use Rattle.wasm_types.specs.Valid.{IsValid}
+use Rattle.guest_module.specs.Valid.{IsValid}
 use Rattle.wasm_validate.specs.Fault.{ExactFault}
 use Rattle.schedule_text.specs.Drill.{drill_schedule}
 use Rattle.schedule_text.specs.Schedule.{IsInRange, IsSchedule, Schedule}

@@ -8,8 +8,8 @@ ghost use Rattle.drill_command.specs.inside.Results.{HasAllRounds, StopsDrill};
 use command_run::{Reason, StopCause};
 use fri_outside::MemFiles;
 use group_record::{RecordError, run_record};
+use guest_module::SharedModule;
 use std::alloc::Global;
-use wasm_types::SharedModule;
 
 /// The logs of a recording, and how many of its tries and items were idle.
 #[derive(Drop)]

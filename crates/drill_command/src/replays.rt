@@ -12,11 +12,11 @@ ghost use Rattle.drill_command.specs.inside.Results.{HoldLogs};
 
 use call_log::LogView;
 use fri_outside::MemFiles;
+use guest_module::ValidModule;
 use guest_process::Process;
 use proc_replay::Replayer;
 use std::alloc::{AllocError, Global};
 use wasm_step::StartError;
-use wasm_types::ValidModule;
 
 const RING_PROCESSES: u32 = 4;
 

@@ -5,10 +5,10 @@ ghost use Rattle.wasm_types.specs.Modules.{func, func_type, import_of, module_of
 ghost use Rattle.drill_command.specs.Drill.{drill_modules};
 ghost use Rattle.drill_command.specs.Ring.{add_32, add_64, and_32, eqz, ring_hand_on, library_call, load_64, ring_module, ring_body, ring_types, ring_send_first, store_64};
 
+use guest_module::{SharedModule, claim};
 use std::alloc::{AllocError, Global};
 use wasm_types::{
-    Export, ExportDesc, Func, FuncType, Import, ImportDesc, Instr, Limits, Module, SharedModule,
-    ValType, claim,
+    Export, ExportDesc, Func, FuncType, Import, ImportDesc, Instr, Limits, Module, ValType,
 };
 
 const ME: u32 = 0;

@@ -8,7 +8,7 @@ use Rattle.fri_text.specs.Name.{is_name}
 use Rattle.schedule_text.specs.declared.process.ProcessLine.{ProcessLine}
 use Rattle.schedule_text.specs.Schedule.{IsInRange, IsProcess}
 use Rattle.wasm_types.specs.Modules.{Module}
-use Rattle.wasm_types.specs.Valid.{IsValid}
+use Rattle.guest_module.specs.Valid.{IsValid}
 use Rattle.guest_process.specs.Start.{start}
 use Rattle.guest_process.specs.State.{State}
 use Rattle.group_record.specs.Run.{processes_in_group}

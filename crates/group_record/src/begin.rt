@@ -15,9 +15,9 @@ use crate::prints::Prints;
 use crate::recorder::Recorder;
 use fri_outside::Files;
 use group_world::World;
+use guest_module::SharedModule;
 use schedule_text::{ProcessLine, Schedule};
 use std::alloc::{AllocError, Global};
-use wasm_types::SharedModule;
 
 /// Begins all processes and their logs. What the processes print is kept for the images, if they are asked for.
 pub(crate) fn begin<'m, F: Files>(

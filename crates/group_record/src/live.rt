@@ -10,11 +10,11 @@ use crate::error::RecordError;
 use crate::parts::Parts;
 use crate::tried::Tried;
 use group_world::SentBytes;
+use guest_module::SharedModule;
 use guest_process::Process;
 use schedule_text::{Item, Schedule};
 use std::alloc::{AllocError, Global};
 use std::marker::Model;
-use wasm_types::SharedModule;
 
 /// A group that goes on try by try. No log is kept, but the size of each is, so that no event is made for which a
 /// log would have no room. Contracts see its processes, the world around them and what they printed

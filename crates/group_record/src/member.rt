@@ -17,13 +17,13 @@ ghost use Rattle.group_record.specs.Files.{change};
 use crate::error::RecordError;
 use call_log::{LogHead, MOST_LOG, Version, put_entry, put_head};
 use fri_outside::Files;
+use guest_module::ValidModule;
 use guest_process::Process;
 use lib_calls::EntryView;
 use process_files::process_file;
 use schedule_text::ProcessLine;
 use std::alloc::{AllocError, Global};
 use wasm_step::StartError;
-use wasm_types::ValidModule;
 
 /// A process with the name of its log's file, the head of the log, how many bytes the log has with it, and the
 /// clock of its last entry, or 0. The process is away while it makes an event.

@@ -9,9 +9,9 @@ use crate::error::RecordError;
 use crate::images::write_images;
 use crate::summary::{Summary, summary_of};
 use fri_outside::Files;
+use guest_module::SharedModule;
 use schedule_text::Schedule;
 use std::alloc::Global;
-use wasm_types::SharedModule;
 
 /// Records the group of a schedule, whose processes are of these modules, one for each. All processes
 /// begin; then the logs are made and their heads written, each in order of the processes; then each

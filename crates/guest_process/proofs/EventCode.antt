@@ -8,7 +8,7 @@ use Rattle.coop_threads.specs.declared.slot.Slot.TheVariants.{Kept, Lent, Over}
 use Rattle.coop_threads.specs.declared.status.Status.TheVariants.{Taken}
 use Rattle.lib_calls.specs.declared.entry.Call.{Call}
 use Rattle.lib_calls.specs.declared.entry.Entry.{Entry}
-use Rattle.wasm_types.specs.Library.{kind_at}
+use Rattle.guest_module.specs.Library.{kind_at}
 use Rattle.wasm_types.specs.Modules.{module_of}
 use Rattle.wasm_types.specs.declared.traps.Trap.TheVariants.{Exhausted, Unreachable}
 use Rattle.wasm_stack.specs.After.{Halt, Calls, Ends, Traps, Sticks}

@@ -5,7 +5,7 @@ use Rattle.call_table.specs.declared.kind.Kind.{Kind}
 use Rattle.lib_calls.specs.Answer.{Answer, answer_of}
 use Rattle.lib_calls.specs.declared.entry.Call.{Call}
 use Rattle.lib_calls.specs.declared.entry.Entry.{Entry}
-use Rattle.wasm_types.specs.Library.{kind_at}
+use Rattle.guest_module.specs.Library.{kind_at}
 use Rattle.wasm_stack.specs.After.{Halt, Calls, Ends, Traps, Sticks}
 use Rattle.wasm_step.specs.Burst.{burst}
 use Rattle.wasm_store.specs.Start.{first_store}

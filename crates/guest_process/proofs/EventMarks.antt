@@ -13,7 +13,7 @@ use Rattle.lib_calls.specs.Answer.{Answer, answer_of}
 use Rattle.lib_calls.specs.Effects.{is_good, minus_two, put_in_memory, with_received, taken, memory_after_answer as memory_with, sender_of}
 use Rattle.lib_calls.specs.declared.entry.Call.{Call}
 use Rattle.lib_calls.specs.declared.entry.Entry.{Entry}
-use Rattle.wasm_types.specs.Library.{kind_at}
+use Rattle.guest_module.specs.Library.{kind_at}
 use Rattle.wasm_types.specs.Modules.{GlobalDef, Module, Segment}
 use Rattle.wasm_types.specs.declared.code.Value.{Value}
 use Rattle.wasm_step.specs.Burst.{burst}

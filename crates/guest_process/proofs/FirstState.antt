@@ -5,8 +5,8 @@ use Rattle.std.specs.List.{list_all, slice_index_or}
 use Rattle.std.proofs.lemmas.Option.{same_Some}
 use Rattle.guest_memory.specs.Laws.{FreshIsUnstamped, NoLaterWhenWritten}
 use Rattle.wasm_types.specs.Modules.{Module, module_of}
-use Rattle.wasm_types.specs.Library.{IsOfLibrary}
-use Rattle.wasm_types.specs.Valid.{IsValid}
+use Rattle.guest_module.specs.Library.{IsOfLibrary}
+use Rattle.guest_module.specs.Valid.{IsValid}
 use Rattle.wasm_store.specs.Start.{first_store, memory_before_segments, empty_table, initial_globals, is_elem_inside, is_segment_inside}
 use Rattle.wasm_store.specs.Store.{Store}
 use Rattle.wasm_step.specs.Strand.{first_thread}

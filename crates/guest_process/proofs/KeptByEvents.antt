@@ -6,7 +6,7 @@ use Rattle.coop_threads.specs.Crew.{most_threads}
 use Rattle.coop_threads.specs.declared.slot.Slot.{Slot}
 use Rattle.coop_threads.specs.declared.slot.Slot.TheVariants.{Kept, Over}
 use Rattle.lib_calls.specs.declared.entry.Call.{Call}
-use Rattle.wasm_types.specs.Library.{kind_at}
+use Rattle.guest_module.specs.Library.{kind_at}
 use Rattle.wasm_types.specs.Modules.{Module}
 use Rattle.wasm_step.specs.Burst.{BurstResult, burst}
 use Rattle.wasm_step.specs.Laws.{KeepsModule}

@@ -8,7 +8,7 @@ use Rattle.lamport_tag.specs.Tag.{clock_of, next_clock_of}
 use Rattle.lib_calls.specs.Answer.{answer_of}
 use Rattle.lib_calls.specs.Entry.{IsNumberIf}
 use Rattle.lib_calls.specs.declared.entry.Entry.{Entry}
-use Rattle.wasm_types.specs.Library.{kind_at}
+use Rattle.guest_module.specs.Library.{kind_at}
 use Rattle.wasm_types.specs.Modules.{Module}
 use Rattle.wasm_step.specs.Laws.{KeepsModule}
 use Rattle.wasm_stack.specs.Thread.{Thread}

@@ -12,7 +12,7 @@ use Rattle.wasm_types.specs.declared.modules.ImportDesc.{ImportDesc}
 use Rattle.wasm_types.specs.declared.modules.ImportDesc.TheVariants as desc
 use Rattle.wasm_types.specs.declared.code.ValType.TheVariants.{I32, I64}
 use Rattle.wasm_types.specs.declared.code.Value.TheVariants as values
-use Rattle.wasm_types.specs.Library.{IsOfLibrary, importable, imported_type_index, kind_at, signature_type, unless_begin}
+use Rattle.guest_module.specs.Library.{IsOfLibrary, importable, imported_type_index, kind_at, signature_type, unless_begin}
 use Rattle.wasm_types.specs.Modules.{Module, Import, FuncType}
 use Rattle.wasm_types.specs.Functions.{described_type, imported_type}
 use Rattle.wasm_step.specs.Laws.{KeepsModule}

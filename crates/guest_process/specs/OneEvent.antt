@@ -11,7 +11,7 @@ use Rattle.lib_calls.specs.Entry.{IsShaped}
 use Rattle.lib_calls.specs.declared.entry.Entry.{Entry}
 use Rattle.signal_points.specs.Signals.{most_signal}
 use Rattle.wasm_types.specs.Modules.{Module}
-use Rattle.wasm_types.specs.Valid.{IsValid}
+use Rattle.guest_module.specs.Valid.{IsValid}
 use Rattle.guest_process.specs.Fits.{StateFits, EnvFits}
 use Rattle.guest_process.specs.Legal.{reason}
 use Rattle.guest_process.specs.Live.{Env, Event, live}

@@ -2,7 +2,7 @@
 use Rattle.std.specs.Prelude.{◌≡◌, ℕ, Some, None, All}
 use Rattle.call_table.specs.declared.kind.Kind.{Kind}
 use Rattle.call_table.specs.declared.kind.Kind.TheVariants.{Begin}
-use Rattle.wasm_types.specs.Library.{IsOfLibrary}
+use Rattle.guest_module.specs.Library.{IsOfLibrary}
 use Rattle.wasm_types.specs.Modules.{Module}
 use Rattle.wasm_step.specs.Strand.{IsHandler, IsResult, library_result}
 use Rattle.guest_process.specs.declared.waiting.Waiting.{Waiting}

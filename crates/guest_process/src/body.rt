@@ -14,10 +14,11 @@ use crate::end::End;
 use crate::frames::Frames;
 use crate::waiting::Waiting;
 use coop_threads::{Crew, Status};
+use guest_module::ValidModule;
 use signal_points::Handlers;
 use std::alloc::{AllocError, Global};
 use wasm_step::{Pause, Store};
-use wasm_types::{Trap, ValidModule};
+use wasm_types::Trap;
 
 /// What a process consists of.
 #[derive(Drop)]

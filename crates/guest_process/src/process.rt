@@ -26,12 +26,13 @@ use crate::need::Need;
 use crate::waiting::{Waiting, beginning};
 use coop_threads::{Crew, Status};
 use guest_memory::Memory;
+use guest_module::ValidModule;
 use lib_calls::{Call, EntryView};
 use signal_points::Handlers;
 use std::alloc::{AllocError, Global};
 use std::marker::Model;
 use wasm_step::{StartError, Store, Strand};
-use wasm_types::{ValidModule, Value};
+use wasm_types::Value;
 
 /// A process of a guest.
 #[derive(Drop)]

@@ -5,7 +5,7 @@ use Rattle.std.specs.FinMap.{get}
 use Rattle.std.proofs.lemmas.List.{length-map}
 use Rattle.fri_outside.specs.Outside.{Folder, FoundFile, Held, Missing, Over, found_file, found_within}
 use Rattle.wasm_types.specs.Modules.{Module}
-use Rattle.wasm_types.specs.Valid.{IsValid}
+use Rattle.guest_module.specs.Valid.{IsValid}
 use Rattle.wasm_decode.specs.Sections.{module_of_bytes}
 use Rattle.schedule_text.specs.declared.item.Item.{Item}
 use Rattle.schedule_text.specs.declared.process.ProcessLine.{ProcessLine}

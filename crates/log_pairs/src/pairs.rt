@@ -15,9 +15,9 @@ use call_log::{LogHead, LogView};
 use command_run::{ModuleFiles, Reason, StopCause, begin_log, begin_process, take_log};
 use fri_bytes::Bytes;
 use fri_outside::Files;
+use guest_module::SharedModule;
 use proc_replay::Replayer;
 use std::alloc::{AllocError, Global};
-use wasm_types::SharedModule;
 
 /// The names of the files of a module and of a log of its process.
 #[derive(Clone, Copy)]

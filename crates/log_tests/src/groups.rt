@@ -7,12 +7,12 @@ use crate::recorded::{begin, load, record, shared};
 use fri_outside::MemFiles;
 use fri_text::Text;
 use group_state::Group;
+use guest_module::SharedModule;
 use lib_calls::memory_bytes;
 use log_pairs::{Loaded, Pair};
 use std::alloc::{AllocError, Global};
 use std::process::Abort;
 use std::test::Fail;
-use wasm_types::SharedModule;
 use watch_expr::View;
 
 // Each process of the ring takes a datagram, counts it at 64 and at 1024, and sends what is at 64 to the next.

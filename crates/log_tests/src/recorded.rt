@@ -6,13 +6,13 @@ ghost use Rattle.log_pairs.specs.Meanings.{AreLoadedPairs, AreOneGroup};
 use fri_outside::MemFiles;
 use group_record::run_record;
 use group_state::Group;
+use guest_module::{SharedModule, ValidModule};
 use log_pairs::{Loaded, Pair, begin_all, load_all};
 use schedule_text::read_schedule;
 use std::alloc::Global;
 use std::process::Abort;
 use std::test::Fail;
 use wasm_decode::decode;
-use wasm_types::{SharedModule, ValidModule};
 use wasm_validate::validate;
 
 pub(crate) fn valid(alloc: Global, bytes: &[u8]) -> Result<ValidModule, Fail> {

@@ -1,12 +1,12 @@
 // A replay that is copied.
 use crate::recorded::valid;
 use call_log::LogView;
+use guest_module::ValidModule;
 use guest_process::Process;
 use lib_calls::Kind;
 use proc_replay::{Replayer, Turn};
 use std::alloc::{AllocError, Global};
 use std::test::Fail;
-use wasm_types::ValidModule;
 
 // Its `_start` asks for the time and notes it.
 const GUEST: &[u8] =

@@ -10,6 +10,7 @@ use fri_outside::MemFiles;
 use fri_text::Text;
 use friday_shell::Session;
 use group_state::Group;
+use guest_module::SharedModule;
 use log_pairs::{Loaded, Pair};
 use page_watch::Watches;
 use std::alloc::{AllocError, Global};
@@ -17,7 +18,6 @@ use std::marker::Brand;
 use std::process::Abort;
 use std::sync::ledger::{Blank, Ledger};
 use std::test::Fail;
-use wasm_types::SharedModule;
 use watch_expr::{Agg, Expr, NodeName, Steps, Width};
 
 // It counts up at 64, sends the number to process 1, and takes an answer, again and again.

@@ -5,8 +5,8 @@ ghost use Rattle.play_command.specs.inside.Playing.{IsPlaying};
 
 use fri_bytes::Bytes;
 use group_record::LiveGroup;
+use guest_module::SharedModule;
 use schedule_text::Schedule;
-use wasm_types::SharedModule;
 
 /// A group that goes on by the items so far, how often these try, and whether a log is full.
 #[derive(Drop)]

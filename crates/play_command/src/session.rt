@@ -21,11 +21,11 @@ use conversation::{Go, LineSession, Saying};
 use fri_bytes::Bytes;
 use fri_text::Text;
 use group_record::{LiveGroup, RecordError};
+use guest_module::SharedModule;
 use play_lines::{PlayLine, PlayRefusal, PlayerCommand, read_play_line, refused_play};
 use record_command::push_items_line;
 use schedule_text::{Item, MOST_RUNS, Schedule};
 use std::alloc::{AllocError, Global};
-use wasm_types::SharedModule;
 
 impl<'m> Playing<'m> {
     /// The play of a schedule, whose processes are of these modules, once its items are done, and the line with which it

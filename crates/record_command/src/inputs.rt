@@ -12,9 +12,9 @@ ghost use Rattle.record_command.specs.Gathering.{GathersInputs, RefusesAs};
 use command_run::{ModuleFiles, Reason, StopCause, take_file};
 use fri_outside::Files;
 use group_record::RecordError;
+use guest_module::SharedModule;
 use schedule_text::{MOST_SCHEDULE, ProcessLine, Schedule, ScheduleError, read_schedule};
 use std::alloc::Global;
-use wasm_types::SharedModule;
 
 // The module of a process.
 fn take_module_of<F: Files>(

@@ -15,9 +15,9 @@ use crate::summary::print_summary;
 use command_run::{StopCause, WorkText};
 use fri_outside::Files;
 use group_record::run_record;
+use guest_module::SharedModule;
 use schedule_text::Schedule;
 use std::alloc::Global;
-use wasm_types::SharedModule;
 
 // Records a group, and prints what came of it.
 fn record_group<F: Files>(

@@ -5,9 +5,9 @@ use Rattle.wasm_types.specs.declared.code.Value.TheVariants.{I32, I64}
 use Rattle.wasm_types.specs.declared.traps.Trap.TheVariants.{Exhausted}
 use Rattle.wasm_types.specs.Code.{Tree, Unreachable, Nop, Block, Loop, If, Br, BrIf, BrTable, Return, CallFunc, CallIndirect, DropTop, Select, LocalGet, LocalSet, LocalTee, GlobalGet, GlobalSet, Load, Store as StoreIn, MemorySize, MemoryGrow, ConstI32, ConstI64, ConstF32, ConstF64, Op, Trees, End, Then}
 use Rattle.wasm_types.specs.Context.{Context}
-use Rattle.wasm_types.specs.Functions.{TypesAgree}
+use Rattle.guest_module.specs.Laws.{TypesAgree}
 use Rattle.wasm_types.specs.Modules.{Module}
-use Rattle.wasm_types.specs.Valid.{IsValid}
+use Rattle.guest_module.specs.Valid.{IsValid}
 use Rattle.wasm_step.specs.declared.run.Stopped.{Stopped}
 use Rattle.wasm_step.specs.inside.Paused.{stopped_of, stopped_result}
 use Rattle.wasm_step.specs.Burst.{SettledThread, At, Done, BurstResult, at_next_instruction, after_end, settle_by, settle, one_step_at, one_step, spent_burst, after_step, burst}

@@ -16,7 +16,7 @@ use Rattle.wasm_types.specs.Modules.{Module, Func, FuncType}
 use Rattle.wasm_types.specs.Rules.{IsTypedFunc}
 use Rattle.wasm_types.specs.Stack.{BlockStack, is_same, pop_type, pop_each, pop_types, push_result, operate}
 use Rattle.wasm_types.specs.Typing.{IsWellTyped}
-use Rattle.wasm_types.specs.Valid.{IsValid}
+use Rattle.guest_module.specs.Valid.{IsValid}
 use Rattle.wasm_types.specs.declared.traps.Trap.TheVariants as traps
 use Rattle.wasm_stack.specs.Call.{site_of}
 use Rattle.wasm_types.specs.Locals.{zero_of, zeros}
@@ -25,7 +25,8 @@ use Rattle.wasm_store.specs.Suits.{SuitsModule}
 use Rattle.wasm_step.specs.Fits.{known_operands, put_type, label_of_level, CodeLeaves, FramesFit, ThreadFits, CallFits}
 use Rattle.wasm_step.specs.inside.Standing.{AfterFits}
 use Rattle.wasm_step.specs.Reduce as Reduce
-use Rattle.wasm_types.specs.Functions.{TypesAgree, imported_type, own_type, type_of, same_types, same_type, own_func}
+use Rattle.wasm_types.specs.Functions.{imported_type, own_type, type_of, same_types, same_type, own_func}
+use Rattle.guest_module.specs.Laws.{TypesAgree}
 use Rattle.wasm_stack.specs.After.{Goes, Stops, Calls, at_trap, frame_goes_on}
 use Rattle.wasm_store.specs.Store.{Store}
 use Rattle.wasm_step.specs.Strand.{IsResult, library_result, first_result}

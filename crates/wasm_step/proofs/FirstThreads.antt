@@ -7,8 +7,8 @@ use Rattle.wasm_types.specs.declared.code.Value.TheVariants.{I32}
 use Rattle.wasm_types.specs.declared.code.ValType.{ValType}
 use Rattle.wasm_types.specs.declared.code.ValType.TheVariants as types
 use Rattle.wasm_types.specs.Modules.{Module, Func}
-use Rattle.wasm_types.specs.Start.{IsOwnPlain, entry_from}
-use Rattle.wasm_types.specs.Valid.{IsValid}
+use Rattle.guest_module.specs.Start.{IsOwnPlain, entry_from}
+use Rattle.guest_module.specs.Valid.{IsValid}
 use Rattle.wasm_values.specs.Values.{types_of_values}
 use Rattle.wasm_step.specs.Fits.{FramesFit, ThreadFits}
 use Rattle.wasm_types.specs.Functions.{imported_type, own_type, type_of, own_func}

@@ -1,7 +1,7 @@
 -- Laws of bursts.
 use Rattle.std.specs.Prelude.{◌≡◌, ℕ}
 use Rattle.wasm_types.specs.Modules.{Module}
-use Rattle.wasm_types.specs.Valid.{IsValid}
+use Rattle.guest_module.specs.Valid.{IsValid}
 use Rattle.wasm_store.specs.Marks.{MarksNoLater, StoreMarksTell}
 use Rattle.wasm_store.specs.Store.{Store}
 use Rattle.wasm_store.specs.Suits.{SuitsModule}

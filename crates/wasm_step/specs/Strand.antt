@@ -6,7 +6,7 @@ use Rattle.wasm_types.specs.declared.code.ValType.{ValType}
 use Rattle.wasm_types.specs.declared.code.ValType.TheVariants as types
 use Rattle.wasm_types.specs.Locals.{zeros}
 use Rattle.wasm_types.specs.Modules.{Module, Func, FuncType}
-use Rattle.wasm_types.specs.Start.{entry_from}
+use Rattle.guest_module.specs.Start.{entry_from}
 use Rattle.wasm_types.specs.Functions.{own_func, type_of, imported_type}
 use Rattle.wasm_stack.specs.Control.{with_result}
 use Rattle.wasm_stack.specs.Thread.{Thread, Frame, function_at_start, waiting_frame, fits_limits}

@@ -13,12 +13,13 @@ ghost use Rattle.wasm_step.specs.Strand.{started_above};
 ghost use Rattle.wasm_store.specs.Store.{Store};
 ghost use Rattle.wasm_stack.specs.Thread.{Thread, called_function, has_frame_room, waiting_frame, without_operands};
 
+use guest_module::{Callee, ValidModule, callee_at};
 use std::alloc::AllocError;
 use wasm_stack::{Next, Stack};
 use wasm_store::Store;
 use wasm_types::{
-    Callee, Declared, FuncType, Instr, Module, Trap, ValidModule, Value, callee_at, imported_type,
-    is_same_type, result_of, type_at, type_of,
+    Declared, FuncType, Instr, Module, Trap, Value, imported_type, is_same_type, result_of,
+    type_at, type_of,
 };
 
 // A call of a function of the library of this type.

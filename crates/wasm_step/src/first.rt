@@ -1,15 +1,15 @@
 // The thread that runs first.
 ghost use Rattle.std.specs.Prelude.{◌≡◌, ℕ, IfOk, IsSome, Some};
 ghost use Rattle.wasm_types.specs.Modules.{module_of};
-ghost use Rattle.wasm_types.specs.Valid.{IsValid};
+ghost use Rattle.guest_module.specs.Valid.{IsValid};
 ghost use Rattle.wasm_types.specs.Functions.{own_func};
-ghost use Rattle.wasm_types.specs.Start.{IsOwnPlain, entry_from};
+ghost use Rattle.guest_module.specs.Start.{IsOwnPlain, entry_from};
 ghost use Rattle.wasm_step.specs.Strand.{first_thread};
 
 use crate::calls::call_start;
+use guest_module::{Callee, ValidModule, callee_at};
 use std::alloc::{AllocError, Global};
 use wasm_stack::Stack;
-use wasm_types::{Callee, ValidModule, callee_at};
 
 /// The module's own function with this index.
 pub(crate) fn own<'m>(module: &'m ValidModule, func: u32) -> Callee<'m>

@@ -14,10 +14,11 @@ ghost use Rattle.wasm_step.specs.Reduce.{instr_row, store_stays};
 use crate::calls::{call_in_place, call_indirect_in_place};
 use crate::memory::{global_set, load_in_place, write_in_place};
 use crate::numbers::numeric_in_place;
+use guest_module::ValidModule;
 use std::alloc::AllocError;
 use wasm_stack::{Stack, Way};
 use wasm_store::Store;
-use wasm_types::{Instr, Slot, ValidModule};
+use wasm_types::{Instr, Slot};
 
 /// One instruction of a thread that is left these, and what comes after it, unless it is none of these or is left
 /// to its full case. What `thread` itself is left is another, so that the burst can keep its own at hand.

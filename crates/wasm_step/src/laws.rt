@@ -12,5 +12,5 @@ pub fn never_stuck()
     ensures marks { TellsMarks }
 {
     wasm_store::laws::marked();
-    wasm_types::laws::types_agree();
+    guest_module::laws::types_agree();
 }

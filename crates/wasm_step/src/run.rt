@@ -10,10 +10,11 @@ ghost use Rattle.wasm_stack.specs.Limits.{ThreadWithin};
 use crate::calls::library_call;
 use crate::in_place::try_in_place;
 use crate::step::step;
+use guest_module::ValidModule;
 use std::alloc::AllocError;
 use wasm_stack::{CallSite, Next, Stack, Way};
 use wasm_store::Store;
-use wasm_types::{Instr, Trap, ValidModule};
+use wasm_types::{Instr, Trap};
 
 /// How a burst of a thread stops. A call of the library has taken its arguments.
 #[derive(Clone, Copy, Drop)]

@@ -8,10 +8,11 @@ ghost use Rattle.wasm_stack.specs.After.{limited_thread};
 
 use crate::calls::{call, call_indirect};
 use crate::memory::{global_get, global_set, load, memory_grow, memory_size, write};
+use guest_module::ValidModule;
 use std::alloc::AllocError;
 use wasm_stack::{Next, Stack, unless_stuck};
 use wasm_store::Store;
-use wasm_types::{Instr, Trap, ValidModule, Value};
+use wasm_types::{Instr, Trap, Value};
 
 #[inline(always)]
 fn instr_row<'m>(

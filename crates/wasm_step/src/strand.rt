@@ -10,11 +10,12 @@ ghost use Rattle.wasm_step.specs.Strand.{IsAnswer, IsHandler, answered_strand, t
 use crate::calls::{can_handle, handle};
 use crate::first::{first, own};
 use crate::run::{Stopped, run};
+use guest_module::ValidModule;
 use std::alloc::{AllocError, Global};
 use std::marker::Model;
 use wasm_stack::{CallSite, Stack};
 use wasm_store::Store;
-use wasm_types::{Slot, Trap, ValidModule, Value};
+use wasm_types::{Slot, Trap, Value};
 
 /// A thread of a module, with its whole stack.
 #[derive(Drop)]
@@ -160,7 +161,7 @@ impl<'m> Strand<'m> {
         } = self;
         // Its `ensures` tells the proof that the module is valid.
         let _ = module.module();
-        wasm_types::laws::types_agree();
+        guest_module::laws::types_agree();
         match run(&mut stack, module, store)? {
             Stopped::Calling(site) => {
                 let strand = Strand {

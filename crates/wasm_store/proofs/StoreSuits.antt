@@ -15,13 +15,13 @@ use Rattle.wasm_types.specs.declared.modules.ImportDesc.TheVariants as desc
 use Rattle.wasm_types.specs.Code.{Tree, Trees, End, Then, ConstI32, ConstI64}
 use Rattle.wasm_types.specs.Context.{imported_func, imported_funcs, funcs_of}
 use Rattle.wasm_types.specs.Floats.{is_float, is_float_import, have_float, has_float_func, has_float_global, has_float_type}
-use Rattle.wasm_types.specs.Library.{IsOfLibrary}
-use Rattle.wasm_types.specs.Library as library
+use Rattle.guest_module.specs.Library.{IsOfLibrary}
+use Rattle.guest_module.specs.Library as library
 use Rattle.wasm_types.specs.Locals.{zero_of}
 use Rattle.wasm_types.specs.Modules.{Module, Import, Func, FuncType, GlobalDef, Elem, Segment}
 use Rattle.wasm_types.specs.Rules.{IsTypedFunc, constant_type, is_initial_value, is_elem, is_offset}
 use Rattle.wasm_types.specs.Stack.{is_same}
-use Rattle.wasm_types.specs.Valid.{IsValid}
+use Rattle.guest_module.specs.Valid.{IsValid}
 use Rattle.wasm_store.specs.Suits.{SuitsModule}
 use Rattle.wasm_values.specs.Values.{type_of_value, types_of_values}
 use Rattle.wasm_types.specs.Functions.{described_type, imported_type, own_func, own_type, type_of}

@@ -10,8 +10,9 @@ ghost use Rattle.wasm_store.specs.inside.Begun.{first_globals, first_values, sto
 
 use crate::global::Global;
 use guest_memory::{MOST_PAGES, Memory};
+use guest_module::ValidModule;
 use std::alloc::{AllocError, Global as Heap};
-use wasm_types::{Elem, GlobalDef, Instr, Limits, Module, Segment, ValidModule, Value, zero_of};
+use wasm_types::{Elem, GlobalDef, Instr, Limits, Module, Segment, Value, zero_of};
 use wasm_values::bits;
 
 /// How many bytes a page of memory has.

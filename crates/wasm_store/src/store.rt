@@ -13,9 +13,10 @@ use crate::global::Global;
 use crate::handler::is_handler;
 use crate::start::{begin, segments_fit};
 use guest_memory::Memory;
+use guest_module::ValidModule;
 use std::alloc::{AllocError, Global as Heap};
 use std::marker::Model;
-use wasm_types::{Module, ValidModule, Value};
+use wasm_types::{Module, Value};
 
 /// A module's memory, its globals and its table, with the numbers of the events that last set each global and
 /// made the memory larger.

@@ -3,11 +3,12 @@ ghost use Rattle.std.specs.Prelude.{IsTrue};
 ghost use Rattle.wasm_types.specs.Modules.{module_of};
 ghost use Rattle.wasm_step.specs.Strand.{IsHandler};
 
+use guest_module::ValidModule;
 use std::alloc::Global;
 use std::test::Fail;
 use wasm_decode::decode;
 use wasm_step::{Pause, Store, Strand};
-use wasm_types::{ValType, ValidModule, Value};
+use wasm_types::{ValType, Value};
 use wasm_validate::validate;
 
 // Its function 1 puts its argument after the digits of the global 0, which begins as 7. The function

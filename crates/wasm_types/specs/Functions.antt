@@ -1,10 +1,8 @@
 -- The functions of a module and their types. The imports have the first indices.
-use Rattle.std.specs.Prelude.{◌≡◌, ℕ, ◌-◌, All, Bool, true, false, ◌&&◌, List, [], ◌∷◌, Option, Some, None, slice_get, length, nat_lt, if◌then◌else◌}
+use Rattle.std.specs.Prelude.{ℕ, ◌-◌, Bool, true, false, ◌&&◌, List, [], ◌∷◌, Option, Some, None, slice_get, length, nat_lt, if◌then◌else◌}
 use Rattle.wasm_types.specs.declared.code.ValType.{ValType}
 use Rattle.wasm_types.specs.declared.modules.ImportDesc.{ImportDesc}
 use Rattle.wasm_types.specs.declared.modules.ImportDesc.TheVariants as desc
-use Rattle.wasm_types.specs.Context.{func_type_of}
-use Rattle.wasm_types.specs.Library.{IsOfLibrary}
 use Rattle.wasm_types.specs.Modules.{Module, Import, Func, FuncType}
 use Rattle.wasm_types.specs.Stack.{is_same}
 
@@ -42,7 +40,3 @@ same_types (a ∷ as') (b ∷ bs) = is_same a b && same_types as' bs
 
 abbrev pub same_type : FuncType → FuncType → Bool
 same_type a b = same_types a.params b.params && same_types a.results b.results
-
--- Where each import is a function of the library, the indices that typing has of the functions' types count all imports.
-abbrev pub TypesAgree : Type 0
-TypesAgree = (m : Module) (f : ℕ) → All (IsOfLibrary m.types) m.imports → func_type_of m f ≡ type_of m f

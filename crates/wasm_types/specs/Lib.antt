@@ -14,11 +14,7 @@ pub mod Context
 pub mod Functions
 pub mod Typing
 pub mod Floats
-pub mod Library
 pub mod Rules
 pub mod Limits
-pub mod Valid
 pub mod Slots
 pub mod Locals
-pub mod Start
-pub mod inside

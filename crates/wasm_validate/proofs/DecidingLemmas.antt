@@ -13,7 +13,7 @@ use Rattle.wasm_types.specs.declared.code.ValType.TheVariants.{I32, I64, F32, F6
 use Rattle.wasm_types.specs.Stack.{is_same}
 use Rattle.wasm_types.specs.Modules.{FuncType, Import, Func, Export, Module}
 use Rattle.wasm_types.specs.Functions.{same_type, same_types}
-use Rattle.wasm_types.specs.Library.{IsOfLibrary, importable, imported_type_index, signature_type}
+use Rattle.guest_module.specs.Library.{IsOfLibrary, importable, imported_type_index, signature_type}
 use Rattle.wasm_types.specs.Rules.{HasShape, IsTyped, IsTypedFunc}
 use Rattle.wasm_validate.specs.Shape.{is_linked, is_within_limits}
 use Rattle.wasm_validate.proofs.ShapeLemmas.{linked_by, shaped_from, within_by}

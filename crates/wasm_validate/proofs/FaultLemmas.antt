@@ -4,10 +4,10 @@ use Rattle.std.specs.Prelude.{All}
 use Rattle.std.specs.Bool.{Decides}
 use Rattle.std.proofs.lemmas.Option.{same_Some}
 use Rattle.wasm_types.specs.Floats.{is_with_floats}
-use Rattle.wasm_types.specs.Library.{IsOfLibrary}
+use Rattle.guest_module.specs.Library.{IsOfLibrary}
 use Rattle.wasm_types.specs.Modules.{Module}
 use Rattle.wasm_types.specs.Rules.{IsTyped}
-use Rattle.wasm_types.specs.Valid.{IsValid, is_over_limit, has_no_start}
+use Rattle.guest_module.specs.Valid.{IsValid, is_over_limit, has_no_start}
 use Rattle.wasm_validate.specs.declared.invalid.Invalid.{Invalid}
 use Rattle.wasm_validate.specs.declared.invalid.Invalid.TheVariants.{HasFloat, BadImport, Untyped, OverLimit, NoStart, NoMemory}
 use Rattle.wasm_validate.specs.Deciding.{are_of_library, is_typed}

@@ -5,7 +5,7 @@ use Rattle.call_table.specs.declared.kind.Kind.{Kind}
 use Rattle.wasm_types.specs.declared.modules.ImportDesc.{ImportDesc}
 use Rattle.wasm_types.specs.declared.modules.ImportDesc.TheVariants as desc
 use Rattle.wasm_types.specs.Modules.{FuncType, Import}
-use Rattle.wasm_types.specs.Library.{IsOfLibrary, importable, imported_type_index, signature_type}
+use Rattle.guest_module.specs.Library.{IsOfLibrary, importable, imported_type_index, signature_type}
 use Rattle.wasm_validate.specs.inside.Signatures.{HasTypeUnder}
 
 -- only a function has the index of a function's type

@@ -12,7 +12,7 @@ use Rattle.wasm_types.specs.declared.modules.Export.{Export as RustExport}
 use Rattle.wasm_types.specs.Context.{func_type_of}
 use Rattle.wasm_types.specs.Modules.{FuncType, Module, Export, elem, export, global_def, module_of, segment}
 use Rattle.wasm_types.specs.Rules.{HasShape, has_type, is_elem, is_initial_value, is_segment, names_something}
-use Rattle.wasm_types.specs.Valid.{is_plain}
+use Rattle.guest_module.specs.Valid.{is_plain}
 use Rattle.wasm_validate.proofs.ListTests.{list_all_map}
 use Rattle.wasm_validate.specs.Shape.{has_plain_start, is_linked, is_within_limits}
 

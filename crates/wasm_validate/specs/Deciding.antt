@@ -6,7 +6,7 @@ use Rattle.call_table.specs.Table.{row}
 use Rattle.wasm_types.specs.Calls.{result_of}
 use Rattle.wasm_types.specs.Context.{context_of, expand_locals}
 use Rattle.wasm_types.specs.Functions.{same_type}
-use Rattle.wasm_types.specs.Library.{importable, imported_type_index, signature_type}
+use Rattle.guest_module.specs.Library.{importable, imported_type_index, signature_type}
 use Rattle.wasm_types.specs.Maybe.{◌>>=◌}
 use Rattle.wasm_types.specs.Modules.{FuncType, Import, Func, Export, Module}
 use Rattle.wasm_types.specs.Stack.{no_operands, is_exactly}

@@ -1,10 +1,10 @@
 -- Why a module is refused.
 use Rattle.std.specs.Prelude.{◌≡◌, false, All}
 use Rattle.wasm_types.specs.Floats.{is_with_floats}
-use Rattle.wasm_types.specs.Library.{IsOfLibrary}
+use Rattle.guest_module.specs.Library.{IsOfLibrary}
 use Rattle.wasm_types.specs.Modules.{Module}
 use Rattle.wasm_types.specs.Rules.{IsTyped}
-use Rattle.wasm_types.specs.Valid as valid
+use Rattle.guest_module.specs.Valid as valid
 use Rattle.wasm_validate.specs.declared.invalid.Invalid.{Invalid}
 use Rattle.wasm_validate.specs.declared.invalid.Invalid.TheVariants.{HasFloat, BadImport, Untyped, OverLimit, NoStart, NoMemory}
 

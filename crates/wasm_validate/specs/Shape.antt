@@ -5,7 +5,7 @@ use Rattle.std.specs.Option.{option_map_or}
 use Rattle.wasm_types.specs.Context.{func_type_of}
 use Rattle.wasm_types.specs.Modules.{Import, Export, FuncType, Module}
 use Rattle.wasm_types.specs.Rules.{has_type, is_elem, is_initial_value, is_memory, is_ordered, is_segment, names_something}
-use Rattle.wasm_types.specs.Valid.{is_plain}
+use Rattle.guest_module.specs.Valid.{is_plain}
 
 -- few results, tables and memories, and their limits
 abbrev pub is_within_limits : Module → Bool

@@ -1,10 +1,10 @@
 // The refusals in their order.
 ghost use Rattle.std.specs.Prelude.{◌≡◌, All, MatchResult};
 ghost use Rattle.wasm_types.specs.Context.{funcs_of};
-ghost use Rattle.wasm_types.specs.Library.{IsOfLibrary};
+ghost use Rattle.guest_module.specs.Library.{IsOfLibrary};
 ghost use Rattle.wasm_types.specs.Modules.{module_of};
 ghost use Rattle.wasm_types.specs.Rules.{IsTyped};
-ghost use Rattle.wasm_types.specs.Valid.{IsValid};
+ghost use Rattle.guest_module.specs.Valid.{IsValid};
 ghost use Rattle.wasm_validate.specs.Refusals.{IsFirst};
 ghost use Rattle.wasm_typing.specs.Steps.{JudgesCode};
 

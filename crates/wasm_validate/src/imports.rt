@@ -1,14 +1,15 @@
 // Whether imports are functions of the library.
 ghost use Rattle.std.specs.Prelude.{◌≡◌, ◌↔◌, All, IsTrue, codes, map, replicate};
 ghost use Rattle.std.specs.List.{list_all};
-ghost use Rattle.wasm_types.specs.Library.{IsOfLibrary, results_of, signature_type};
+ghost use Rattle.guest_module.specs.Library.{IsOfLibrary, results_of, signature_type};
 ghost use Rattle.wasm_types.specs.Modules.{func_type, import_of, module_of};
 ghost use Rattle.wasm_types.specs.Rules.{has_type};
 ghost use Rattle.wasm_validate.specs.inside.Signatures.{HasTypeUnder};
 
 use crate::segments::has_index;
 use call_table::Signature;
-use wasm_types::{FuncType, Import, ImportDesc, Module, ValType, importable};
+use guest_module::importable;
+use wasm_types::{FuncType, Import, ImportDesc, Module, ValType};
 
 /// Whether each import is a function of the library, of exactly its type.
 pub(crate) fn are_of_library(types: &[FuncType], imports: &[Import]) -> bool

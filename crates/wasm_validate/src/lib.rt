@@ -10,7 +10,7 @@
 
 ghost use Rattle.std.specs.Prelude.{◌≡◌, IfErr, IfOk, MatchResult};
 ghost use Rattle.wasm_types.specs.Modules.{module_of};
-ghost use Rattle.wasm_types.specs.Valid.{IsValid};
+ghost use Rattle.guest_module.specs.Valid.{IsValid};
 ghost use Rattle.wasm_validate.specs.Refusals.{IsFirst};
 
 mod check;
@@ -28,9 +28,10 @@ mod sizes;
 mod start;
 
 use check::check;
+use guest_module::{ValidModule, claim};
 pub use invalid::Invalid;
 use std::alloc::Global;
-use wasm_types::{Module, ValidModule, claim};
+use wasm_types::Module;
 
 /// The module as one that is known to be valid, or the first refusal that holds.
 pub fn validate(alloc: Global, module: Module) -> Result<ValidModule, Invalid>

@@ -1,7 +1,7 @@
 // The rules of a module but those of its functions' code.
 ghost use Rattle.std.specs.Prelude.{◌≡◌, All};
 ghost use Rattle.wasm_types.specs.Context.{funcs_of};
-ghost use Rattle.wasm_types.specs.Library.{IsOfLibrary};
+ghost use Rattle.guest_module.specs.Library.{IsOfLibrary};
 ghost use Rattle.wasm_types.specs.Modules.{module_of};
 ghost use Rattle.wasm_types.specs.Rules.{HasShape};
 ghost use Rattle.wasm_validate.specs.Shape.{is_linked, is_within_limits};

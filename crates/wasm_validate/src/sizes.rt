@@ -3,7 +3,7 @@ ghost use Rattle.std.specs.Prelude.{◌≡◌, ◌+◌, ℕ, length, map, nat_lt
 ghost use Rattle.std.specs.List.{list_any};
 ghost use Rattle.wasm_types.specs.Limits.{most_locals};
 ghost use Rattle.wasm_types.specs.Modules.{func, module_of};
-ghost use Rattle.wasm_types.specs.Valid.{is_over_limit, local_count};
+ghost use Rattle.guest_module.specs.Valid.{is_over_limit, local_count};
 
 use wasm_types::{Func, Limits, Module, ValType, type_at};
 

@@ -1,12 +1,13 @@
 // The function that runs first, and the one that the process runs.
 ghost use Rattle.std.specs.Prelude.{◌≡◌, All, false, nat_lt};
 ghost use Rattle.std.specs.Option.{option_map_or};
-ghost use Rattle.wasm_types.specs.Library.{IsOfLibrary};
+ghost use Rattle.guest_module.specs.Library.{IsOfLibrary};
 ghost use Rattle.wasm_types.specs.Modules.{module_of};
 ghost use Rattle.wasm_validate.specs.Shape.{has_plain_start};
-ghost use Rattle.wasm_types.specs.Valid.{has_no_start, import_count};
+ghost use Rattle.guest_module.specs.Valid.{has_no_start, import_count};
 
-use wasm_types::{Module, exported_start, has_plain_type, import_count};
+use guest_module::{exported_start, has_plain_type, import_count};
+use wasm_types::Module;
 
 /// Whether the start section, if there is one, names a function with no parameters and no result.
 pub(crate) fn is_start(module: &Module) -> bool

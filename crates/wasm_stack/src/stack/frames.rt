@@ -9,8 +9,9 @@ ghost use Rattle.wasm_stack.specs.After.{Ends, Goes, Stops};
 ghost use Rattle.wasm_stack.specs.Control.{leave_with_top};
 
 use super::{MOST_FRAMES, Stack, StackFrame, push_to};
+use guest_module::Callee;
 use std::alloc::AllocError;
-use wasm_types::{Callee, FuncType, MOST_THREAD_SIZE, Slot, ValType, result_of};
+use wasm_types::{FuncType, MOST_THREAD_SIZE, Slot, ValType, result_of};
 
 impl<'m> Stack<'m> {
     /// A function at its start, with these arguments.

@@ -1,7 +1,7 @@
 use Rattle.std.proofs.Common.{None, refl, ap, sym, subst, ◌∙◌}
 use Rattle.coop_threads.specs.Crew.{empty, with_live}
 use Rattle.wasm_types.specs.Modules.{Module, module_of}
-use Rattle.wasm_types.specs.Valid.{IsValid}
+use Rattle.guest_module.specs.Valid.{IsValid}
 use Rattle.wasm_step.specs.Strand.{Strand}
 use Rattle.guest_process.specs.declared.body.Body.{Body}
 use Rattle.guest_process.specs.declared.end.End.TheVariants.{Running}

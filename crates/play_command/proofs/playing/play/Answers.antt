@@ -1,7 +1,7 @@
 use Rattle.std.proofs.Common.{◌∙◌, List, ℕ, ap, false, length, map, subst, sym}
 use Rattle.std.proofs.lemmas.List.{length-map}
 use Rattle.wasm_types.specs.Modules.{module_of}
-use Rattle.wasm_types.specs.declared.shared.SharedModule.{SharedModule}
+use Rattle.guest_module.specs.declared.shared.SharedModule.{SharedModule}
 use Rattle.group_record.specs.Answer.{first_states}
 use Rattle.record_command.specs.Gathering.{GathersFromFolder}
 use Rattle.command_run.specs.CountLaws.{counts_none, counts_of_part, counts_still}

@@ -1,7 +1,7 @@
 use Rattle.std.proofs.Common.{◌≡◌, ℕ, Option, Some, sym, ◌∙◌, subst}
 use Rattle.std.specs.Prelude.{IfSome}
 use Rattle.wasm_types.specs.Modules.{module_of}
-use Rattle.wasm_types.specs.Start.{IsOwnPlain}
+use Rattle.guest_module.specs.Start.{IsOwnPlain}
 use Rattle.wasm_step.proofs.first.first.Goals as goal
 
 -- the one that is there

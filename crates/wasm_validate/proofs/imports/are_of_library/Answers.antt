@@ -1,6 +1,6 @@
 use Rattle.std.proofs.Common.{map, refl}
 use Rattle.wasm_types.specs.Modules.{func_type, import_of}
-use Rattle.wasm_types.specs.Library.{IsOfLibrary}
+use Rattle.guest_module.specs.Library.{IsOfLibrary}
 use Rattle.wasm_validate.proofs.ListLoops.{All-step, All-done, not_all}
 use Rattle.wasm_validate.proofs.imports.are_of_library.Goals as goal
 

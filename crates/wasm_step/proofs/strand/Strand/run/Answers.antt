@@ -1,7 +1,7 @@
 use Rattle.std.proofs.Common.{ap, sym, ◌∙◌, subst}
 use Rattle.wasm_types.specs.declared.modules.Module.{Module as RustModule}
 use Rattle.wasm_types.specs.Modules.{module_of}
-use Rattle.wasm_types.specs.Valid.{IsValid}
+use Rattle.guest_module.specs.Valid.{IsValid}
 use Rattle.wasm_step.specs.declared.run.Stopped.{Stopped}
 use Rattle.wasm_step.specs.inside.Paused.{stopped_of}
 use Rattle.wasm_step.specs.Fits.{HaltFits}

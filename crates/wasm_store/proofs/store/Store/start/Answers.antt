@@ -1,6 +1,6 @@
 use Rattle.std.proofs.Common.{sym, ap, subst, ◌∙◌}
 use Rattle.wasm_types.specs.Modules.{module_of}
-use Rattle.wasm_types.specs.Valid.{IsValid}
+use Rattle.guest_module.specs.Valid.{IsValid}
 use Rattle.wasm_store.specs.Start.{segments_fit}
 use Rattle.wasm_store.proofs.StoreSuits.{initial_suits}
 use Rattle.wasm_store.proofs.store.Store.start.Goals as goal

@@ -1,0 +1,21 @@
+use Rattle.std.proofs.Common.{◌≡◌, Some, slice_get, ap, ◌∙◌, arith}
+use Rattle.std.proofs.lemmas.Grind.{common_steps}
+use Rattle.std.proofs.lemmas.Option.{gets, slice_get-map}
+use Rattle.std.specs.Option.{option_map}
+use Rattle.wasm_types.specs.Modules.{func, module_of}
+use Rattle.guest_module.proofs.LocalLemmas.{zeros_at}
+use Rattle.guest_module.proofs.callee.callee_at.Goals as goal
+
+module _ (c : goal.In-Some-declared) where
+  own : slice_get (module_of c.args.«module».now).funcs c.args.place ≡ Some (func c.in-Some.func.now)
+  own =
+      let items = c.args.«module».now.funcs.items in
+      let held : slice_get items c.args.place ≡ Some c.in-Some.func.now = grind (arith, common_steps, gets) in
+      slice_get-map func items c.args.place ∙ ap (option_map func) held
+
+pub invariant_of-result : goal.invariant_of-result
+invariant_of-result c =
+    zeros_at (slice_get (module_of c.args.«module».now).funcs c.args.place) (func c.in-Some.func.now) c.in-Some-declared.declared.now (own c) c.in-Some-declared.ensures.some
+
+pub returns-clause-some : goal.returns-clause-some
+returns-clause-some c = own c

@@ -1,0 +1,5 @@
+pub mod Library
+pub mod Valid
+pub mod Start
+pub mod Laws
+pub mod inside

@@ -1,0 +1,150 @@
+// Modules that are known to be valid.
+ghost use Rattle.std.specs.Prelude.{◌≡◌, IfNone, IfOk, IfSome, None, Some, map, option_map, slice_get};
+ghost use Rattle.wasm_types.specs.Context.{filled_runs};
+ghost use Rattle.guest_module.specs.inside.Slots.{filled_locals};
+ghost use Rattle.guest_module.specs.Library.{importable, kind_at};
+ghost use Rattle.wasm_types.specs.Modules.{module_of};
+ghost use Rattle.guest_module.specs.Start.{IsOwnPlain, entry_from};
+ghost use Rattle.guest_module.specs.Valid.{IsValid};
+
+use crate::library::importable;
+use crate::start::exported_start;
+use call_table::Kind;
+use std::alloc::{AllocError, Global};
+use std::marker::Model;
+use wasm_types::{Declared, Import, Module};
+
+/// Of so many locals what they start as is kept, in all of a module.
+const MOST_KEPT_LOCALS: usize = 1_048_576;
+
+/// A module that is valid. Contracts see it as its module.
+#[derive(Debug, Drop)]
+pub struct ValidModule {
+    valid: Module,
+    // For each import, the kind of its calls.
+    kinds: Vec<Option<Kind>>,
+    // For each of the module's own functions, the locals that it declares.
+    locals: Vec<Declared>,
+    // The function that is exported as its start.
+    entry: u32,
+}
+
+impl Model for ValidModule {
+    ghost use Rattle.std.specs.Coded.{codes};
+    ghost use Rattle.wasm_types.specs.declared.modules.Module.{Module};
+    ghost use Rattle.wasm_types.specs.contracts.code.Instr as instr;
+
+    ghost Value = { Module };
+
+    ghost coded = { Prim.hlevel (codes, instr.the_row.coded) };
+
+    ghost use Rattle.std.specs.Prelude.{◌≡◌, Some, map};
+    ghost use Rattle.guest_module.specs.inside.Slots.{filled_locals};
+    ghost use Rattle.guest_module.specs.Library.{importable};
+    ghost use Rattle.wasm_types.specs.Modules.{module_of};
+    ghost use Rattle.guest_module.specs.Start.{entry_from};
+    ghost use Rattle.guest_module.specs.Valid.{IsValid};
+
+    ghost view = { λ v. v.valid };
+
+    ghost invariant = { λ v.
+        IsValid (module_of v.valid)
+        × (v.locals.items ≡ filled_locals (module_of v.valid))
+        × (v.kinds.items ≡ map (λ i. importable i.name.items) v.valid.imports.items)
+        × (entry_from (module_of v.valid) (module_of v.valid).exports ≡ Some v.entry) };
+}
+
+/// A valid module as one that is known to be.
+pub fn claim(alloc: Global, module: Module) -> Result<ValidModule, AllocError>
+    requires { IsValid (module_of «module») }
+    ensures { IfOk result (λ v. v ≡ «module») }
+{
+    let kinds = import_kinds(alloc, &module.imports)?;
+    let locals = filled_locals(alloc, &module)?;
+    let entry = entry(&module);
+    Ok(ValidModule {
+        valid: module,
+        kinds,
+        locals,
+        entry,
+    })
+}
+
+// The kind of each import's calls.
+fn import_kinds(alloc: Global, imports: &[Import]) -> Result<Vec<Option<Kind>>, AllocError>
+    ensures { IfOk result (λ kinds. kinds.items ≡ map (λ i. importable i.name.items) imports.now) }
+{
+    imports
+        .iter()
+        .map(|import| importable(&import.name))
+        .collect(alloc)
+}
+
+// The locals of each of the module's own functions. What they start as is kept of the first 1,048,576 in all.
+fn filled_locals(alloc: Global, module: &Module) -> Result<Vec<Declared>, AllocError>
+    ensures { IfOk result (λ all. all.items ≡ filled_locals (module_of «module».now)) }
+{
+    let mut all = Vec::new(alloc);
+    let mut most = MOST_KEPT_LOCALS;
+    for function in &module.funcs {
+        let declared = Declared::new(alloc, &function.locals, most)?;
+        if let Some(starts) = declared.starts() {
+            most = most.saturating_sub(starts.len());
+        }
+        all.push(declared)?;
+    }
+    Ok(all)
+}
+
+// The function that a valid module exports as its start.
+fn entry(module: &Module) -> u32
+    requires { IsValid (module_of «module».now) }
+    ensures { entry_from (module_of «module».now) (module_of «module».now).exports ≡ Some result }
+{
+    match exported_start(module) {
+        Some(entry) => entry,
+        None => unreachable!(),
+    }
+}
+
+impl ValidModule {
+    /// The module.
+    pub fn module(&self) -> &Module
+        ensures same { result.now ≡ self.now }
+        ensures valid { IsValid (module_of result.now) }
+    {
+        &self.valid
+    }
+
+    /// The kind of the calls of the function with this index. `None` comes exactly where no such function
+    /// is imported.
+    pub fn import_kind(&self, func: u32) -> Option<Kind>
+        ensures { result ≡ kind_at (module_of self.now) func }
+    {
+        self.kinds.get(func as usize).copied().flatten()
+    }
+
+    /// The locals that the module's own function at this place declares. `None` comes exactly where the module has no
+    /// such function.
+    pub fn declared(&self, place: usize) -> Option<&Declared>
+        ensures some { IfSome result (λ declared. option_map (λ f. filled_runs f.locals) (slice_get (module_of self.now).funcs place) ≡ Some declared.now) }
+        ensures none { IfNone result (slice_get (module_of self.now).funcs place ≡ None) }
+    {
+        self.locals.get(place)
+    }
+    /// The function that the module exports as its start.
+    pub fn entry(&self) -> u32
+        ensures is { entry_from (module_of self.now) (module_of self.now).exports ≡ Some result }
+        ensures plain { IsOwnPlain (module_of self.now) result }
+    {
+        self.entry
+    }
+
+    /// The function that the start section names, if there is one.
+    pub fn start(&self) -> Option<u32>
+        ensures is { result ≡ (module_of self.now).start }
+        ensures plain { IfSome result (λ f. IsOwnPlain (module_of self.now) f) }
+    {
+        self.valid.start
+    }
+}
