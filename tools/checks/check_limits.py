@@ -76,7 +76,7 @@ ROWS = {
         Row("locals, operands and open labels of a thread", "wasm_types/specs/Limits.most_thread_size", "`trapped exhausted`"),
         Row("instructions between two calls", "wasm_step/specs/Burst.most_instructions", "`trapped spent`"),
         Row("bytes that one call names", "lib_calls/specs/Limits.most_call_bytes", "the call answers -1"),
-        Row("the greatest number of a signal; the least is 1", "signal_points/specs/Signals.most_signal", "`line N BadLine`; `on_signal` answers -1"),
+        Row("the greatest number of a signal; the least is 1", "guest_signals/specs/Signals.most_signal", "`line N BadLine`; `on_signal` answers -1"),
     ),
     "Logs": (Row("bytes of a log", "call_log/specs/Limits.most_log", "`item N LogFull` as it is recorded, and `TooLarge` as it is read"),),
     "The debugger": (
@@ -90,7 +90,7 @@ ROWS = {
         Row("lines that a walk says", "shell_points/specs/Walking.most_lines", "it answers `paused`"),
         Row("bytes that `mem` shows", "shell_lines/specs/Limits.most_shown_bytes", "`? 1 syntax`"),
         Row("events that `events` shows", "shell_lines/specs/Limits.most_shown_events", "`? 1 syntax`"),
-        Row("frames that `frames` tells", "group_texts/specs/Texts.most_told_frames", "` and N more`"),
+        Row("frames that `frames` tells", "group_text/specs/Texts.most_told_frames", "` and N more`"),
     ),
 }
 

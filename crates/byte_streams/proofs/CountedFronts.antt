@@ -9,7 +9,7 @@ use Rattle.std.proofs.lemmas.Option.{cond_some}
 use Rattle.std.proofs.lemmas.Slice.Eq.{starts_is}
 use Rattle.byte_streams.specs.declared.mark.PayloadMark.TheVariants.{Counted, Plain, Strange}
 use Rattle.byte_streams.specs.Chunk.{StreamPiece, chunk_at, chunk_magic, piece_in}
-use Rattle.byte_streams.specs.Laws.{FrontsCount, IsFrontOf, IsUnsent, PlainFronts, ShortIsPlain, StrangeBySend}
+use Rattle.byte_streams.specs.Laws.{TruncatedChunksCount, IsFrontOf, IsUnsent, PlainFronts, ShortIsPlain, StrangeBySend}
 use Rattle.byte_streams.specs.Traffic.{Received, SentPayload, Sent, SendOrReceive, WrittenPiece, counted_send, continues_or_repeats, is_front_of, latest_written, mark_of_send, stream_of, written_stream}
 use Rattle.byte_streams.proofs.ChunkLemmas.{short_is_none}
 use Rattle.byte_streams.proofs.WrittenBytes.{Counts, counted_is}
@@ -53,7 +53,7 @@ chunk_cut payload piece count at long =
 front_starts : (bytes : List ℕ) (count : ℕ) → starts_with nat_eq bytes (take count bytes) ≡ true
 front_starts bytes count = (starts_is Decides-eqb bytes (take count bytes) _ refl).1 (drop count bytes) (sym (take-append-drop count bytes))
 
-pub front_counts : FrontsCount
+pub front_counts : TruncatedChunksCount
 front_counts r early count h long =
     let piece = h.sent.piece in
     let room : 14 ≤ length (take count h.payload) = subst (λ (l : List ℕ). 14 ≤ length l) h.front long in

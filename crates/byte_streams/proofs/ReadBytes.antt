@@ -9,7 +9,7 @@ use Rattle.std.proofs.lemmas.List.Sums.{prefix_len_passes}
 use Rattle.std.proofs.lemmas.Option.{same_Some}
 use Rattle.byte_streams.specs.CoveredBytes.{ReadIsCovered}
 use Rattle.byte_streams.specs.Keys.{StreamContents, chunk_of, stream_key_of}
-use Rattle.byte_streams.specs.Laws.{IsReadOf, IsUnsent, ReadIsKept, UnsentIsFree}
+use Rattle.byte_streams.specs.Laws.{IsReadOf, IsUnsent, ReadMatchesTraffic, NoSendIsAbsent}
 use Rattle.byte_streams.specs.Lines.{covered_front}
 use Rattle.byte_streams.specs.Stands.{KeptTraffic, StandsFor, stream_contents}
 use Rattle.byte_streams.specs.Traffic.{Received, Sent, StreamName, SendOrReceive, numbers_below, counted_send, is_covered_position, is_listed_stream, read_count, written_stream}
@@ -22,7 +22,7 @@ never_sent from clock [] none = refl
 never_sent from clock (Received r ∷ early) none = never_sent from clock early none.1
 never_sent from clock (Sent s ∷ early) none = rw none.0 (never_sent from clock early none.1)
 
-pub unsent_free : UnsentIsFree
+pub unsent_free : NoSendIsAbsent
 unsent_free kept traffic from clock h none = h.sends from clock ∙ ap (option_map chunk_of) (never_sent from clock traffic none)
 
 -- ---- what is read
@@ -52,7 +52,7 @@ kept_is kept traffic name c h has = by_listed (is_listed_stream name traffic) (s
   by_listed true e = same_Some (stream_contents name traffic) c e
   by_listed false e = absurd cc
 
-pub read_kept : ReadIsKept
+pub read_kept : ReadMatchesTraffic
 read_kept kept traffic name c h has =
     subst (λ (d : StreamContents). IsReadOf d name traffic) (kept_is kept traffic name c h has)
     (record {

@@ -18,8 +18,8 @@ is_send_at from clock (Received r) = false
 abbrev pub IsUnsent : ℕ → ℕ → List SendOrReceive → Type 0
 IsUnsent from clock traffic = AllByRecursion (λ t. is_send_at from clock t ≡ false) traffic
 
-abbrev pub UnsentIsFree : Type 0
-UnsentIsFree =
+abbrev pub NoSendIsAbsent : Type 0
+NoSendIsAbsent =
     (kept : KeptTraffic) (traffic : List SendOrReceive) (from clock : ℕ) → StandsFor kept traffic → IsUnsent from clock traffic
     → map.get kept.sends (from, clock) ≡ None
 
@@ -30,8 +30,8 @@ pub record IsReadOf (c : StreamContents) (name : StreamName) (traffic : List Sen
   pub within : read_count name traffic ≤ length (written_stream name traffic)
   pub written : c.written ≡ written_stream name traffic
 
-abbrev pub ReadIsKept : Type 0
-ReadIsKept =
+abbrev pub ReadMatchesTraffic : Type 0
+ReadMatchesTraffic =
     (kept : KeptTraffic) (traffic : List SendOrReceive) (name : StreamName) (c : StreamContents) → StandsFor kept traffic
     → map.get kept.streams (stream_key_of name) ≡ Some c → IsReadOf c name traffic
 
@@ -45,8 +45,8 @@ pub record IsFrontOf (r : ReceivedPayload) (early : List SendOrReceive) (count :
   pub front : r.payload ≡ take count payload
 
 -- such a front counts where it has room for a chunk
-abbrev pub FrontsCount : Type 0
-FrontsCount = (r : ReceivedPayload) (early : List SendOrReceive) (count : ℕ) → IsFrontOf r early count → 14 ≤ length r.payload → mark_of_receive r early ≡ Counted
+abbrev pub TruncatedChunksCount : Type 0
+TruncatedChunksCount = (r : ReceivedPayload) (early : List SendOrReceive) (count : ℕ) → IsFrontOf r early count → 14 ≤ length r.payload → mark_of_receive r early ≡ Counted
 
 -- and what has none is plain
 abbrev pub ShortIsPlain : Type 0

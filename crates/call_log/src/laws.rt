@@ -1,6 +1,6 @@
 // The laws of logs, as calls that do nothing.
 ghost use Rattle.call_log.specs.Laws.{ExactLogs, NoLonger, RewrittenIsRead};
-ghost use Rattle.call_log.specs.Walk.{EntryLeads, IsEndOfLog};
+ghost use Rattle.call_log.specs.Walk.{EntryStep, IsEndOfLog};
 
 /// The functions that say what is in a log give what the bytes spell, and nothing else.
 pub fn exact_logs()
@@ -26,7 +26,7 @@ pub fn rewritten_is_read()
 /// entries, and what is left after it has the others and the same rest. Where none is there, there
 /// is no entry, and all bytes are the rest.
 pub fn entry_by_entry()
-    ensures step { EntryLeads }
+    ensures step { EntryStep }
     ensures end { IsEndOfLog }
 {
     fri_bytes::laws::exact_readers();

@@ -18,7 +18,7 @@ use Rattle.conversation.specs.Limits.{most_input}
 use Rattle.conversation.specs.Lines.{early_lines, whole_lines}
 use Rattle.conversation.specs.Outcome.{conversation_outcome, is_large_input}
 use Rattle.conversation.specs.Talker.{Answered, AnswersSo, Talker, answers_of_lines, ends_in_lines, ends_session, is_quit, spoken_text, talker_of}
-use Rattle.conversation.specs.inside.Reader.{CameInTurn, NotesPiece, PrintsPart, SaidOfInput, SaysSome, SessionBreaks, SessionConcludes, SessionGoesOn, SessionHolds, SessionReader, SessionStands, SessionStops, SessionStopsIn, SpokeLines, StopsAtPiece, WasTold, ended_by, exchange_of, state_after_lines}
+use Rattle.conversation.specs.inside.Reader.{ReadLineByLine, NotesPiece, PrintsPart, SessionEndedAs, SaysSome, SessionBreaks, SessionConcludes, SessionGoesOn, SessionHolds, SessionReader, SessionStands, SessionStops, SessionStopsIn, AnsweredLines, StopsAtPiece, WasTold, ended_by, exchange_of, state_after_lines}
 use Rattle.conversation.proofs.WholeLines.{FrontsText, after-append, answers-append, answers-ended, answers_front, ends-append, ends-front, lines_of-open, session_more}
 use Rattle.conversation.proofs.PrintedSoFar.{append_none, append_twice, fits_short, overruns_more, part_more, quits_more, take_front}
 
@@ -93,11 +93,11 @@ given_more [] asking = append-nil asking.given
 given_more (a ∷ later) asking = ap (λ (l : List ℕ). a.given ++ l) (given_more later asking) ∙ sym (append_assoc a.given (given_in_askings later) asking.given)
 
 -- before anything came
-pub turns_none : {S : Type 0} (talker : Talker S) (printed : Option (List ℕ)) (asked : Option (List Asking)) → WhenTold asked (λ earlier. CameInTurn talker printed [] earlier asked)
+pub turns_none : {S : Type 0} (talker : Talker S) (printed : Option (List ℕ)) (asked : Option (List Asking)) → WhenTold asked (λ earlier. ReadLineByLine talker printed [] earlier asked)
 turns_none talker printed asked = λ earlier told. record { askings = []; noted = told ∙ ap Some (sym (append-nil earlier)); in_turn = tt; given = refl }
 
 module _ {X S : Type 0} (stands : X → S → Type 0) (talker : Talker S) (printed before : Option (List ℕ)) (reader : SessionReader X) (taken piece : List ℕ) (s : SessionStands stands talker printed before reader taken) (short : length piece ≤ 4096) where
-  turn_noted : (earlier : List Asking) (asked asked_after : Option (List Asking)) → CameInTurn talker printed taken earlier asked → asked_after ≡ with_asking before piece asked → CameInTurn talker printed (taken ++ piece) earlier asked_after
+  turn_noted : (earlier : List Asking) (asked asked_after : Option (List Asking)) → ReadLineByLine talker printed taken earlier asked → asked_after ≡ with_asking before piece asked → ReadLineByLine talker printed (taken ++ piece) earlier asked_after
   turn_noted earlier asked asked_after came noted =
       let asking : Asking = record { said = before; given = piece } in
       let here : IsAskedInTurn talker printed taken asking = record { answered = s.text; goes_on = s.goes_on; short = short } in
@@ -108,22 +108,22 @@ module _ {X S : Type 0} (stands : X → S → Type 0) (talker : Talker S) (print
         given = given_more came.askings asking ∙ ap (λ (l : List ℕ). l ++ piece) came.given;
       }
 
-  pub turns_noted : (old mid after : Option (List Asking)) → WhenTold old (λ earlier. CameInTurn talker printed taken earlier mid) → after ≡ with_asking before piece mid → WhenTold old (λ earlier. CameInTurn talker printed (taken ++ piece) earlier after)
+  pub turns_noted : (old mid after : Option (List Asking)) → WhenTold old (λ earlier. ReadLineByLine talker printed taken earlier mid) → after ≡ with_asking before piece mid → WhenTold old (λ earlier. ReadLineByLine talker printed (taken ++ piece) earlier after)
   turns_noted old mid after came noted = λ earlier told. turn_noted earlier mid after (came earlier told) noted
 
-  turn_piece : (earlier : List Asking) (asked asked_after : Option (List Asking)) → CameInTurn talker printed taken earlier asked → NotesPiece before piece asked asked_after → CameInTurn talker printed (taken ++ piece) earlier asked_after
+  turn_piece : (earlier : List Asking) (asked asked_after : Option (List Asking)) → ReadLineByLine talker printed taken earlier asked → NotesPiece before piece asked asked_after → ReadLineByLine talker printed (taken ++ piece) earlier asked_after
   turn_piece earlier asked asked_after came (inl noted) = turn_noted earlier asked asked_after came noted
   turn_piece earlier asked asked_after came (inr (none, same)) =
       let whole : taken ≡ taken ++ piece = sym (append-nil taken) ∙ ap (λ (l : List ℕ). taken ++ l) (sym none) in
-      subst (λ (l : List ℕ). CameInTurn talker printed l earlier asked_after) whole (subst (CameInTurn talker printed taken earlier) (sym same) came)
+      subst (λ (l : List ℕ). ReadLineByLine talker printed l earlier asked_after) whole (subst (ReadLineByLine talker printed taken earlier) (sym same) came)
 
-  pub turns_piece : (old mid after : Option (List Asking)) → WhenTold old (λ earlier. CameInTurn talker printed taken earlier mid) → NotesPiece before piece mid after → WhenTold old (λ earlier. CameInTurn talker printed (taken ++ piece) earlier after)
+  pub turns_piece : (old mid after : Option (List Asking)) → WhenTold old (λ earlier. ReadLineByLine talker printed taken earlier mid) → NotesPiece before piece mid after → WhenTold old (λ earlier. ReadLineByLine talker printed (taken ++ piece) earlier after)
   turns_piece old mid after came notes = λ earlier told. turn_piece earlier mid after (came earlier told) notes
 
 -- ---- a session that stopped at a piece
 
 -- what was said is said of the input that the source told
-pub said_of : {S : Type 0} (talker : Talker S) (printed now : Option (List ℕ)) (taken rest input : List ℕ) (why : Ended) → input ≡ taken ++ rest → StopsAtPiece talker printed now taken why → SaidOfInput talker (printed, now) taken input why
+pub said_of : {S : Type 0} (talker : Talker S) (printed now : Option (List ℕ)) (taken rest input : List ℕ) (why : Ended) → input ≡ taken ++ rest → StopsAtPiece talker printed now taken why → SessionEndedAs talker (printed, now) taken input why
 said_of talker printed now taken rest input cause.Done e q = record {
   fits = ap (is_large_input talker) e ∙ q.fits rest;
   text = q.text rest ∙ ap (λ (l : List ℕ). append_known printed (spoken_text talker (lines_of l))) (sym e);
@@ -146,7 +146,7 @@ large_said talker printed now taken cause.NoMemory s is = absurd cc
 
 pub holds_broken : {S : Type 0} (talker : Talker S) (earlier : List ℕ) (old mid new : TerminalState) (size : ℕ) (why : Ended)
     → WhenTold old.hearing.left (λ input. TakesOfInput input mid.hearing.left earlier) → ends_session talker (whole_lines earlier) ≡ false → size ≤ 4096 → length earlier + size ≤ most_input + 1
-    → (b : SessionBreaks talker old.taken earlier (exchange_of size mid new) why) → WhenTold old.hearing.asked (λ asked. CameInTurn talker old.taken (earlier ++ b.piece) asked new.hearing.asked)
+    → (b : SessionBreaks talker old.taken earlier (exchange_of size mid new) why) → WhenTold old.hearing.asked (λ asked. ReadLineByLine talker old.taken (earlier ++ b.piece) asked new.hearing.asked)
     → SessionHolds talker old new why
 holds_broken talker earlier old mid new size why read on short within b turns =
     let whole = taken_more old.hearing.left mid.hearing.left new.hearing.left earlier b.piece read b.read in
@@ -205,21 +205,21 @@ module _ {X S : Type 0} (stands : X → S → Type 0) (talker : Talker S) (print
             ∙ ap (λ (l : List ℕ). append_known printed (take (length said + p.0) (outcome_text (conversation_outcome talker l)))) (sym e),
       )
 
-  said_error : (input : List ℕ) (why : Ended) → input ≡ taken → SpokeLines stands talker.answer last_state last_lines mid now (Err why) → SaidOfInput talker (printed, now) taken input why
+  said_error : (input : List ℕ) (why : Ended) → input ≡ taken → AnsweredLines stands talker.answer last_state last_lines mid now (Err why) → SessionEndedAs talker (printed, now) taken input why
   said_error input cause.Done e spoke = concludes input e spoke.0
   said_error input cause.TooLarge e spoke = absurd spoke
   said_error input cause.ReadFault e spoke = absurd spoke
   said_error input cause.WriteFault e spoke = some input e spoke
   said_error input cause.NoMemory e spoke = some input e spoke
 
-  never_large : (why : Ended) → SpokeLines stands talker.answer last_state last_lines mid now (Err why) → why ≡ cause.TooLarge → ⊥
+  never_large : (why : Ended) → AnsweredLines stands talker.answer last_state last_lines mid now (Err why) → why ≡ cause.TooLarge → ⊥
   never_large cause.Done spoke is = absurd cc
   never_large cause.TooLarge spoke is = spoke
   never_large cause.ReadFault spoke is = spoke
   never_large cause.WriteFault spoke is = absurd cc
   never_large cause.NoMemory spoke is = absurd cc
 
-  module _ (old new : Hearing) (faults faults_after : ℕ) (read : WhenTold old.left (λ input. TakesOfInput input new.left taken)) (last : WhenTold old.left (λ input. input ≡ taken)) (turns : WhenTold old.asked (λ earlier. CameInTurn talker printed taken earlier new.asked)) where
+  module _ (old new : Hearing) (faults faults_after : ℕ) (read : WhenTold old.left (λ input. TakesOfInput input new.left taken)) (last : WhenTold old.left (λ input. input ≡ taken)) (turns : WhenTold old.asked (λ earlier. ReadLineByLine talker printed taken earlier new.asked)) where
     asks : AsksAtTerminal talker taken
     asks = record { earlier = taken; piece = []; parts = sym (append-nil taken); short = omega arith; within = omega (arith, within); goes_on = s.goes_on }
 
@@ -233,7 +233,7 @@ module _ {X S : Type 0} (stands : X → S → Type 0) (talker : Talker S) (print
       large = λ is. absurd cc;
     }
 
-    pub holds_error : (why : Ended) → SpokeLines stands talker.answer last_state last_lines mid now (Err why) → SessionHolds talker (record { hearing = old; taken = printed; faults = faults }) (record { hearing = new; taken = now; faults = faults_after }) why
+    pub holds_error : (why : Ended) → AnsweredLines stands talker.answer last_state last_lines mid now (Err why) → SessionHolds talker (record { hearing = old; taken = printed; faults = faults }) (record { hearing = new; taken = now; faults = faults_after }) why
     holds_error why spoke = record {
       taken = taken;
       asks = asks;
@@ -273,7 +273,7 @@ module _ {X S : Type 0} (stands : X → S → Type 0) (answer : S → List ℕ �
       let f = take_front n (answer state line).text (answers_of_lines answer state (line ∷ [])) (if (answer state line).quits then [] else [], refl) in
       (f.0, e ∙ ap (λ (t : List ℕ). append_known old (take n t)) said ∙ ap (append_known old) f.1)
 
-  spoke_by : (state : S) (e : WriteError) → PrintsPart answer state (line ∷ []) old new → SpokeLines stands answer state (line ∷ []) old new (Err (ended_by e))
+  spoke_by : (state : S) (e : WriteError) → PrintsPart answer state (line ∷ []) old new → AnsweredLines stands answer state (line ∷ []) old new (Err (ended_by e))
   spoke_by state writing.Failed part = part
   spoke_by state writing.NoMemory part = part
 
@@ -327,7 +327,7 @@ module _ {X S : Type 0} (stands : X → S → Type 0) (answer : S → List ℕ �
       e ∙ ap (λ (k : Option (List ℕ)). append_known k later) said ∙ append_twice old first later ∙ ap (append_known old) (sym (answers-append answer state front behind on))
 
   spoke_more : (state : S) (now : Option (List ℕ)) (result : Result X Ended) → ends_in_lines answer state front ≡ false → mid ≡ append_known old (answers_of_lines answer state front)
-      → SpokeLines stands answer (state_after_lines answer state front) behind mid now result → SpokeLines stands answer state (front ++ behind) old now result
+      → AnsweredLines stands answer (state_after_lines answer state front) behind mid now result → AnsweredLines stands answer state (front ++ behind) old now result
   spoke_more state now (Ok next) on said spoke = (
     later_text state now on said spoke.0,
     (ends-append answer state front behind on ∙ spoke.1.0, subst (stands next) (sym (after-append answer state front behind)) spoke.1.1),
@@ -346,7 +346,7 @@ module _ {X S : Type 0} (stands : X → S → Type 0) (answer : S → List ℕ �
       let f = first state stood in
       spoke_more state now result f.1.0 f.0 (second (state_after_lines answer state front) f.1.1)
 
-  spoke_ended : (state : S) (why : Ended) → SpokeLines stands answer state front old mid (Err why) → SpokeLines stands answer state (front ++ behind) old mid (Err why)
+  spoke_ended : (state : S) (why : Ended) → AnsweredLines stands answer state front old mid (Err why) → AnsweredLines stands answer state (front ++ behind) old mid (Err why)
   spoke_ended state cause.Done spoke =
       (spoke.0 ∙ ap (append_known old) (sym (answers-ended answer state front behind spoke.1)), ends-front answer state front behind spoke.1)
   spoke_ended state cause.TooLarge spoke = spoke

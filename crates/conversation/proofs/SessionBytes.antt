@@ -8,7 +8,7 @@ use Rattle.conversation.specs.declared.conversing.Ended.TheVariants as cause
 use Rattle.conversation.specs.Limits.{most_input}
 use Rattle.conversation.specs.Lines.{whole_lines}
 use Rattle.conversation.specs.Talker.{Answered, talker_of}
-use Rattle.conversation.specs.inside.Reader.{InputReadsOn, SessionGoesOn, SessionReader, SessionStands, SessionStops, SessionStopsIn, SpokeLines, WasTold, state_after_lines}
+use Rattle.conversation.specs.inside.Reader.{InputReadsOn, SessionGoesOn, SessionReader, SessionStands, SessionStops, SessionStopsIn, AnsweredLines, WasTold, state_after_lines}
 use Rattle.conversation.proofs.WholeLines.{IsWhole}
 use Rattle.conversation.proofs.PrintedSoFar.{at_line_end, overruns, part_ended, part_kept, quits_ended, stands_ended, stands_open, with_bytes}
 
@@ -34,7 +34,7 @@ module _ {X S : Type 0} (stands : X → S → Type 0) (answer : S → List ℕ �
         stands_ended stands (talker_of opening state answer) printed old reader taken s bytes new whole some room next spoke.0 spoke.1.0 spoke.1.1
 
     stops_by : (opening : List ℕ) (state : S) (printed : Option (List ℕ)) (taken : List ℕ) → SessionStands stands (talker_of opening state answer) printed old reader taken
-        → (why : Ended) → SpokeLines stands answer (state_after_lines answer state (whole_lines taken)) (lines_of (reader.begun ++ bytes)) old new (Err why)
+        → (why : Ended) → AnsweredLines stands answer (state_after_lines answer state (whole_lines taken)) (lines_of (reader.begun ++ bytes)) old new (Err why)
         → SessionStops (talker_of opening state answer) printed new (taken ++ bytes) why
     stops_by opening state printed taken s cause.Done spoke = quits_ended stands (talker_of opening state answer) printed old reader taken s bytes new whole some room spoke.0 spoke.1
     stops_by opening state printed taken s cause.TooLarge spoke = absurd spoke

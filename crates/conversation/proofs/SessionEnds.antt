@@ -10,7 +10,7 @@ use Rattle.command_run.specs.declared.refusal.Reason.TheVariants as reason
 use Rattle.command_run.specs.declared.status.Status.{Status}
 use Rattle.command_run.specs.declared.status.Status.TheVariants as status
 use Rattle.command_run.specs.Call.{IsAnswerStatus, PrintsText, failed_says_after}
-use Rattle.conversation.specs.Conversing.{Converses, NeverOfASession, TerminalState, heard_after}
+use Rattle.conversation.specs.Conversing.{Converses, IsNoSessionStatus, TerminalState, heard_after}
 use Rattle.conversation.specs.Input.{TakesOfInput, TakesTurns}
 use Rattle.conversation.specs.Lines.{whole_lines}
 use Rattle.conversation.specs.Outcome.{conversation_outcome, input_name}
@@ -30,7 +30,7 @@ prints_behind answer earlier line before mid after e p = record {
   );
 }
 
-is_refused : (answer : Status) → (IsAnswerStatus answer → answer ≡ status.Refused) → NeverOfASession answer → ⊥
+is_refused : (answer : Status) → (IsAnswerStatus answer → answer ≡ status.Refused) → IsNoSessionStatus answer → ⊥
 is_refused status.Done only none = none
 is_refused status.Diverged only none = let e = only tt in absurd cc
 is_refused status.Usage only none = let e = only tt in absurd cc

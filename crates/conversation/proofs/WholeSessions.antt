@@ -14,7 +14,7 @@ use Rattle.conversation.specs.Conversing.{TerminalState}
 use Rattle.conversation.specs.Limits.{most_input}
 use Rattle.conversation.specs.Lines.{whole_lines}
 use Rattle.conversation.specs.Talker.{Answered, Talker, talker_of}
-use Rattle.conversation.specs.inside.Reader.{CameInTurn, FailsAtOpening, HeardPiece, HearsPiece, HeldSession, InputExchange, InputReadsOn, SaysPart, SessionBegun, SessionBreaksFrom, SessionGoesOn, SessionHearsFrom, SessionHolds, SessionHoldsFrom, SessionOpens, SessionOpensPart, SessionReader, SessionStands, SessionStopsIn, StopsAtPiece, WasTold, ended_by, exchange_of, listened_after, state_after_lines}
+use Rattle.conversation.specs.inside.Reader.{ReadLineByLine, FailsAtOpening, HeardPiece, HearsPiece, HeldSession, InputExchange, InputReadsOn, SaysPart, SessionBegun, SessionBreaksFrom, SessionGoesOn, SessionHearsFrom, SessionHolds, SessionHoldsFrom, SessionOpens, SessionOpensPart, SessionReader, SessionStands, SessionStopsIn, StopsAtPiece, WasTold, ended_by, exchange_of, listened_after, state_after_lines}
 use Rattle.conversation.proofs.InputPieces.{holds_all, holds_broken, holds_error, stops_at, taken_more, taken_none, turns_none, turns_noted, turns_piece}
 use Rattle.conversation.proofs.PrintedSoFar.{append_none, part_of}
 
@@ -77,7 +77,7 @@ pub record Listens {X S : Type 0} (stands : X → S → Type 0) (talker : Talker
   pub taken : List ℕ
   pub stands_so : SessionStands stands talker printed here.taken reader taken
   pub read : WhenTold old.hearing.left (λ input. TakesOfInput input here.hearing.left taken)
-  pub turns : WhenTold old.hearing.asked (λ earlier. CameInTurn talker printed taken earlier here.hearing.asked)
+  pub turns : WhenTold old.hearing.asked (λ earlier. ReadLineByLine talker printed taken earlier here.hearing.asked)
 
 unfoldable pub ListensFrom : {X S : Type 0} → (X → S → Type 0) → (S → List ℕ → Answered S) → TerminalState → TerminalState → SessionReader X → SessionReader X → Type 0
 ListensFrom {X} {S} stands answer old here reader next =

@@ -27,11 +27,11 @@ abbrev pub SaysLarge : Option (List ℕ) → Option (List ℕ) → Type 0
 SaysLarge printed printed_after = (earlier : List ℕ) × (printed_after ≡ append_known printed (earlier ++ refused_line input_name reason.TooLarge))
 
 -- statuses with which a session never ends
-abbrev pub NeverOfASession : Status → Type 0
-NeverOfASession status.Diverged = Unit {0}
-NeverOfASession status.Usage = Unit {0}
-NeverOfASession status.Absent = Unit {0}
-NeverOfASession answer = ⊥
+abbrev pub IsNoSessionStatus : Status → Type 0
+IsNoSessionStatus status.Diverged = Unit {0}
+IsNoSessionStatus status.Usage = Unit {0}
+IsNoSessionStatus status.Absent = Unit {0}
+IsNoSessionStatus answer = ⊥
 
 -- how many reads of an input failed by a session that ended so: one, exactly where it ended for that
 abbrev pub heard_after : ℕ → Status → ℕ
@@ -45,7 +45,7 @@ pub record Converses {S : Type 0} (talker : Talker S) (old new : TerminalState) 
   pub input : WhenTold old.hearing.left (λ input. HasReadInput talker input new.hearing.left answer)
   pub turns : WhenTold old.hearing.asked (TakesTurns talker old.hearing new.hearing old.taken)
   pub answered : answer ≡ status.ReadFault → WhenTold old.hearing.left (λ input. HasAnsweredLines talker input new.hearing.left old.taken new.taken)
-  pub other : NeverOfASession answer → ⊥
+  pub other : IsNoSessionStatus answer → ⊥
   pub refused : answer ≡ status.Refused → SaysLarge old.taken new.taken
   pub reads : new.hearing.faults ≡ heard_after old.hearing.faults answer
   pub writes : new.faults ≡ failed_says_after old.faults answer

@@ -16,7 +16,7 @@ use Rattle.command_run.specs.FileLaws.{same_others}
 use Rattle.command_run.specs.Outcome.{CommandOutcome, CommandStop, CommandWork, Refuses, outcome_status, outcome_text, writes_of}
 use Rattle.command_run.specs.OutcomeLaws.{no_file_left, stops_make_files, stops_tell_outcome}
 use Rattle.command_run.specs.Run.{TellsFaults, FinishedCommand, Outside, PerformedCommand, expectation, file_state}
-use Rattle.conversation.specs.Conversing.{Converses, NeverOfASession, TerminalState, heard_after}
+use Rattle.conversation.specs.Conversing.{Converses, IsNoSessionStatus, TerminalState, heard_after}
 use Rattle.conversation.specs.Lines.{early_lines}
 use Rattle.conversation.specs.Opening.{Opener, OpenedRun, OpensAs, opened_expected, opened_outcome}
 use Rattle.conversation.specs.Outcome.{conversation_outcome, input_name, is_large_input, spoken_work}
@@ -154,12 +154,12 @@ run_conversed {S = S} opener opened answer old new was c same counts = record {
     idle = λ _. same;
     prints_last = λ o e. inr (made o e);
     faults = conversed_faults answer old new counts.reads counts.writes c.reads c.writes;
-    absent = λ is. absurd (c.other (subst NeverOfASession (sym is) tt));
-    absent_text = λ is. absurd (c.other (subst NeverOfASession (sym is) tt));
+    absent = λ is. absurd (c.other (subst IsNoSessionStatus (sym is) tt));
+    absent_text = λ is. absurd (c.other (subst IsNoSessionStatus (sym is) tt));
     out_fault = λ o e is. inr (made o e);
   };
-  is_command = λ is. absurd (c.other (subst NeverOfASession (sym is) tt));
-  no_divergence = λ is. absurd (c.other (subst NeverOfASession (sym is) tt));
+  is_command = λ is. absurd (c.other (subst IsNoSessionStatus (sym is) tt));
+  no_divergence = λ is. absurd (c.other (subst IsNoSessionStatus (sym is) tt));
   promises = record {
     input = inr (record { opened = opened; opens_as = was; read = c.input; turns = c.turns });
     answered = λ is quiet. (opened, (was, c.answered is));

@@ -18,8 +18,8 @@ use Rattle.command_run.specs.OutcomeLaws.{result_follows, outcome_when_told, sam
 use Rattle.log_pairs.specs.declared.pairs.Loaded.{Loaded as LoadedFiles}
 use Rattle.log_pairs.specs.Finding.{log_file}
 use Rattle.log_pairs.specs.Laws.{OpensGroups}
-use Rattle.log_pairs.specs.Pairs.{Loaded, NoneOpened, Pair, WasOpened, loaded_pairs, names_of_pairs, replays_of, replays_of_pairs, sort_replays}
-use Rattle.log_pairs.specs.Meanings.{AreLoadedPairs, WereLoaded}
+use Rattle.log_pairs.specs.Pairs.{Loaded, RefusesPairs, Pair, OpensReplays, loaded_pairs, names_of_pairs, replays_of, replays_of_pairs, sort_replays}
+use Rattle.log_pairs.specs.Meanings.{AreLoadedPairs, LoadsFiles}
 use Rattle.cut_command.specs.declared.fronts.Front.{Front}
 use Rattle.cut_command.specs.declared.past.Past.{Past}
 use Rattle.cut_command.specs.Cut.{cut_files, cut_name, cut_of_pairs, cut_of_replays, cut_outcome, cut_work, unless_few_events, unless_other_process}
@@ -66,11 +66,11 @@ stops_too process event folder pairs refusal.WriteFault is = tt
 stops_too process event folder pairs refusal.NoMemory is = tt
 
 -- pairs that could not be read stop the cut
-pub opening_stops : (process event : ℕ) (pairs : List Pair) (told : Option Folder) (e : StopCause) → NoneOpened pairs told e → WhenTold told (λ folder. StopsAsCause (cut_outcome process event pairs folder) e)
+pub opening_stops : (process event : ℕ) (pairs : List Pair) (told : Option Folder) (e : StopCause) → RefusesPairs pairs told e → WhenTold told (λ folder. StopsAsCause (cut_outcome process event pairs folder) e)
 opening_stops process event pairs told e none folder is = stops_too process event folder pairs e (none folder is)
 
 -- the outcome of the replays
-pub found_past : (process event : ℕ) (pairs : List Pair) (told : Option Folder) (all : List LoadedFiles) (start : List Replaying) (found : Result Past StopCause) → WereLoaded pairs told all → WasOpened pairs told start
+pub found_past : (process event : ℕ) (pairs : List Pair) (told : Option Folder) (all : List LoadedFiles) (start : List Replaying) (found : Result Past StopCause) → LoadsFiles pairs told all → OpensReplays pairs told start
     → ((ls : List Loaded) → AreLoadedPairs all ls → MatchResult found (λ past. cut_of_pairs pairs ls process event start ≡ Ok (work_of_past past)) (StopsAsCause (cut_of_pairs pairs ls process event start)))
     → WhenTold told (λ folder. MatchResult found (λ past. cut_outcome process event pairs folder ≡ Ok (work_of_past past)) (StopsAsCause (cut_outcome process event pairs folder)))
 found_past process event pairs told all start found loaded begun answer folder is =
@@ -100,7 +100,7 @@ module _ (process event : ℕ) (pairs : List Pair) (told : Option Folder) (past 
   pub work_tells : (o : CommandOutcome) → option_map (cut_outcome process event pairs) told ≡ Some o → TellsOutcome o (Ok (answered.Done past.text))
   work_tells o here = (work_of_past past, work_is o here, refl, refl)
 
-  pub work_cuts : (start : List Replaying) → WasOpened pairs told start → IsCutLog process event start (work_of_past past) → WhenTold told (CutsToPast process event pairs)
+  pub work_cuts : (start : List Replaying) → OpensReplays pairs told start → IsCutLog process event start (work_of_past past) → WhenTold told (CutsToPast process event pairs)
   work_cuts start begun is_cut folder is = record { start = start; opened = begun folder is; work = work_of_past past; is = works folder is; cut = is_cut }
 
 -- ---- the files of a group whose process has the event

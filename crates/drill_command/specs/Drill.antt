@@ -15,7 +15,7 @@ use Rattle.expression_text.specs.declared.expr.Agg.TheVariants.{Sum}
 use Rattle.expression_text.specs.declared.expr.NodeName.TheVariants.{Each}
 use Rattle.expression_text.specs.declared.expr.Width.TheVariants.{I64}
 use Rattle.expression_text.specs.Expression.{Expression, Number, Over, Load}
-use Rattle.embed_cmds.specs.Running.{value_word}
+use Rattle.point_programs.specs.Running.{value_word}
 use Rattle.shell_points.specs.Firing.{watchpoint_fires, value_at_position}
 use Rattle.command_run.specs.declared.refusal.Reason.TheVariants as reason
 use Rattle.command_run.specs.Outcome.{CommandOutcome, CommandWork, refuses_at_once}

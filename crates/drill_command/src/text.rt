@@ -5,8 +5,8 @@ ghost use Rattle.drill_command.specs.Drill.{drill_text, number_line};
 ghost use Rattle.drill_command.specs.inside.Results.{IsWatchedDrill};
 
 use crate::watching::Watched;
-use embed_cmds::push_value;
 use fri_text::Text;
+use point_programs::push_value;
 use std::alloc::{AllocError, Global};
 
 fn push_line(text: &mut Text, word: &str, number: u64) -> Result<(), AllocError>

@@ -18,7 +18,7 @@ use Rattle.expression_text.specs.declared.word.PlaceWord.TheVariants as place
 use Rattle.expression_text.specs.Expression.{Expression}
 use Rattle.expression_text.specs.Spelling.{is_word_byte, is_word, node_of_word, node_spelled, number_of, number_at_most, most_number, binary_sign, unary_sign, agg_word, place_word}
 use Rattle.expression_text.specs.Grammar.{IsExprAtLevel, higher, two, one, number, variable, brackets, over, load, global, clock, events, size, last_thread, has_ended}
-use Rattle.expression_text.specs.Laws.{is_apart_token, NoneApart}
+use Rattle.expression_text.specs.Laws.{is_apart_token, NoSeparatorInExpr}
 use Rattle.expression_text.proofs.KnownWords.{same_bytes}
 
 -- what no token apart has
@@ -160,5 +160,5 @@ module _ (names : List (List ℕ)) where
   all_in (last_thread name node e) = in_front name (codes "." ∷ codes "thread" ∷ []) (node_apart names name node e) refl
   all_in (has_ended name node e) = in_front name (codes "." ∷ codes "ended" ∷ []) (node_apart names name node e) refl
 
-pub none_in : NoneApart
+pub none_in : NoSeparatorInExpr
 none_in names ts x h = all_in names h

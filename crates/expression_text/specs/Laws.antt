@@ -29,5 +29,5 @@ abbrev pub is_apart_token : List ℕ → Bool
 is_apart_token text = bytes_eq text (codes ",") || bytes_eq text (codes ";") || bytes_eq text (codes "{") || bytes_eq text (codes "}") || (slice_index text 0 == 34)
 
 -- none of these is in an expression
-abbrev pub NoneApart : Type 0
-NoneApart = (names ts : List (List ℕ)) (x : Expression) → IsExpr names ts x → list_all (λ t. not (is_apart_token t)) ts ≡ true
+abbrev pub NoSeparatorInExpr : Type 0
+NoSeparatorInExpr = (names ts : List (List ℕ)) (x : Expression) → IsExpr names ts x → list_all (λ t. not (is_apart_token t)) ts ≡ true

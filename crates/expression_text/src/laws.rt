@@ -1,5 +1,5 @@
 // What holds of lines and of the expressions in them, whatever they are. These calls do nothing.
-ghost use Rattle.expression_text.specs.Laws.{ExactCut, ExactReading, NoneApart};
+ghost use Rattle.expression_text.specs.Laws.{ExactCut, ExactReading, NoSeparatorInExpr};
 
 /// A line has its tokens or a first byte that begins none, and `cut_tokens` computes which.
 pub fn exact_cut()
@@ -13,5 +13,5 @@ pub fn exact_reading()
 
 /// No comma, semicolon, brace or string is in an expression.
 pub fn none_apart()
-    ensures { NoneApart }
+    ensures { NoSeparatorInExpr }
 {}

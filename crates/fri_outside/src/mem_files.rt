@@ -2,7 +2,7 @@
 ghost use Rattle.std.specs.Prelude.{◌≡◌, ◌↔◌, [], Some, OnOk, OnErr, IsErrOf, MatchResult};
 ghost use Rattle.std.specs.Option.{option_copied};
 ghost use Rattle.std.specs.FinMap.{empty, get, insert};
-ghost use Rattle.fri_outside.specs.Outside.{Held, found_file, SaysOf, after_read, after_write};
+ghost use Rattle.fri_outside.specs.Outside.{Held, found_file, ErrorMatchesFile, after_read, after_write};
 ghost use Rattle.fri_outside.specs.Memory.{no_failures, IsDueFailure, after_call, with_failure, appended_to_file, first_half, SameFaultCounts};
 
 use crate::plan::FailurePlan;
@@ -90,7 +90,7 @@ impl Files for MemFiles {
     fn read(&mut self, alloc: Global, name: &str, limit: usize) -> Result<Vec<u8>, FileError>
         ensures answer { MatchResult result
             (λ bytes. found_file self.old.folder name.now limit ≡ Held bytes.items)
-            (SaysOf (found_file self.old.folder name.now limit)) }
+            (ErrorMatchesFile (found_file self.old.folder name.now limit)) }
         ensures same { self.new.folder ≡ self.old.folder }
 
         ensures fails { IsErrOf result FileError.Failed ↔ IsDueFailure self.old.plan }

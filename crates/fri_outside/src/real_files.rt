@@ -1,7 +1,7 @@
 // The files of the runtime. They count what failed and what was missed, and tell no contents.
 ghost use Rattle.std.specs.Prelude.{◌≡◌, ◌≤◌, ◌+◌, None, Some, take, vec_len, IfOk, OnOk, MatchResult};
 ghost use Rattle.std.specs.Io.KnownBytes.{Appends};
-ghost use Rattle.fri_outside.specs.Outside.{FoundFile, Held, SaysOf, WhenTold, after_read, after_write, found_within};
+ghost use Rattle.fri_outside.specs.Outside.{FoundFile, Held, ErrorMatchesFile, WhenTold, after_read, after_write, found_within};
 ghost use Rattle.fri_outside.specs.inside.Reading.{MovesFrontOfBytes};
 
 use crate::open_files::{OpenFiles, close};
@@ -155,7 +155,7 @@ fn open_read_error(error: &io::Error) -> FileError {
 
 // Why bytes of an open file were not read, whatever the file has. It was found, so it is not absent.
 fn bytes_error(error: &io::Error) -> FileError
-    ensures { (here : FoundFile) → SaysOf here result }
+    ensures { (here : FoundFile) → ErrorMatchesFile here result }
 {
     match error.kind() {
         ErrorKind::OutOfMemory => FileError::NoMemory,
@@ -216,7 +216,7 @@ fn read_within<F: Read + Drop>(
     ensures within { IfOk result (λ bytes. vec_len bytes ≤ limit) }
     ensures answer { WhenTold (F.remaining file) (λ all. MatchResult result
         (λ bytes. found_within limit (Some all) ≡ Held bytes.items)
-        (SaysOf (found_within limit (Some all)))) }
+        (ErrorMatchesFile (found_within limit (Some all)))) }
 {
     match read_up_to(alloc, file, expected, limit) {
         Ok(bytes) if bytes.len() > limit => Err(FileError::TooLarge),

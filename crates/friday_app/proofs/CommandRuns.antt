@@ -17,7 +17,7 @@ use Rattle.command_run.specs.Outcome.{CommandOutcome, NotACommand, outcome_statu
 use Rattle.command_run.specs.Run.{CallEnds, FinishedCommand, LeavesInput, LeavesWholeFiles, Outside, PerformedCommand, expected_by_folder, file_state}
 use Rattle.record_command.specs.Agreement.{IsRecordable, LeavesMoment}
 use Rattle.record_command.specs.Expected.{record_outcome}
-use Rattle.record_command.specs.Laws.{RecordingsAgree, RecordingsRest}
+use Rattle.record_command.specs.Laws.{RecordingsAgree, UntouchedFolderIsMoment}
 use Rattle.log_pairs.specs.Pairs.{Pair}
 use Rattle.debug_command.specs.Run.{DebugRun}
 use Rattle.headline.specs.Headline.{LeftIsShown, ShowsRun}
@@ -194,7 +194,7 @@ run_none answer old new call usage reads unheard = record {
 
 -- ---- want of memory, before anything was read
 
-pub run_stopped : RecordingsAgree → RecordingsRest → LeftIsShown → PlayedIsRecorded → (command : Option Command) (o : Outside) (answer : Status) → answer ≡ ends.NoMemory
+pub run_stopped : RecordingsAgree → UntouchedFolderIsMoment → LeftIsShown → PlayedIsRecorded → (command : Option Command) (o : Outside) (answer : Status) → answer ≡ ends.NoMemory
     → CallEnds (expected command o.told o.hearing.left).outcome (expected command o.told o.hearing.left).written o o answer → CommandRun command o o answer
 run_stopped agree rest law plays command o answer is call = subst (λ (a : Status). CommandRun command o o a) (sym is) (record {
   call = subst (λ (a : Status). CallEnds (expected command o.told o.hearing.left).outcome (expected command o.told o.hearing.left).written o o a) is call;

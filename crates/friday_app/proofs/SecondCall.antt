@@ -25,7 +25,7 @@ use Rattle.debug_command.specs.Debug.{debug_outcome, session_outcome}
 use Rattle.friday_app.specs.Command.{Command, Debug, Record, Replay}
 use Rattle.friday_app.specs.Expected.{expected}
 use Rattle.friday_app.specs.Run.{CommandRun}
-use Rattle.friday_app.specs.TwoCalls.{CameTo, ShowsRecorded, ShowsThese, pairs_of_processes, printed_by}
+use Rattle.friday_app.specs.TwoCalls.{HasOutcome, ShowsRecorded, ShowsThese, pairs_of_processes, printed_by}
 use Rattle.headline.specs.Headline.{AreHeld, AreProcesses, ShowsSteps, logs_in, run_to, sorted_of}
 use Rattle.headline.specs.Shown.{no_cut, recorded_report}
 use Rattle.friday_app.proofs.ImagesApart.{images_apart}
@@ -76,7 +76,7 @@ has_all images r old middle rec (p ∷ ps) below = (record { «module» = rec.mo
 
 -- a call from which this is expected has this outcome
 came_to : (command : Option Command) (outcome : CommandOutcome) (folder : Folder) (printed : Option (List ℕ)) (middle new : Outside) (answer : Status) → CommandRun command middle new answer
-    → (expected command middle.told middle.hearing.left).outcome ≡ Some outcome → middle.told ≡ Some folder → middle.taken ≡ printed → IsAnswerStatus answer → CameTo outcome folder printed new answer
+    → (expected command middle.told middle.hearing.left).outcome ≡ Some outcome → middle.told ≡ Some folder → middle.taken ≡ printed → IsAnswerStatus answer → HasOutcome outcome folder printed new answer
 came_to command outcome folder printed middle new answer run known told said answers = record {
   status = run.call.status outcome known answers;
   text = (run.call.text outcome known).whole answers ∙ ap (λ (t : Option (List ℕ)). append_known t (outcome_text outcome)) said;

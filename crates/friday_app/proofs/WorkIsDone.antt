@@ -17,7 +17,7 @@ use Rattle.streams_command.specs.Laws.{StreamsWork}
 use Rattle.play_command.specs.Laws.{PlaysWork}
 use Rattle.friday_app.specs.Command.{Command, Cut, Debug, Drill, Migrate, Play, Record, Replay, Schedule, Streams}
 use Rattle.friday_app.specs.Expected.{expected}
-use Rattle.friday_app.specs.Run.{CommandRun, WorksAsCommand}
+use Rattle.friday_app.specs.Run.{CommandRun, CompletesWork}
 use Rattle.friday_app.specs.Valid.{IsValidCall}
 
 settled : (answer wanted : Status) → (IsAnswerStatus answer → answer ≡ wanted) → (answer ≡ ends.ReadFault → ⊥) → (answer ≡ ends.WriteFault → ⊥) → (answer ≡ wanted) ⊎ (answer ≡ ends.NoMemory)
@@ -58,7 +58,7 @@ module _ (recordings : RecordingsWork) (replays : ReplaysWork) (sessions : Sessi
   has_work (Play schedule_name) folder left h = plays schedule_name folder left h
 
   pub run_completes : (command : Option Command) (old new : Outside) (answer : Status) (folder : Folder) → CommandRun command old new answer → old.told ≡ Some folder → IsValidCall command folder old.hearing.left → NoFault old new
-      → WorksAsCommand command old.told old.hearing.left answer
+      → CompletesWork command old.told old.hearing.left answer
   run_completes None old new answer folder run told valid quiet = absurd valid
   run_completes (Some command) old new answer folder run told valid quiet =
       let w = has_work command folder old.hearing.left valid in

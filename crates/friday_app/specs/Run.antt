@@ -26,7 +26,7 @@ pub record CommandRun (command : Option Command) (old new : Outside) (answer : S
   pub promises : Promises command old new answer
 
 -- the command has work to do, and the status is that of the work, or want of memory
-pub record WorksAsCommand (command : Option Command) (told : Option Folder) (left : Option (List ℕ)) (answer : Status) : Type 0 where
+pub record CompletesWork (command : Option Command) (told : Option Folder) (left : Option (List ℕ)) (answer : Status) : Type 0 where
   pub work : CommandWork
   pub is_expected : (expected command told left).outcome ≡ Some (Ok work)
   pub status : (answer ≡ outcome_status (Ok work)) ⊎ (answer ≡ ends.NoMemory)
@@ -34,4 +34,4 @@ pub record WorksAsCommand (command : Option Command) (told : Option Folder) (lef
 -- with valid words, files and input, and no fault, the work is done, unless memory runs out
 abbrev pub DoesValidWork : Option Command → Outside → Outside → Status → Type 0
 DoesValidWork command old new answer =
-    WhenTold old.told (λ folder. IsValidCall command folder old.hearing.left → NoFault old new → WorksAsCommand command old.told old.hearing.left answer)
+    WhenTold old.told (λ folder. IsValidCall command folder old.hearing.left → NoFault old new → CompletesWork command old.told old.hearing.left answer)

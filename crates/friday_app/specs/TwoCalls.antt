@@ -30,7 +30,7 @@ abbrev pub pairs_of_processes : Schedule → List ℕ → List Pair
 pairs_of_processes schedule ps = map (files_of_process schedule) ps
 
 -- a call had this outcome: its text follows what was printed before, and its files in the folder that was there
-pub record CameTo (outcome : CommandOutcome) (folder : Folder) (printed : Option (List ℕ)) (new : Outside) (answer : Status) : Type 0 where
+pub record HasOutcome (outcome : CommandOutcome) (folder : Folder) (printed : Option (List ℕ)) (new : Outside) (answer : Status) : Type 0 where
   pub status : answer ≡ outcome_status outcome
   pub text : new.taken ≡ append_known printed (outcome_text outcome)
   pub files : new.told ≡ with_files (writes_of outcome) (Some folder)
@@ -56,9 +56,9 @@ pub record ShowsThese {before : Folder} {schedule_name : List ℕ} (images : Boo
   pub left : with_files (logs_of_steps (group_in r) (steps_in r) ++ images_of images (group_in r) (run_in r)) (Some before) ≡ Some folder
   pub shown : IsShown (run_to r (steps_in r)) no_cut folder ps (pairs_of_processes r.schedule ps)
   pub replayed : (asked : Bool) → second.command ≡ Some (Replay asked (pairs_of_processes r.schedule ps)) → IsAnswerStatus second.answer
-      → CameTo (Ok (recorded_report asked (run_to r (steps_in r)) no_cut (sorted_of (processes_in_group (group_in r)) ps))) folder (printed_by images r second.old.taken) second.new second.answer
+      → HasOutcome (Ok (recorded_report asked (run_to r (steps_in r)) no_cut (sorted_of (processes_in_group (group_in r)) ps))) folder (printed_by images r second.old.taken) second.new second.answer
   pub debugged : second.command ≡ Some (Debug (pairs_of_processes r.schedule ps)) → IsAnswerStatus second.answer
-      → WhenTold second.old.hearing.left (λ input. CameTo (session_outcome shown.start input) folder (printed_by images r second.old.taken) second.new second.answer)
+      → WhenTold second.old.hearing.left (λ input. HasOutcome (session_outcome shown.start input) folder (printed_by images r second.old.taken) second.new second.answer)
 
 -- this holds of each schedule that can be recorded, and of the pairs of any of its processes, in any order
 abbrev pub ShowsRecorded : Option Command → Option Command → Outside → Outside → Status → Type 0

@@ -5,7 +5,7 @@ use Rattle.std.proofs.lemmas.Option.{same_Some}
 use Rattle.group_order.specs.Order.{NodeEvent}
 use Rattle.lib_calls.specs.declared.entry.Entry.{Entry}
 use Rattle.proc_replay.specs.Replaying.{Replaying}
-use Rattle.group_texts.specs.Texts.{event_line, event_lines}
+use Rattle.group_text.specs.Texts.{event_line, event_lines}
 
 event_at : {A : Type 0} (es : List A) (e : A) (k n : ℕ) → slice_get es k ≡ Some e → k < n → drop k (take n es) ≡ e ∷ drop (suc k) (take n es)
 event_at [] e k n found before = absurd (cc)

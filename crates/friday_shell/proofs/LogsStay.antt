@@ -4,10 +4,10 @@ use Rattle.std.specs.Prelude.{slice_get}
 use Rattle.call_table.specs.declared.kind.Kind.{Kind}
 use Rattle.guest_process.specs.State.{State}
 use Rattle.group_state.specs.Place.{events_of_replays, states_of_nodes}
-use Rattle.embed_cmds.specs.Faulty.{set_names}
+use Rattle.point_programs.specs.Faulty.{set_names}
 use Rattle.expression_text.specs.Expression.{Expression}
-use Rattle.embed_cmds.specs.Tree.{Statements}
-use Rattle.embed_cmds.specs.Variables.{is_mentioned, mention_all}
+use Rattle.point_programs.specs.Tree.{Statements}
+use Rattle.point_programs.specs.Variables.{is_mentioned, mention_all}
 use Rattle.shell_lines.specs.Lines.{At, Back, Break, LineCommand, Continue, Delete, Do, Events, Everywhere, Frames, Goto, ListPoints, ListVariables, Mem, Print, Quit, Rcontinue, WhichNodes, SetTo, Step, Threads, Watch}
 use Rattle.shell_points.specs.Points.{Trigger, has_point, index_of_point}
 use Rattle.friday_shell.specs.Answer.{LineAnswer, adds_point, attaches_at, breaks_at, command_answer, deletes_point, frames_in, shows_frames, most_points, most_variables, sets_variable}

@@ -7,11 +7,11 @@ use Rattle.call_table.specs.declared.kind.Kind.{Kind}
 use Rattle.group_state.specs.Moves.{last_event_of}
 use Rattle.guest_process.specs.State.{State}
 use Rattle.group_state.specs.Place.{GroupPlace, events_of_replays, node_names, states_of_nodes}
-use Rattle.group_texts.specs.Texts.{event_ending, position_line}
-use Rattle.embed_cmds.specs.Faulty.{set_names}
+use Rattle.group_text.specs.Texts.{event_ending, position_line}
+use Rattle.point_programs.specs.Faulty.{set_names}
 use Rattle.expression_text.specs.Expression.{Expression}
-use Rattle.embed_cmds.specs.Tree.{Statements}
-use Rattle.embed_cmds.specs.Variables.{is_mentioned, mention_all}
+use Rattle.point_programs.specs.Tree.{Statements}
+use Rattle.point_programs.specs.Variables.{is_mentioned, mention_all}
 use Rattle.shell_lines.specs.Lines.{At, Back, Break, LineCommand, Continue, Delete, Do, Events, Everywhere, Frames, Goto, ListPoints, ListVariables, Mem, Print, Quit, Rcontinue, WhichNodes, SetTo, Step, Threads, Watch}
 use Rattle.shell_lines.specs.Meaning.{Does, LineMeaning, Refuses, Silent, line_meaning, trimmed}
 use Rattle.shell_lines.specs.Refusals.{refusal_line}

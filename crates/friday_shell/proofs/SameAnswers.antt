@@ -7,10 +7,10 @@ use Rattle.proc_replay.specs.Replaying.{Replaying}
 use Rattle.group_state.specs.Nodes.{nodes_at}
 use Rattle.group_state.specs.Place.{node_names, states_of_nodes}
 use Rattle.expression_text.specs.Expression.{Expression}
-use Rattle.embed_cmds.specs.Faulty.{set_names}
-use Rattle.embed_cmds.specs.Running.{value_in}
-use Rattle.embed_cmds.specs.Tree.{Statements}
-use Rattle.embed_cmds.specs.Variables.{Variable, is_mentioned, mention_all}
+use Rattle.point_programs.specs.Faulty.{set_names}
+use Rattle.point_programs.specs.Running.{value_in}
+use Rattle.point_programs.specs.Tree.{Statements}
+use Rattle.point_programs.specs.Variables.{Variable, is_mentioned, mention_all}
 use Rattle.shell_lines.specs.Lines.{At, Back, Break, LineCommand, Continue, Delete, Do, Events, Everywhere, Frames, Goto, ListPoints, ListVariables, Mem, Print, Quit, Rcontinue, WhichNodes, SetTo, Step, Threads, Watch}
 use Rattle.shell_lines.specs.Meaning.{Does, LineMeaning, Refuses, Silent, line_meaning, trimmed}
 use Rattle.shell_lines.specs.Refusals.{refusal_line}

@@ -7,7 +7,7 @@ use Rattle.proc_replay.specs.Replaying.{Replaying}
 use Rattle.expression_text.specs.Expression.{Expression}
 use Rattle.watch_expr.specs.Reads.{no_variables}
 use Rattle.watch_expr.specs.Value.{value, value_in_event}
-use Rattle.embed_cmds.specs.Running.{is_nonzero}
+use Rattle.point_programs.specs.Running.{is_nonzero}
 use Rattle.group_state.specs.Moves.{event_before, last_event_of}
 use Rattle.group_state.specs.Nodes.{nodes_at, seen_node}
 use Rattle.shell_points.specs.Firing.{condition_value, firing_line, firing_line_by, firing_lines, is_due_at, is_due_by, is_due_point, meets_condition, node_of_event, place_at, point_said_at, reading}

@@ -5,7 +5,7 @@ use Rattle.lib_calls.specs.declared.entry.Entry.{Entry}
 use Rattle.group_order.specs.Order.{NodeEvent}
 use Rattle.proc_replay.specs.Replaying.{Replaying}
 use Rattle.watch_expr.specs.View.{bytes_of_node}
-use Rattle.group_texts.specs.Texts.{event_ending, event_line, event_lines, event_text, last_lines, named_event_text, node_name, position_line}
+use Rattle.group_text.specs.Texts.{event_ending, event_line, event_lines, event_text, last_lines, named_event_text, node_name, position_line}
 use Rattle.shell_points.specs.Firing.{place_at}
 use Rattle.friday_shell.specs.Answer.{memory_text, piece_text, text_of_state, threads_of}
 use Rattle.friday_shell.specs.SameGroup.{SameGroup}

@@ -3,8 +3,8 @@ use Rattle.std.proofs.Common.{◌≡◌, ℕ, zero, suc, ◌-◌, ◌&&◌, cond
 use Rattle.std.specs.Prelude.{slice_get, unwrap_or}
 use Rattle.std.specs.List.{list_any}
 use Rattle.proc_replay.specs.Replaying.{Replaying}
-use Rattle.embed_cmds.specs.Running.{ProgramState, program_setting}
-use Rattle.embed_cmds.specs.Variables.{Variable}
+use Rattle.point_programs.specs.Running.{ProgramState, program_setting}
+use Rattle.point_programs.specs.Variables.{Variable}
 use Rattle.shell_points.specs.Firing.{place_at}
 use Rattle.shell_points.specs.Points.{Point}
 use Rattle.shell_points.specs.Returning.{has_stopping_point, last_due, may_stop, return_from, return_to}

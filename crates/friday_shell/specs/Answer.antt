@@ -9,11 +9,11 @@ use Rattle.expression_text.specs.Expression.{Expression}
 use Rattle.watch_expr.specs.View.{bytes_of_node}
 use Rattle.group_state.specs.Place.{GroupPlace, events_of_replays, node_names, states_of_nodes}
 use Rattle.group_state.specs.Nodes.{nodes_at}
-use Rattle.group_texts.specs.Texts.{frames_line, last_lines, node_name, position_line, process_lines}
-use Rattle.embed_cmds.specs.Faulty.{set_names}
-use Rattle.embed_cmds.specs.Running.{value_in, value_word}
-use Rattle.embed_cmds.specs.Tree.{Statements}
-use Rattle.embed_cmds.specs.Variables.{Variable, is_mentioned, mention_all, with_value}
+use Rattle.group_text.specs.Texts.{frames_line, last_lines, node_name, position_line, process_lines}
+use Rattle.point_programs.specs.Faulty.{set_names}
+use Rattle.point_programs.specs.Running.{value_in, value_word}
+use Rattle.point_programs.specs.Tree.{Statements}
+use Rattle.point_programs.specs.Variables.{Variable, is_mentioned, mention_all, with_value}
 use Rattle.shell_lines.specs.Lines.{At, Back, Break, LineCommand, Continue, Delete, Do, Events, Everywhere, Frames, Goto, ListPoints, ListVariables, Mem, Print, Quit, Rcontinue, WhichNodes, SetTo, Step, Threads, Watch}
 use Rattle.shell_lines.specs.Meaning.{Does, LineMeaning, Refuses, Silent, line_meaning, trimmed}
 use Rattle.shell_lines.specs.Refusals.{refusal_line}

@@ -2,7 +2,7 @@
 use Rattle.std.specs.Prelude.{ℕ, ◌+◌, List, [], ◌∷◌, ◌++◌, Option}
 use Rattle.group_state.specs.Place.{GroupPlace}
 use Rattle.expression_text.specs.Expression.{Expression}
-use Rattle.embed_cmds.specs.Variables.{Variable}
+use Rattle.point_programs.specs.Variables.{Variable}
 use Rattle.shell_points.specs.Points.{Point, Trigger, new_point}
 
 -- where its group is, the points that it holds, in order of their numbers, how many were ever made, and the variables

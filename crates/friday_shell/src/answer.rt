@@ -6,7 +6,7 @@ ghost use Rattle.friday_shell.specs.declared.state.PointsAndVariables.{PointsAnd
 ghost use Rattle.friday_shell.specs.inside.Meanings.{PerformsCommand, WritesNext, is_walk, leaves_group, session_state, state_with};
 ghost use Rattle.friday_shell.specs.Ticks.{command_ticks};
 ghost use Rattle.group_state.specs.Place.{events_of_replays};
-ghost use Rattle.group_texts.specs.Texts.{event_lines, last_lines, position_line};
+ghost use Rattle.group_text.specs.Texts.{event_lines, last_lines, position_line};
 ghost use Rattle.shell_lines.specs.Lines.{Back, Continue, Events, Goto, Rcontinue, Step};
 ghost use Rattle.shell_lines.specs.Spelled.{command as command_meant};
 ghost use Rattle.shell_points.specs.Firing.{place_at};
@@ -17,7 +17,7 @@ use crate::state::{PointsAndVariables, State, told};
 use crate::variables::{list_variables, set};
 use fri_text::Text;
 use group_state::Group;
-use group_texts::{push_event_line, push_position};
+use group_text::{push_event_line, push_position};
 use shell_lines::{DebuggerCommand, LineRefusal, refused};
 use shell_points::{Trigger, WalkEnd};
 use std::alloc::{AllocError, Global};

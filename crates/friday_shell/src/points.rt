@@ -1,6 +1,6 @@
 // The commands that change the points of a session.
 ghost use Rattle.std.specs.Prelude.{◌≡◌, ◌++◌, IfOk, codes, decimal};
-ghost use Rattle.embed_cmds.specs.Tree.{program_body};
+ghost use Rattle.point_programs.specs.Tree.{program_body};
 ghost use Rattle.friday_shell.specs.Answer.{adds_point, attaches_program, breaks_at, deletes_point};
 ghost use Rattle.friday_shell.specs.inside.Meanings.{PerformsCommand, session_state};
 ghost use Rattle.shell_lines.specs.Spelled.{scope as scope_meant};
@@ -8,9 +8,9 @@ ghost use Rattle.shell_points.specs.Meanings.{held_condition as condition_meant,
 
 use crate::state::State;
 use crate::variables::MOST_VARIABLES;
-use embed_cmds::Program;
 use fri_text::Text;
 use lib_calls::Kind;
+use point_programs::Program;
 use shell_lines::{LineRefusal, WhichNodes, refused};
 use shell_points::Trigger;
 use std::alloc::{AllocError, Global};

@@ -16,10 +16,10 @@ ghost use Rattle.shell_lines.specs.declared.line.Line.TheVariants.{Silent};
 use crate::answer::perform;
 use crate::state::{PointsAndVariables, State, told};
 use conversation::Go;
-use embed_cmds::Vars;
 use fri_bytes::Bytes;
 use fri_text::Text;
 use group_state::Group;
+use point_programs::Vars;
 use shell_lines::{DebuggerCommand, Line, read_line, refused, trimmed};
 use shell_points::Points;
 use std::alloc::{AllocError, Global};
@@ -40,7 +40,7 @@ impl<'m, 'a> Model for Session<'m, 'a> {
     ghost use Rattle.std.specs.Coded.{codes};
     ghost use Rattle.guest_process.specs.Coding.{crew_code, trees_code};
     ghost use Rattle.expression_text.specs.Coding.{expression_code};
-    ghost use Rattle.embed_cmds.specs.Coding.{statements_code};
+    ghost use Rattle.point_programs.specs.Coding.{statements_code};
     ghost use Rattle.friday_shell.specs.Points.{SessionState};
 
     ghost Value = { SessionState };

@@ -2,17 +2,17 @@
 ghost use Rattle.std.specs.Prelude.{◌≡◌, IfOk};
 ghost use Rattle.friday_shell.specs.Answer.{memory_text, shows_frames, threads_of, value_text};
 ghost use Rattle.friday_shell.specs.inside.Meanings.{session_state};
-ghost use Rattle.embed_cmds.specs.Running.{value_in};
+ghost use Rattle.point_programs.specs.Running.{value_in};
 ghost use Rattle.group_state.specs.Nodes.{nodes_at};
 ghost use Rattle.expression_text.specs.Expression.{expression_of};
 
 use crate::state::State;
 use crate::variables::value_here;
-use embed_cmds::push_value;
 use fri_text::Text;
 use group_state::Group;
-use group_texts::{push_frames, push_process};
+use group_text::{push_frames, push_process};
 use lib_calls::memory_part;
+use point_programs::push_value;
 use shell_lines::{LineRefusal, refused};
 use std::alloc::{AllocError, Global};
 use watch_expr::Expr;

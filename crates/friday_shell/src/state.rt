@@ -1,9 +1,9 @@
 // Where a session is.
 ghost use Rattle.std.specs.Prelude.{◌≡◌, IfOk, Ok};
 
-use embed_cmds::Vars;
 use fri_text::Text;
 use group_state::Group;
+use point_programs::Vars;
 use shell_points::Points;
 use std::alloc::AllocError;
 

@@ -1,7 +1,7 @@
 // The variables of a session.
 ghost use Rattle.std.specs.Prelude.{◌≡◌, ◌++◌, [], IfOk, OnOk};
 ghost use Rattle.std.specs.List.{flat_map};
-ghost use Rattle.embed_cmds.specs.Running.{value_in};
+ghost use Rattle.point_programs.specs.Running.{value_in};
 ghost use Rattle.friday_shell.specs.Answer.{command_answer, sets_variable, variable_text};
 ghost use Rattle.friday_shell.specs.inside.Meanings.{PerformsCommand, session_state};
 ghost use Rattle.group_state.specs.Nodes.{nodes_at};
@@ -9,9 +9,9 @@ ghost use Rattle.shell_lines.specs.Lines.{SetTo};
 ghost use Rattle.expression_text.specs.Expression.{expression_of};
 
 use crate::state::State;
-use embed_cmds::{Vars, push_value};
 use fri_bytes::Bytes;
 use fri_text::Text;
+use point_programs::{Vars, push_value};
 use shell_lines::{LineRefusal, refused};
 use std::alloc::{AllocError, Global};
 use watch_expr::{Expr, eval};

@@ -17,7 +17,7 @@ use Rattle.guest_process.specs.Live.{AnsweredCall, Env, Event, answered_now, as_
 use Rattle.guest_process.specs.State.{State}
 use Rattle.lossy_net.specs.Network.{nth_of}
 use Rattle.group_world.specs.History.{Deliver, History, mailbox, sends, taken_count}
-use Rattle.group_world.specs.Laws.{GiverOfDatagram, HasOrigin, InTurn, NamesSend}
+use Rattle.group_world.specs.Laws.{GiverOfDatagram, HasOrigin, MailboxIsFifo, NamesSend}
 use Rattle.group_record.specs.Run.{GroupStart, RunStep, Had, world_around, history_of_steps, processes_in_group}
 use Rattle.group_record.specs.Laws.{Delivery, IsSendInHistory, TakesDatagram}
 use Rattle.group_record.specs.Standing.{IsRun}
@@ -77,11 +77,11 @@ contains_first box later bytes is = subst (λ (xs : List (List ℕ)). Contains x
 -- what is known of the world around processes
 pub record WorldLaws : Type 0 where
   pub origin : HasOrigin
-  pub turn : InTurn
+  pub turn : MailboxIsFifo
   pub named : NamesSend
 
 -- the datagram that comes first is that which was given next after those that were taken
-turn_of : InTurn → (count : ℕ) (h : History) (p : ℕ) (bytes : List ℕ) (later : List (List ℕ)) → mailbox count h p ≡ bytes ∷ later → GiverOfDatagram count h p (taken_count h p) bytes
+turn_of : MailboxIsFifo → (count : ℕ) (h : History) (p : ℕ) (bytes : List ℕ) (later : List (List ℕ)) → mailbox count h p ≡ bytes ∷ later → GiverOfDatagram count h p (taken_count h p) bytes
 turn_of turn count h p bytes later first =
     turn.giver count h p (taken_count h p) bytes (sym (turn.front count h p) ∙ ap (λ (box : List (List ℕ)). slice_get box 0) first)
 

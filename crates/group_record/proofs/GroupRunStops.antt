@@ -13,7 +13,7 @@ use Rattle.group_record.specs.declared.error.RecordError.TheVariants as errors
 use Rattle.group_record.specs.declared.recorder.Recorder.{Recorder}
 use Rattle.group_record.specs.Files.{IsStoppedRecording, InHeads, Between, InEntry, InImages, change}
 use Rattle.group_record.specs.Logs.{logs_of_steps}
-use Rattle.group_record.specs.inside.Recorded.{RecorderComes, FilesOf}
+use Rattle.group_record.specs.inside.Recorded.{RecorderReaches, FilesOf}
 use Rattle.group_record.specs.Run.{GroupStart, RunProgress, RunStep, Had, Did, IsMoment, after_item, after_items, attempt, run_attempts, done_by_item, event_of_try, had_event, log_has_room, unless_log_full}
 use Rattle.process_files.specs.FirstLaws.{after_none, files_after}
 
@@ -109,7 +109,7 @@ stopped_in group steps images before now after written (n, is) =
 
 -- what is answered at one moment is answered of the whole
 pub comes_on : (group : GroupStart) (early late : RunProgress) (error : RecordError) (r : Recorder) (before after : Option Folder) → LeadsTo early late
-    → RecorderComes group early (Err error) r (change before after) → RecorderComes group late (Err error) r (change before after)
+    → RecorderReaches group early (Err error) r (change before after) → RecorderReaches group late (Err error) r (change before after)
 comes_on group early late (errors.BadSegment p) r before after leads h = h
 comes_on group early late (errors.LogFull number) r before after leads h =
     subst (λ (d : RunProgress). (d.full ≡ Some number) × FilesOf group d before after) (sym (leads.full number h.0)) h

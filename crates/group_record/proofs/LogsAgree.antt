@@ -31,7 +31,7 @@ use Rattle.group_world.specs.History.{Act, put_last_if, time}
 use Rattle.group_world.specs.History as world
 use Rattle.group_record.specs.Run.{GroupStart, RunStep, Had, Did, world_around, entries_of_steps, log_has_room, head_of_log, history_of_steps, log_of, name_of_process, processes_in_group, process_after, process_states, recorded_states}
 use Rattle.group_record.specs.Laws.{Agreement, CutAgreement, IsBegun}
-use Rattle.group_record.specs.Logs.{IsLogOfRun, TellsBeforeRest}
+use Rattle.group_record.specs.Logs.{IsLogOfRun, IsLogWithTail}
 use Rattle.group_record.specs.Standing.{IsDoneAct, IsHadEvent, IsRun}
 use Rattle.group_record.proofs.FirstRecorder.{head_size, short_name}
 use Rattle.group_record.proofs.LogGrowth.{entries_few, entry_added, entry_there, log_longer, spelled_next}
@@ -310,7 +310,7 @@ agrees logs laws group items begun fits steps front p within =
     let es = entries_of_steps steps p in
     log_tells logs group begun steps p (log_of group steps p) (encodings Two 0 es) [] within k refl (logs.holds_written Two 0 es k.logged) (log_within group begun steps run p within)
 
-entry_cut : ExactLogs → Laws → (group : GroupStart) → IsBegun group → (early : List RunStep) (p : ℕ) (e : Event) → IsRun group (Had p e ∷ early) → (n : ℕ) → n < length (spelled_next early p e.entry) → TellsBeforeRest group early p (take n (spelled_next early p e.entry))
+entry_cut : ExactLogs → Laws → (group : GroupStart) → IsBegun group → (early : List RunStep) (p : ℕ) (e : Event) → IsRun group (Had p e ∷ early) → (n : ℕ) → n < length (spelled_next early p e.entry) → IsLogWithTail group early p (take n (spelled_next early p e.entry))
 entry_cut logs laws group begun early p e run n short =
     let k : KeepsAfter group early p = keeps laws group begun early run.1 p run.0.within in
     let es = entries_of_steps early p in
@@ -324,5 +324,5 @@ entry_cut logs laws group begun early p e run n short =
 
 pub agrees_cut : ExactLogs → Laws → CutAgreement
 agrees_cut logs laws group items begun fits later early p e is =
-    subst (λ (bytes : List ℕ). (n : ℕ) → n < length bytes → TellsBeforeRest group early p (take n bytes)) (sym (entry_added group early p e))
+    subst (λ (bytes : List ℕ). (n : ℕ) → n < length bytes → IsLogWithTail group early p (take n bytes)) (sym (entry_added group early p e))
     (entry_cut logs laws group begun early p e (is_run group items fits (Had p e ∷ early) (later, is)))

@@ -17,7 +17,7 @@ use Rattle.group_record.specs.inside.Begun.{GroupBegins, StopsAtHead}
 use Rattle.group_record.specs.Files.{Between, IsStoppedRecording, change}
 use Rattle.group_record.specs.Images.{images_of}
 use Rattle.group_record.specs.Logs.{logs_of_steps}
-use Rattle.group_record.specs.inside.Recorded.{RecorderDoes, FilesOf, KeepsUpWithRun, MakesFiles, MakesImages, SumsUpRun, RecordingUnderWay}
+use Rattle.group_record.specs.inside.Recorded.{AdvancesRecorder, FilesOf, KeepsUpWithRun, MakesFiles, MakesImages, IsSummaryOfRun, RecordingUnderWay}
 use Rattle.group_record.specs.Run.{GroupStart, RunProgress, after_items, no_progress_yet, run}
 use Rattle.group_record.proofs.GroupRunStops.{stopped_before, stopped_in, stopped_on}
 use Rattle.process_files.specs.FirstLaws.{files_after}
@@ -55,7 +55,7 @@ items_fit schedule begun recorder before now fits b =
 
 -- it was not done to its end
 pub run_fails : (asked : Bool) (schedule : Schedule) (begun : Result (List State) ℕ) (recorder last : Recorder) (error : RecordError) (before now after : Option Folder) → GroupBegins schedule begun (Ok recorder) before now
-    → RecorderDoes (λ group. after_items group 1 schedule.items) recorder (Err error) last (change now after) → RecordAnswers schedule asked begun (Err error) (change before after)
+    → AdvancesRecorder (λ group. after_items group 1 schedule.items) recorder (Err error) last (change now after) → RecordAnswers schedule asked begun (Err error) (change before after)
 run_fails asked schedule begun recorder last (errors.BadSegment p) before now after b does = absurd (does (group_of schedule b.0) no_progress_yet before b.2 b.3)
 run_fails asked schedule begun recorder last (errors.LogFull item) before now after b does =
     let h = does (group_of schedule b.0) no_progress_yet before b.2 b.3 in
@@ -67,14 +67,14 @@ run_fails asked schedule begun recorder last errors.NoMemory before now after b 
 
 -- all was done, and there was no memory to say so
 pub saying_fails : (asked : Bool) (schedule : Schedule) (begun : Result (List State) ℕ) (recorder last : Recorder) (before now after : Option Folder) → GroupBegins schedule begun (Ok recorder) before now
-    → RecorderDoes (λ group. after_items group 1 schedule.items) recorder (Ok tt) last (change now after) → StoppedWhereBegun schedule asked begun before after
+    → AdvancesRecorder (λ group. after_items group 1 schedule.items) recorder (Ok tt) last (change now after) → StoppedWhereBegun schedule asked begun before after
 saying_fails asked schedule begun recorder last before now after b does =
     let h = does (group_of schedule b.0) no_progress_yet before b.2 b.3 in
     subst (λ x. StoppedWhereBegun schedule asked x before after) (sym b.1) (Between (run (group_of schedule b.0) schedule.items).steps ([], refl) h.1)
 
 -- the images were not all made
 pub images_fail : (asked : Bool) (schedule : Schedule) (begun : Result (List State) ℕ) (recorder last : Recorder) (error : RecordError) (before now middle after : Option Folder) → GroupBegins schedule begun (Ok recorder) before now
-    → RecorderDoes (λ group. after_items group 1 schedule.items) recorder (Ok tt) last (change now middle) → MakesImages asked schedule.processes last (Err error) (change middle after) → RecordAnswers schedule asked begun (Err error) (change before after)
+    → AdvancesRecorder (λ group. after_items group 1 schedule.items) recorder (Ok tt) last (change now middle) → MakesImages asked schedule.processes last (Err error) (change middle after) → RecordAnswers schedule asked begun (Err error) (change before after)
 images_fail asked schedule begun recorder last error before now middle after b does makes = by_error error (makes group done h.0 refl)
   where
     group : GroupStart
@@ -97,7 +97,7 @@ images_fail asked schedule begun recorder last error before now middle after b d
 
 -- all was done and said
 pub run_done : (asked : Bool) (schedule : Schedule) (begun : Result (List State) ℕ) (recorder last : Recorder) (said : Summary) (before now middle after : Option Folder) → GroupBegins schedule begun (Ok recorder) before now
-    → RecorderDoes (λ group. after_items group 1 schedule.items) recorder (Ok tt) last (change now middle) → SumsUpRun schedule.processes last said → MakesImages asked schedule.processes last (Ok tt) (change middle after)
+    → AdvancesRecorder (λ group. after_items group 1 schedule.items) recorder (Ok tt) last (change now middle) → IsSummaryOfRun schedule.processes last said → MakesImages asked schedule.processes last (Ok tt) (change middle after)
     → RecordAnswers schedule asked begun (Ok said) (change before after)
 run_done asked schedule begun recorder last said before now middle after b does sums makes =
     let group = group_of schedule b.0 in
@@ -115,7 +115,7 @@ run_done asked schedule begun recorder last said before now middle after b does 
 -- ---- what is said of it
 
 pub last_keeps : (schedule : Schedule) (begun : Result (List State) ℕ) (recorder last : Recorder) (before now after : Option Folder) → (b : GroupBegins schedule begun (Ok recorder) before now)
-    → RecorderDoes (λ group. after_items group 1 schedule.items) recorder (Ok tt) last (change now after) → KeepsUpWithRun (group_of schedule b.0) (run (group_of schedule b.0) schedule.items) last
+    → AdvancesRecorder (λ group. after_items group 1 schedule.items) recorder (Ok tt) last (change now after) → KeepsUpWithRun (group_of schedule b.0) (run (group_of schedule b.0) schedule.items) last
 last_keeps schedule begun recorder last before now after b does = (does (group_of schedule b.0) no_progress_yet before b.2 b.3).0
 
 pub last_count : (schedule : Schedule) (first : List State) (last : Recorder) → KeepsUpWithRun (group_of schedule first) (run (group_of schedule first) schedule.items) last → length last.members.items ≡ length schedule.processes

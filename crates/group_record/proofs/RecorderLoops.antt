@@ -8,7 +8,7 @@ use Rattle.group_record.specs.declared.error.RecordError.{RecordError}
 use Rattle.group_record.specs.declared.recorder.Recorder.{Recorder}
 use Rattle.group_record.specs.Run.{GroupStart, RunProgress, after_item, after_items, attempt, run_attempts}
 use Rattle.group_record.specs.Files.{change}
-use Rattle.group_record.specs.inside.Recorded.{RecorderComes, RecorderDoes, FilesOf, KeepsUpWithRun, RecordingUnderWay}
+use Rattle.group_record.specs.inside.Recorded.{RecorderReaches, AdvancesRecorder, FilesOf, KeepsUpWithRun, RecordingUnderWay}
 use Rattle.group_record.proofs.GroupRunStops.{LeadsTo, attempts_lead, comes_on, items_lead}
 
 -- the recorder has come as far as some progress from which the rest gives the whole
@@ -18,22 +18,22 @@ pub record ComesTo (group : GroupStart) (now : Recorder) (before told : Option F
   pub files : FilesOf group middle before told
   pub leads : rest middle ≡ whole
 
-pub under_next : (next : GroupStart → RunProgress → RunProgress) (old new : Recorder) (told now : Option Folder) → RecordingUnderWay old told → RecorderDoes next old (Ok tt) new (change told now) → RecordingUnderWay new now
+pub under_next : (next : GroupStart → RunProgress → RunProgress) (old new : Recorder) (told now : Option Folder) → RecordingUnderWay old told → AdvancesRecorder next old (Ok tt) new (change told now) → RecordingUnderWay new now
 under_next next old new told now u does =
     let c = does u.group u.done u.before u.keeps u.files in
     record { group = u.group; done = next u.group u.done; before = u.before; keeps = c.0; files = c.1 }
 
-pub count_next : (next : GroupStart → RunProgress → RunProgress) (old new : Recorder) (told now : Option Folder) → RecordingUnderWay old told → RecorderDoes next old (Ok tt) new (change told now) → length new.members.items ≡ length old.members.items
+pub count_next : (next : GroupStart → RunProgress → RunProgress) (old new : Recorder) (told now : Option Folder) → RecordingUnderWay old told → AdvancesRecorder next old (Ok tt) new (change told now) → length new.members.items ≡ length old.members.items
 count_next next old new told now u does = (does u.group u.done u.before u.keeps u.files).0.count ∙ sym u.keeps.count
 
-pub comes_at : (group : GroupStart) (next : RunProgress) (now : Recorder) (before told : Option Folder) → RecorderComes group next (Ok tt) now (change before told) → (rest : RunProgress → RunProgress) (whole : RunProgress) → rest next ≡ whole
+pub comes_at : (group : GroupStart) (next : RunProgress) (now : Recorder) (before told : Option Folder) → RecorderReaches group next (Ok tt) now (change before told) → (rest : RunProgress → RunProgress) (whole : RunProgress) → rest next ≡ whole
     → ComesTo group now before told rest whole
 comes_at group next now before told c rest whole leads = record { middle = next; keeps = c.0; files = c.1; leads = leads }
 
 pub has_come : (group : GroupStart) (now : Recorder) (before told : Option Folder) (rest : RunProgress → RunProgress) (whole : RunProgress) → ComesTo group now before told rest whole → ((done : RunProgress) → rest done ≡ done)
-    → RecorderComes group whole (Ok tt) now (change before told)
+    → RecorderReaches group whole (Ok tt) now (change before told)
 has_come group now before told rest whole h none =
-    subst (λ (d : RunProgress). RecorderComes group d (Ok tt) now (change before told)) (sym (none h.middle) ∙ h.leads) (h.keeps, h.files)
+    subst (λ (d : RunProgress). RecorderReaches group d (Ok tt) now (change before told)) (sym (none h.middle) ∙ h.leads) (h.keeps, h.files)
 
 -- ---- tries
 
@@ -52,15 +52,15 @@ pub attempts-one : (group : GroupStart) (number p thread left less : ℕ) (done 
 attempts-one group number p thread left less done is = ap (λ n. run_attempts group number p thread n done) is ∙ attempts-next group number p thread less done
 
 pub try_next : (group : GroupStart) (number p thread left less : ℕ) (old new : Recorder) (before told now : Option Folder) (whole : RunProgress) → left ≡ suc less
-    → ComesTo group old before told (run_attempts group number p thread left) whole → RecorderDoes (λ group. attempt group number p thread) old (Ok tt) new (change told now)
+    → ComesTo group old before told (run_attempts group number p thread left) whole → AdvancesRecorder (λ group. attempt group number p thread) old (Ok tt) new (change told now)
     → ComesTo group new before now (run_attempts group number p thread less) whole
 try_next group number p thread left less old new before told now whole is h does =
     comes_at group (attempt group number p thread h.middle) new before now (does group h.middle before h.keeps h.files) (run_attempts group number p thread less) whole
     (sym (attempts-one group number p thread left less h.middle is) ∙ h.leads)
 
 pub try_stops : (group : GroupStart) (number p thread left less : ℕ) (old new : Recorder) (error : RecordError) (before told now : Option Folder) (whole : RunProgress) → left ≡ suc less
-    → ComesTo group old before told (run_attempts group number p thread left) whole → RecorderDoes (λ group. attempt group number p thread) old (Err error) new (change told now)
-    → RecorderComes group whole (Err error) new (change before now)
+    → ComesTo group old before told (run_attempts group number p thread left) whole → AdvancesRecorder (λ group. attempt group number p thread) old (Err error) new (change told now)
+    → RecorderReaches group whole (Err error) new (change before now)
 try_stops group number p thread left less old new error before told now whole is h does =
     let next = attempt group number p thread h.middle in
     comes_on group next whole error new before now
@@ -79,7 +79,7 @@ pub items_end : (group : GroupStart) (number : ℕ) (items : List Item) (i : ℕ
 items_end group number items i done past = ap (λ (xs : List Item). after_items group number xs done) (drop_all i items past)
 
 pub item_next : (group : GroupStart) (number next : ℕ) (items : List Item) (i : ℕ) (this : Item) (old new : Recorder) (before told now : Option Folder) (whole : RunProgress) → i < length items → next ≡ suc number
-    → this ≡ slice_index_or items i this → ComesTo group old before told (after_items group number (drop i items)) whole → RecorderDoes (λ group. after_item group number this) old (Ok tt) new (change told now)
+    → this ≡ slice_index_or items i this → ComesTo group old before told (after_items group number (drop i items)) whole → AdvancesRecorder (λ group. after_item group number this) old (Ok tt) new (change told now)
     → ComesTo group new before now (after_items group next (drop (i + 1) items)) whole
 item_next group number next items i this old new before told now whole inside is at h does =
     comes_at group (after_item group number this h.middle) new before now (does group h.middle before h.keeps h.files) (after_items group next (drop (i + 1) items)) whole
@@ -88,8 +88,8 @@ item_next group number next items i this old new before told now whole inside is
     ∙ sym (items_next group number items i this h.middle inside) ∙ h.leads)
 
 pub item_stops : (group : GroupStart) (number : ℕ) (items : List Item) (i : ℕ) (this : Item) (old new : Recorder) (error : RecordError) (before told now : Option Folder) (whole : RunProgress) → i < length items
-    → this ≡ slice_index_or items i this → ComesTo group old before told (after_items group number (drop i items)) whole → RecorderDoes (λ group. after_item group number this) old (Err error) new (change told now)
-    → RecorderComes group whole (Err error) new (change before now)
+    → this ≡ slice_index_or items i this → ComesTo group old before told (after_items group number (drop i items)) whole → AdvancesRecorder (λ group. after_item group number this) old (Err error) new (change told now)
+    → RecorderReaches group whole (Err error) new (change before now)
 item_stops group number items i this old new error before told now whole inside at h does =
     let next = after_item group number this h.middle in
     comes_on group next whole error new before now

@@ -22,7 +22,7 @@ use Rattle.guest_process.specs.Next.{next}
 use Rattle.guest_process.specs.State.{State}
 use Rattle.group_world.specs.History.{Act, History, put_last_if}
 use Rattle.group_world.specs.History as world
-use Rattle.group_world.specs.Laws.{CanFollow, CanTake, Counting, sent_as}
+use Rattle.group_world.specs.Laws.{IsPossibleNext, CanTake, Counting, sent_as}
 use Rattle.group_world.specs.World.{World, has_pending, surroundings_of, with_act, world_after}
 use Rattle.lossy_net.specs.Network.{Sent, nth_of, sent_by, with_delivered}
 use Rattle.schedule_text.specs.Schedule.{IsInRange}
@@ -40,7 +40,7 @@ use Rattle.group_record.specs.Logs.{logs_of_steps}
 use Rattle.group_record.specs.Files.{IsStoppedRecording, Between, InEntry, change}
 use Rattle.group_record.specs.inside.Around.{env_of}
 use Rattle.group_record.specs.inside.Members.{CanKeepEntry, IsAppendedInPart, LogHasRoom, WritesToLog, member_after, spelled_entry}
-use Rattle.group_record.specs.inside.Recorded.{RecorderComes, FilesOf, IsMember, IsLoggedEvent, KeepsUpWithRun, IsLiveEntry, recorder_acted_on, item_acts, after_act, counted_tries_of, is_not_killed}
+use Rattle.group_record.specs.inside.Recorded.{RecorderReaches, FilesOf, IsMember, IsLoggedEvent, KeepsUpWithRun, IsLiveEntry, recorder_acted_on, item_acts, after_act, counted_tries_of, is_not_killed}
 use Rattle.group_record.proofs.ReadySignals.{live_same, with_signals}
 use Rattle.group_record.proofs.GroupRunStops.{LeadsTo, attempt_leads}
 use Rattle.group_record.proofs.LogGrowth.{clock_last, entries_few, entry_added, log_longer, logs_grown, piece_written, spelled_next}
@@ -121,7 +121,7 @@ did_member group (world.Random q bytes) steps p m item k = record { state = k.st
 did_member group (world.Signal q s) steps p m item k = record { state = k.state; process = k.process; after = k.after; events = k.events; count = k.count; log = k.log; size = k.size; room = k.room; last = k.last; logged = k.logged }
 did_member group (world.Kill q) steps p m item k = record { state = k.state; process = k.process; after = k.after; events = k.events; count = k.count; log = k.log; size = k.size; room = k.room; last = k.last; logged = k.logged }
 
-pub did_keeps : (group : GroupStart) (done : RunProgress) (old new : Recorder) (act : Act) → KeepsUpWithRun group done old → IsItem act → CanFollow (processes_in_group group) (history_of_steps done.steps) act
+pub did_keeps : (group : GroupStart) (done : RunProgress) (old new : Recorder) (act : Act) → KeepsUpWithRun group done old → IsItem act → IsPossibleNext (processes_in_group group) (history_of_steps done.steps) act
     → new ≡ record old { world = with_act old.world act; acted = old.acted + 1 } → KeepsUpWithRun group (with_step (Did act) done) new
 did_keeps group done old new act k item can is = subst (λ (r : Recorder). KeepsUpWithRun group (with_step (Did act) done) r) (sym is) (record {
   room = k.room;
@@ -214,10 +214,10 @@ event_keeps counting group done old new p thread m entry keeps within k t room m
 
 -- it is idle
 pub try_idle : Counting → (group : GroupStart) (done : RunProgress) (before now : Option Folder) (old new : Recorder) (number p thread : ℕ) (m : Member) → KeepsUpWithRun group done old → FilesOf group done before now → p < processes_in_group group
-    → (k : IsMember group done.steps p m) → live k.state thread (env_of old.world p) ≡ None → new ≡ record old { idle = old.idle + 1 } → RecorderComes group (attempt group number p thread done) (Ok tt) new (change before now)
+    → (k : IsMember group done.steps p m) → live k.state thread (env_of old.world p) ≡ None → new ≡ record old { idle = old.idle + 1 } → RecorderReaches group (attempt group number p thread done) (Ok tt) new (change before now)
 try_idle counting group done before now old new number p thread m keeps files within k none is =
     let next : attempt group number p thread done ≡ idled_item done = attempt_is counting group done old number p thread k.state keeps within k.after ∙ ap (λ o. had_event group number p o done) none in
-    subst (λ d. RecorderComes group d (Ok tt) new (change before now)) (sym next) (idle_keeps group done old new keeps is, files)
+    subst (λ d. RecorderReaches group d (Ok tt) new (change before now)) (sym next) (idle_keeps group done old new keeps is, files)
 
 -- it has an event, for which the log has room or not
 pub room_test : (n limit : ℕ) → n ≤ limit → nat_le n limit ≡ true
@@ -249,7 +249,7 @@ entry_written files_keep group done before now after old p m entry e keeps files
     ∙ ap (λ fs. with_files fs before) (logs_grown group done.steps p e)
 
 -- memory ran out before the files were touched
-pub memory_stops : (group : GroupStart) (done next : RunProgress) (r : Recorder) (before now : Option Folder) → LeadsTo done next → FilesOf group done before now → RecorderComes group next (Err errors.NoMemory) r (change before now)
+pub memory_stops : (group : GroupStart) (done next : RunProgress) (r : Recorder) (before now : Option Folder) → LeadsTo done next → FilesOf group done before now → RecorderReaches group next (Err errors.NoMemory) r (change before now)
 memory_stops group done next r before now leads files = Between done.steps leads.front files
 
 pub short_of : (many n : ℕ) → nat_le many n ≡ false → n < many
@@ -279,23 +279,23 @@ fault_stops files_keep group done before now after old p m entry e keeps files w
 -- what comes of a try that has an event
 pub try_event : Counting → KeepsFiles → (group : GroupStart) (done : RunProgress) (before now after : Option Folder) (old : Recorder) (result : Result ⊤ RecordError) (new : Recorder) (number p thread : ℕ) (m : Member) (entry : Entry)
     → KeepsUpWithRun group done old → FilesOf group done before now → p < processes_in_group group → (k : IsMember group done.steps p m) → IsLiveEntry k.state thread (env_of old.world p) entry
-    → WritesToLog m number (spelled_entry m entry) result (change now after) → OnOk result (IsLoggedEvent old p m entry new) → RecorderComes group (attempt group number p thread done) result new (change before after)
+    → WritesToLog m number (spelled_entry m entry) result (change now after) → OnOk result (IsLoggedEvent old p m entry new) → RecorderReaches group (attempt group number p thread done) result new (change before after)
 try_event counting files_keep group done before now after old (Ok _) new number p thread m entry keeps files within k t writes made =
-    subst (λ d. RecorderComes group d (Ok tt) new (change before after)) (sym (has_event counting group done old number p thread m entry keeps within k t writes.0)) (
+    subst (λ d. RecorderReaches group d (Ok tt) new (change before after)) (sym (has_event counting group done old number p thread m entry keeps within k t writes.0)) (
       event_keeps counting group done old new p thread m entry keeps within k t writes.0 made,
       entry_written files_keep group done before now after old p m entry t.event keeps files within k t.same writes.1,
     )
 try_event counting files_keep group done before now after old (Err (errors.BadSegment q)) new number p thread m entry keeps files within k t writes made = writes
 try_event counting files_keep group done before now after old (Err (errors.LogFull item)) new number p thread m entry keeps files within k t writes made =
-    subst (λ d. RecorderComes group d (Err (errors.LogFull item)) new (change before after)) (sym (no_room counting group done old number p thread m entry keeps within k t writes.1))
+    subst (λ d. RecorderReaches group d (Err (errors.LogFull item)) new (change before after)) (sym (no_room counting group done old number p thread m entry keeps within k t writes.1))
     (ap Some (sym writes.0), writes.2 ∙ files)
 try_event counting files_keep group done before now after old (Err errors.WriteFault) new number p thread m entry keeps files within k t writes made =
-    subst (λ d. RecorderComes group d (Err errors.WriteFault) new (change before after)) (sym (has_event counting group done old number p thread m entry keeps within k t writes.0))
+    subst (λ d. RecorderReaches group d (Err errors.WriteFault) new (change before after)) (sym (has_event counting group done old number p thread m entry keeps within k t writes.0))
     (fault_stops files_keep group done before now after old p m entry t.event keeps files within k t.same writes.1)
 try_event counting files_keep group done before now after old (Err errors.NoMemory) new number p thread m entry keeps files within k t (inl none) made =
     Between done.steps (attempt_leads group number p thread done).front (none ∙ files)
 try_event counting files_keep group done before now after old (Err errors.NoMemory) new number p thread m entry keeps files within k t (inr (room, is)) made =
-    subst (λ d. RecorderComes group d (Err errors.NoMemory) new (change before after)) (sym (has_event counting group done old number p thread m entry keeps within k t room))
+    subst (λ d. RecorderReaches group d (Err errors.NoMemory) new (change before after)) (sym (has_event counting group done old number p thread m entry keeps within k t room))
     (Between (Had p t.event ∷ done.steps) ([], refl) (entry_written files_keep group done before now after old p m entry t.event keeps files within k t.same is))
 
 -- ---- what a try may ask
@@ -326,7 +326,7 @@ world_size counting group done r keeps = ap (λ w. length w.net) keeps.world ∙
 -- ---- items
 
 pub acts_so : Counting → (group : GroupStart) (done : RunProgress) (old new : Recorder) (act : Act) (p : ℕ) → KeepsUpWithRun group done old → p < length old.world.net → IsItem act
-    → (p < processes_in_group group → CanFollow (processes_in_group group) (history_of_steps done.steps) act) → new ≡ record old { world = with_act old.world act; acted = old.acted + 1 } → KeepsUpWithRun group (with_step (Did act) done) new
+    → (p < processes_in_group group → IsPossibleNext (processes_in_group group) (history_of_steps done.steps) act) → new ≡ record old { world = with_act old.world act; acted = old.acted + 1 } → KeepsUpWithRun group (with_step (Did act) done) new
 acts_so counting group done old new act p keeps within item can is =
     did_keeps group done old new act keeps item (can (subst (λ n. p < n) (world_size counting group done old keeps) within)) is
 
@@ -453,9 +453,9 @@ does_logs group number (item.Kill p) done other = acted_logs group done (can_be_
 
 pub item_comes : Counting → (group : GroupStart) (done : RunProgress) (before now : Option Folder) (old new : Recorder) (number : ℕ) (i : Item) → KeepsUpWithRun group done old → FilesOf group done before now
     → IsInRange (length old.members.items) i → IsNoRun i → new ≡ recorder_acted_on (item_acts old.members.items old.world i) (after_act old.members.items old.world i) old
-    → RecorderComes group (after_item group number i done) (Ok tt) new (change before now)
+    → RecorderReaches group (after_item group number i done) (Ok tt) new (change before now)
 item_comes counting group done before now old new number i keeps files fits other is =
-    subst (λ d. RecorderComes group d (Ok tt) new (change before now)) (sym (unless_none done (done_by_item group number i done) keeps.room)) (
+    subst (λ d. RecorderReaches group d (Ok tt) new (change before now)) (sym (unless_none done (done_by_item group number i done) keeps.room)) (
       item_keeps counting group done old new number i keeps fits other is,
       logs_stay group done (done_by_item group number i done) before now (does_logs group number i done other) files,
     )

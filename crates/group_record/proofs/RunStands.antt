@@ -10,7 +10,7 @@ use Rattle.guest_process.specs.Live.{Event}
 use Rattle.guest_process.specs.State.{State}
 use Rattle.group_world.specs.History.{Act, mailbox, pool}
 use Rattle.group_world.specs.History as world
-use Rattle.group_world.specs.Laws.{CanBe, CanFollow}
+use Rattle.group_world.specs.Laws.{IsPossibleHistory, IsPossibleNext}
 use Rattle.group_record.specs.Run.{GroupStart, RunStep, Had, Did, world_around, history_of_steps, processes_in_group}
 use Rattle.group_record.specs.Laws.{DrawsFromPoolIf, IsBegun}
 use Rattle.group_record.specs.Standing.{IsDoneAct, IsRun, Standing, StandsReplayed}
@@ -52,7 +52,7 @@ draws_there group early p e S c =
 
 -- ---- the acts
 
-act_follows : (group : GroupStart) (early : List RunStep) (act : Act) → IsDoneAct group early act → CanFollow (processes_in_group group) (history_of_steps early) act
+act_follows : (group : GroupStart) (early : List RunStep) (act : Act) → IsDoneAct group early act → IsPossibleNext (processes_in_group group) (history_of_steps early) act
 act_follows group early (world.Event p e) done = absurd done
 act_follows group early (world.Deliver p n) done = done.0
 act_follows group early (world.Inject p bytes) done = done
@@ -61,7 +61,7 @@ act_follows group early (world.Random p bytes) done = done
 act_follows group early (world.Signal p signal) done = done
 act_follows group early (world.Kill p) done = done.0
 
-acts_follow : Laws → (group : GroupStart) → IsBegun group → (steps : List RunStep) → IsRun group steps → CanBe (processes_in_group group) (history_of_steps steps)
+acts_follow : Laws → (group : GroupStart) → IsBegun group → (steps : List RunStep) → IsRun group steps → IsPossibleHistory (processes_in_group group) (history_of_steps steps)
 acts_follow laws group begun [] run = tt
 acts_follow laws group begun (Had p e ∷ early) run =
     let k : KeepsAfter group early p = keeps laws group begun early run.1 p run.0.within in

@@ -19,7 +19,7 @@ use Rattle.lossy_net.specs.Network.{nth_of}
 use Rattle.group_world.specs.History.{Deliver, mailbox, pool, sends, taken_count}
 use Rattle.group_world.specs.Laws.{GiverOfDatagram, OriginOfDatagram}
 use Rattle.group_record.specs.Run.{GroupStart, Had, IsMoment, RunStep, entries_of_steps, entry_bytes, history_of_steps, process_after, run, processes_in_group}
-use Rattle.group_record.specs.Logs.{TellsEvents, TellsBeforeRest}
+use Rattle.group_record.specs.Logs.{TellsEvents, IsLogWithTail}
 use Rattle.group_record.specs.Answer.{first_states, group_of}
 use Rattle.lamport_tag.specs.Limits.{most_clock, most_processes}
 
@@ -47,7 +47,7 @@ Agreement = (group : GroupStart) (items : List Item) → IsBegun group → All (
 -- it, and that part is left over
 abbrev pub TellsCutLogs : GroupStart → List RunStep → Type 0
 TellsCutLogs group steps = (later early : List RunStep) (p : ℕ) (e : Event) → steps ≡ later ++ (Had p e ∷ early)
-    → (n : ℕ) → n < length (entry_bytes group early p e) → TellsBeforeRest group early p (take n (entry_bytes group early p e))
+    → (n : ℕ) → n < length (entry_bytes group early p e) → IsLogWithTail group early p (take n (entry_bytes group early p e))
 
 abbrev pub CutAgreement : Type 0
 CutAgreement = (group : GroupStart) (items : List Item) → IsBegun group → All (IsInRange (processes_in_group group)) items → TellsCutLogs group (run group items).steps

@@ -14,7 +14,7 @@ use Rattle.schedule_text.specs.declared.item.Item.TheVariants as item
 use Rattle.guest_process.specs.Live.{Event}
 use Rattle.guest_process.specs.State.{State}
 use Rattle.group_world.specs.History.{Act, is_killed, sends}
-use Rattle.group_world.specs.Laws.{CanBe, sent_as}
+use Rattle.group_world.specs.Laws.{IsPossibleHistory, sent_as}
 use Rattle.group_world.specs.World.{World, world_after}
 use Rattle.group_record.specs.declared.error.RecordError.{RecordError}
 use Rattle.group_record.specs.declared.error.RecordError.TheVariants as errors
@@ -77,7 +77,7 @@ pub record IsLiveAfter (group : GroupStart) (steps : List RunStep) (live : LiveP
   pub apart : AllPairs (λ name other. name ≢ other) group.names
   pub count : length live.members ≡ processes_in_group group
   pub members : (p : ℕ) (m : LiveMember) → slice_get live.members p ≡ Some m → IsMemberAfter group steps p m
-  pub can_be : CanBe (processes_in_group group) (history_of_steps steps)
+  pub can_be : IsPossibleHistory (processes_in_group group) (history_of_steps steps)
   pub world : live.world ≡ world_after (processes_in_group group) (history_of_steps steps)
   pub kept : length live.prints ≡ processes_in_group group
   pub prints : (p : ℕ) (bytes : List ℕ) → slice_get live.prints p ≡ Some bytes → bytes ≡ prints (entries_of_steps steps p)

@@ -41,5 +41,5 @@ abbrev pub TellsEvents : GroupStart → List RunStep → ℕ → Type 0
 TellsEvents group steps p = IsLogOfRun group steps p (log_of group steps p) []
 
 -- and so does the log with these bytes after it, which are left over
-abbrev pub TellsBeforeRest : GroupStart → List RunStep → ℕ → List ℕ → Type 0
-TellsBeforeRest group steps p cut = IsLogOfRun group steps p (log_of group steps p ++ cut) cut
+abbrev pub IsLogWithTail : GroupStart → List RunStep → ℕ → List ℕ → Type 0
+IsLogWithTail group steps p cut = IsLogOfRun group steps p (log_of group steps p ++ cut) cut

@@ -3,14 +3,14 @@
 use Rattle.std.specs.Prelude.{◌≡◌, ℕ, ◌<◌, ◌≤◌, ◌^◌, IsTrue, All, List, [], ◌∷◌, length, slice_get, Some}
 use Rattle.schedule_text.specs.declared.item.Item.{Item}
 use Rattle.schedule_text.specs.Schedule.{IsInRange}
-use Rattle.signal_points.specs.Signals.{most_signal}
+use Rattle.guest_signals.specs.Signals.{most_signal}
 use Rattle.guest_process.specs.Fits.{StateFits}
 use Rattle.guest_process.specs.Live.{Event}
 use Rattle.guest_process.specs.Replay.{replayed}
 use Rattle.guest_process.specs.State.{State}
 use Rattle.group_world.specs.History.{Act}
 use Rattle.group_world.specs.History as world
-use Rattle.group_world.specs.Laws.{CanBe}
+use Rattle.group_world.specs.Laws.{IsPossibleHistory}
 use Rattle.group_record.specs.Run.{GroupStart, RunStep, Had, Did, IsMoment, can_be_killed, entries_of_steps, event_of_try, has_sent, history_of_steps, log_has_room, process_after, run, processes_in_group}
 use Rattle.group_record.specs.Laws.{IsBegun}
 
@@ -56,12 +56,12 @@ pub record StandsReplayed (group : GroupStart) (early : List RunStep) (p : ℕ) 
 -- ---- both
 
 -- so a run stands at a moment. The acts are such that the world around the processes is what is counted out of them
-pub record RunStandsAs (group : GroupStart) (early : List RunStep) : Type 0 where
+pub record IsReachableRun (group : GroupStart) (early : List RunStep) : Type 0 where
   pub steps : IsRun group early
-  pub acts : CanBe (processes_in_group group) (history_of_steps early)
+  pub acts : IsPossibleHistory (processes_in_group group) (history_of_steps early)
   pub processes : (p : ℕ) → p < processes_in_group group → StandsReplayed group early p
 
 -- and so it stands at each
 abbrev pub Standing : Type 0
 Standing = (group : GroupStart) (items : List Item) → IsBegun group → All (IsInRange (processes_in_group group)) items
-    → (early : List RunStep) → IsMoment early (run group items).steps → RunStandsAs group early
+    → (early : List RunStep) → IsMoment early (run group items).steps → IsReachableRun group early

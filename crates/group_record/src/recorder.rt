@@ -7,7 +7,7 @@ ghost use Rattle.schedule_text.specs.Schedule.{IsInRange};
 ghost use Rattle.group_world.specs.World.{process_count, surroundings_of};
 ghost use Rattle.group_record.specs.declared.member.Member.{Member as MemberOf};
 ghost use Rattle.group_record.specs.Run.{after_item, after_items, attempt, run_attempts};
-ghost use Rattle.group_record.specs.inside.Recorded.{RecorderDoes, HasCountsFor, IsLoggedEvent, RecordingUnderWay, recorder_acted_on, item_acts, after_act, total_counted_tries, counted_tries_of};
+ghost use Rattle.group_record.specs.inside.Recorded.{AdvancesRecorder, HasCountsFor, IsLoggedEvent, RecordingUnderWay, recorder_acted_on, item_acts, after_act, total_counted_tries, counted_tries_of};
 ghost use Rattle.group_record.specs.inside.Members.{CanKeepEntry, WritesToLog, spelled_entry};
 ghost use Rattle.group_record.specs.Answer.{after_writes};
 ghost use Rattle.group_record.specs.Files.{change};
@@ -46,7 +46,7 @@ impl<'m> Recorder<'m> {
         requires under_way { RecordingUnderWay self.old (F.told files.old) }
         requires in_range { All (IsInRange (length self.old.members.items)) items.now }
         requires few { HasCountsFor (sum_by counted_tries_of items.now) self.old }
-        ensures comes { RecorderDoes (λ group. after_items group 1 items.now) self.old result self.new (change (F.told files.old) (F.told files.new)) }
+        ensures comes { AdvancesRecorder (λ group. after_items group 1 items.now) self.old result self.new (change (F.told files.old) (F.told files.new)) }
         ensures prints { OnOk result (length self.new.prints ≡ length self.old.prints) }
         ensures counted { F.counts files.new ≡ after_writes (F.counts files.old) result }
     {
@@ -68,7 +68,7 @@ impl<'m> Recorder<'m> {
         requires under_way { RecordingUnderWay self.old (F.told files.old) }
         requires in_range { IsInRange (length self.old.members.items) item.now }
         requires few { HasCountsFor (counted_tries_of item.now) self.old }
-        ensures comes { RecorderDoes (λ group. after_item group number item.now) self.old result self.new (change (F.told files.old) (F.told files.new)) }
+        ensures comes { AdvancesRecorder (λ group. after_item group number item.now) self.old result self.new (change (F.told files.old) (F.told files.new)) }
         ensures total { OnOk result (total_counted_tries self.new ≡ total_counted_tries self.old + counted_tries_of item.now) }
         ensures prints { OnOk result (length self.new.prints ≡ length self.old.prints) }
         ensures counted { F.counts files.new ≡ after_writes (F.counts files.old) result }
@@ -96,7 +96,7 @@ impl<'m> Recorder<'m> {
         requires under_way { RecordingUnderWay self.old (F.told files.old) }
         requires process { p < length self.old.members.items }
         requires few { HasCountsFor times self.old }
-        ensures comes { RecorderDoes (λ group. run_attempts group number p thread times) self.old result self.new (change (F.told files.old) (F.told files.new)) }
+        ensures comes { AdvancesRecorder (λ group. run_attempts group number p thread times) self.old result self.new (change (F.told files.old) (F.told files.new)) }
         ensures total { OnOk result (total_counted_tries self.new ≡ total_counted_tries self.old + times) }
         ensures prints { OnOk result (length self.new.prints ≡ length self.old.prints) }
         ensures counted { F.counts files.new ≡ after_writes (F.counts files.old) result }
@@ -118,7 +118,7 @@ impl<'m> Recorder<'m> {
         requires under_way { RecordingUnderWay self.old (F.told files.old) }
         requires process { p < length self.old.members.items }
         requires few { HasCountsFor 1 self.old }
-        ensures comes { RecorderDoes (λ group. attempt group number p thread) self.old result self.new (change (F.told files.old) (F.told files.new)) }
+        ensures comes { AdvancesRecorder (λ group. attempt group number p thread) self.old result self.new (change (F.told files.old) (F.told files.new)) }
         ensures total { OnOk result (total_counted_tries self.new ≡ total_counted_tries self.old + 1) }
         ensures prints { OnOk result (length self.new.prints ≡ length self.old.prints) }
         ensures counted { F.counts files.new ≡ after_writes (F.counts files.old) result }

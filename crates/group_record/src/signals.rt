@@ -1,15 +1,15 @@
 // The signal that an event delivers.
 ghost use Rattle.std.specs.Prelude.{◌≡◌, ◌<◌, ◌≤◌};
 ghost use Rattle.lib_calls.specs.Answer.{Answer};
-ghost use Rattle.signal_points.specs.Signals.{most_signal};
+ghost use Rattle.guest_signals.specs.Signals.{most_signal};
 ghost use Rattle.guest_process.specs.Live.{is_ready_signal as is_ready_of, lowest_signal};
 ghost use Rattle.group_world.specs.World.{has_pending, process_count};
 ghost use Rattle.group_record.specs.inside.Around.{handlers_at, signal_with_answer};
 
 use group_world::World;
 use guest_process::{Process, ends_process};
+use guest_signals::MOST_SIGNAL;
 use lib_calls::Call;
-use signal_points::MOST_SIGNAL;
 
 /// The signal that is delivered with the answer to a call of the thread of process p, whatever the answer
 /// is: the lowest that is pending and then has a handler, or 0. None is where the call ends the process.

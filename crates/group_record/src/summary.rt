@@ -3,7 +3,7 @@ ghost use Rattle.std.specs.Prelude.{◌≡◌, ◌≤◌, IfOk, All, length, is_
 ghost use Rattle.lamport_tag.specs.Limits.{most_processes};
 ghost use Rattle.group_world.specs.World.{process_count, surroundings_of};
 ghost use Rattle.group_record.specs.Answer.{IsSummary};
-ghost use Rattle.group_record.specs.inside.Recorded.{SumsUpRun, summary_line_of};
+ghost use Rattle.group_record.specs.inside.Recorded.{IsSummaryOfRun, summary_line_of};
 
 use crate::member::Member;
 use crate::recorder::Recorder;
@@ -40,7 +40,7 @@ pub(crate) fn summary_of(
     requires around { process_count recorder.now.world ≡ length processes.now }
     requires few { length processes.now ≤ most_processes }
     requires present { All (λ m. IsTrue (is_some m.process)) recorder.now.members.items }
-    ensures { IfOk result (SumsUpRun processes.now recorder.now) }
+    ensures { IfOk result (IsSummaryOfRun processes.now recorder.now) }
 {
     group_world::laws::by_counting();
     let mut lines = Vec::new(alloc);

@@ -11,7 +11,7 @@ use Rattle.proc_replay.specs.Replaying.{Replaying}
 use Rattle.group_state.specs.declared.stand.Stand.{Stand}
 use Rattle.group_state.specs.Moves.{event_of, last_event_of}
 use Rattle.group_state.specs.Place.{events_of_replays}
-use Rattle.group_state.specs.inside.Stands.{AreSoundMemories, AreStands, IsStand, KeepsStands, SameStand, StillStandGroups, replayers_from}
+use Rattle.group_state.specs.inside.Stands.{AreSoundMemories, AreStands, IsStand, KeepsStands, SameStand, KeepsCheckpoints, replayers_from}
 use Rattle.group_state.proofs.ReplaysAfter.{replayers_none}
 
 abbrev replayers_at : List Replaying → ℕ → List Replaying
@@ -49,11 +49,11 @@ pub few_replayers : (start : List Replaying) (stand : Stand) → IsStand start s
 few_replayers start stand is few = omega (arith, ap length is.replayers, length_replayers 0 start (take stand.at (events_of_replays start)), few)
 
 -- what a group keeps where it is
-pub keeps_more : (old room : List Stand) (here copy : Stand) (new : List Stand) → StillStandGroups old room → SameStand here copy → new ≡ room ++ copy ∷ [] → KeepsStands old here new
+pub keeps_more : (old room : List Stand) (here copy : Stand) (new : List Stand) → KeepsCheckpoints old room → SameStand here copy → new ≡ room ++ copy ∷ [] → KeepsStands old here new
 keeps_more old room here copy new still same is =
     λ start all stands. subst (AreStands start) (sym is) (All-push (IsStand start) room copy (still start all) (same_stand start here copy same stands))
 
-pub keeps_rest : (old room : List Stand) (here : Stand) (new : List Stand) → StillStandGroups old room → new ≡ room → KeepsStands old here new
+pub keeps_rest : (old room : List Stand) (here : Stand) (new : List Stand) → KeepsCheckpoints old room → new ≡ room → KeepsStands old here new
 keeps_rest old room here new still is = λ start all stands. subst (AreStands start) (sym is) (still start all)
 
 -- those for which a test said `true`

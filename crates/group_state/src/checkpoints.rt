@@ -1,6 +1,6 @@
 // Where a group stood before, so that it need not begin again to go back.
 ghost use Rattle.std.specs.Prelude.{◌≡◌, ◌≤◌, ◌∷◌, [], Contains, IfSome};
-ghost use Rattle.group_state.specs.inside.Stands.{KeepsStands, StillStandGroups};
+ghost use Rattle.group_state.specs.inside.Stands.{KeepsStands, KeepsCheckpoints};
 
 use crate::stand::Stand;
 use std::alloc::{AllocError, Global};
@@ -51,7 +51,7 @@ impl<'m, 'a> Checkpoints<'m, 'a> {
 
     // Where one more would be too many, the stride is doubled, and what is no multiple of it is dropped.
     fn make_room(&mut self)
-        ensures { StillStandGroups self.old.stands.items self.new.stands.items }
+        ensures { KeepsCheckpoints self.old.stands.items self.new.stands.items }
     {
         if self.stands.len() < MOST_CHECKPOINTS - 1 {
             return;

@@ -6,9 +6,9 @@ use Rattle.std.proofs.lemmas.List.{drop-append-le, drop-drop, get_or-replicate, 
 use Rattle.lib_calls.specs.declared.entry.Entry.{Entry}
 use Rattle.lib_calls.specs.Traffic.{drawn, is_sent, is_taken}
 use Rattle.lossy_net.specs.Network.{Traffic, no_traffic, nth_of, sent_by, traffic_of, with_delivered}
-use Rattle.signal_points.specs.Signals.{is_signal, most_signal}
+use Rattle.guest_signals.specs.Signals.{is_signal, most_signal}
 use Rattle.group_world.specs.History.{Act, Event, Deliver, Inject, Clock, Random, Signal, Kill, History, addressed_datagram, given, is_killed, is_pending, mailbox, one_if, pool, put_last_if, sends, supplied_bytes, taken_count, time, used_count}
-use Rattle.group_world.specs.Laws.{CanBe, CanFollow, Counting, IsCounted, sent_as}
+use Rattle.group_world.specs.Laws.{IsPossibleHistory, IsPossibleNext, Counting, IsCounted, sent_as}
 use Rattle.group_world.specs.World.{Surroundings, World, after_entry, has_pending, new_world, no_surroundings, sent_if, process_count, surroundings_of, took_if, with_act, without_signal, world_after}
 use Rattle.group_world.proofs.ListEnds.{put_last_is}
 use Rattle.group_world.proofs.NetLemmas.{length-sent_if, length-took_if, length-with_delivered, nth_of-map, traffic_of-delivered, traffic_of-event, traffic_of-new, traffic_of-waiting}
@@ -65,7 +65,7 @@ longer_if : {A : Type 0} (b : Bool) (n : ℕ) (xs ys : List A) → n ≤ length 
 longer_if true n xs ys within = longer n xs ys within
 longer_if false n xs ys within = within
 
-within_next : (count : ℕ) (h : History) (a : Act) (p : ℕ) → CanFollow count h a → IsWithin count h p → IsWithin count (a ∷ h) p
+within_next : (count : ℕ) (h : History) (a : Act) (p : ℕ) → IsPossibleNext count h a → IsWithin count h p → IsWithin count (a ∷ h) p
 within_next count h (Event q e) p can within = record {
   datagrams = one_more (q == p) (is_taken e) (taken_count h p) (length (given count h p)) within.datagrams
       (λ mine takes. subst (λ n. 1 ≤ n) (length-drop (taken_count h p) (given count h p)) (subst (λ k. 1 ≤ length (mailbox count h k)) (eqb-true q p mine) (can.1.datagrams takes)));
@@ -82,7 +82,7 @@ within_next count h (Random q bytes) p can within = record { datagrams = within.
 within_next count h (Signal q s) p can within = record { datagrams = within.datagrams; bytes = within.bytes }
 within_next count h (Kill q) p can within = record { datagrams = within.datagrams; bytes = within.bytes }
 
-within_always : (count : ℕ) (h : History) (p : ℕ) → CanBe count h → IsWithin count h p
+within_always : (count : ℕ) (h : History) (p : ℕ) → IsPossibleHistory count h → IsWithin count h p
 within_always count [] p can = record { datagrams = omega arith; bytes = omega arith }
 within_always count (a ∷ h) p can = within_next count h a p can.0 (within_always count h p can.1)
 
@@ -325,7 +325,7 @@ counted_new count p within =
       pending = λ s first last. ap (λ (x : Surroundings). get_or x.pending s false) place ∙ get_or-replicate 32 s false false (omega (arith, last));
     }
 
-before : (count : ℕ) (h : History) (p : ℕ) → CanBe count h → p < count → IsCounted count h (world_after count h) p → Before count h (world_after count h) p
+before : (count : ℕ) (h : History) (p : ℕ) → IsPossibleHistory count h → p < count → IsCounted count h (world_after count h) p → Before count h (world_after count h) p
 before count h p can process counted = record {
   counted = counted;
   within = within_always count h p can;
@@ -335,7 +335,7 @@ before count h p can process counted = record {
   process = process;
 }
 
-all_counted : (count : ℕ) (h : History) → CanBe count h → (p : ℕ) → p < count → IsCounted count h (world_after count h) p
+all_counted : (count : ℕ) (h : History) → IsPossibleHistory count h → (p : ℕ) → p < count → IsCounted count h (world_after count h) p
 all_counted count [] can p process = counted_new count p process
 all_counted count (Event q e ∷ h) can p process =
     event_counted count h (world_after count h) p q e (before count h p can.1 process (all_counted count h can.1 p process))

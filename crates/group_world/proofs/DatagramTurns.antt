@@ -6,7 +6,7 @@ use Rattle.std.proofs.lemmas.Option.{same_Some}
 use Rattle.lib_calls.specs.declared.entry.Entry.{Entry}
 use Rattle.lossy_net.specs.Network.{nth_of}
 use Rattle.group_world.specs.History.{Act, Deliver, Inject, History, addressed_datagram, datagram, given, sends, taken_count}
-use Rattle.group_world.specs.Laws.{GiverOfDatagram, InTurn, gives}
+use Rattle.group_world.specs.Laws.{GiverOfDatagram, MailboxIsFifo, gives}
 use Rattle.group_world.proofs.ListEnds.{put_last_is}
 
 -- ---- lists
@@ -69,7 +69,7 @@ has_giver count (a ∷ h) p number bytes found = ⊎_elim
     (before_or_last (given count h p) (gives count h a p) number bytes (gives_once count h a p)
     (subst (λ xs. slice_get xs number ≡ Some bytes) (given_next count h a p) found))
 
-pub in_turn : InTurn
+pub in_turn : MailboxIsFifo
 in_turn = record {
   front = λ count h p. first_of_rest (taken_count h p) (given count h p);
   giver = has_giver;

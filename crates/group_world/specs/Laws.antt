@@ -5,7 +5,7 @@ use Rattle.lamport_tag.specs.Tag.{read_datagram}
 use Rattle.lib_calls.specs.declared.entry.Entry.{Entry}
 use Rattle.lib_calls.specs.Traffic.{drawn, is_taken}
 use Rattle.lossy_net.specs.Network.{Sent, mailbox_of, nth_of, sent_by}
-use Rattle.signal_points.specs.Signals.{most_signal}
+use Rattle.guest_signals.specs.Signals.{most_signal}
 use Rattle.group_world.specs.History.{Act, Event, Deliver, Inject, Clock, Random, Signal, Kill, History, addressed_datagram, datagram, given, is_killed, is_pending, mailbox, pool, sends, taken_count, time}
 use Rattle.group_world.specs.World.{World, has_pending, surroundings_of, world_after}
 use Rattle.lamport_tag.specs.Limits.{most_clock}
@@ -17,19 +17,19 @@ pub record CanTake (count : ℕ) (h : History) (p : ℕ) (e : Entry) : Type 0 wh
   pub datagrams : IsTrue (is_taken e) → 1 ≤ length (mailbox count h p)
   pub bytes : drawn e ≤ length (pool h p)
 
-abbrev pub CanFollow : ℕ → History → Act → Type 0
-CanFollow count h (Event p e) = (p < count) × CanTake count h p e
-CanFollow count h (Deliver p n) = p < count
-CanFollow count h (Inject p bytes) = p < count
-CanFollow count h (Clock p value) = p < count
-CanFollow count h (Random p bytes) = p < count
-CanFollow count h (Signal p signal) = (p < count) × (1 ≤ signal) × (signal ≤ most_signal)
-CanFollow count h (Kill p) = p < count
+abbrev pub IsPossibleNext : ℕ → History → Act → Type 0
+IsPossibleNext count h (Event p e) = (p < count) × CanTake count h p e
+IsPossibleNext count h (Deliver p n) = p < count
+IsPossibleNext count h (Inject p bytes) = p < count
+IsPossibleNext count h (Clock p value) = p < count
+IsPossibleNext count h (Random p bytes) = p < count
+IsPossibleNext count h (Signal p signal) = (p < count) × (1 ≤ signal) × (signal ≤ most_signal)
+IsPossibleNext count h (Kill p) = p < count
 
 -- each act is one that can follow those before it
-abbrev pub CanBe : ℕ → History → Type 0
-CanBe count [] = Unit {0}
-CanBe count (a ∷ h) = CanFollow count h a × CanBe count h
+abbrev pub IsPossibleHistory : ℕ → History → Type 0
+IsPossibleHistory count [] = Unit {0}
+IsPossibleHistory count (a ∷ h) = IsPossibleNext count h a × IsPossibleHistory count h
 
 -- ---- the world is what is counted
 
@@ -50,7 +50,7 @@ pub record IsCounted (count : ℕ) (h : History) (w : World) (p : ℕ) : Type 0 
 pub record Counting : Type 0 where
   pub net : (count : ℕ) (h : History) → length (world_after count h).net ≡ count
   pub surroundings : (count : ℕ) (h : History) → length (world_after count h).surroundings ≡ count
-  pub counted : (count : ℕ) (h : History) → CanBe count h → (p : ℕ) → p < count → IsCounted count h (world_after count h) p
+  pub counted : (count : ℕ) (h : History) → IsPossibleHistory count h → (p : ℕ) → p < count → IsCounted count h (world_after count h) p
 
 -- ---- where datagrams come from
 
@@ -85,7 +85,7 @@ pub record GiverOfDatagram (count : ℕ) (h : History) (p number : ℕ) (bytes :
 
 -- the front of a mailbox is the datagram that was given next after those that were taken; and each datagram
 -- was given by an act
-pub record InTurn : Type 0 where
+pub record MailboxIsFifo : Type 0 where
   pub front : (count : ℕ) (h : History) (p : ℕ) → slice_get (mailbox count h p) 0 ≡ slice_get (given count h p) (taken_count h p)
   pub giver : (count : ℕ) (h : History) (p number : ℕ) (bytes : List ℕ) → slice_get (given count h p) number ≡ Some bytes
       → GiverOfDatagram count h p number bytes

@@ -4,7 +4,7 @@ use Rattle.std.specs.List.{slice_index_or}
 use Rattle.lib_calls.specs.declared.entry.Entry.{Entry}
 use Rattle.lib_calls.specs.Traffic.{drawn, is_sent, is_taken}
 use Rattle.lossy_net.specs.Network.{Traffic, no_traffic, nth_of, sent_by, with_delivered, with_sent, with_waiting, without_front}
-use Rattle.signal_points.specs.Signals.{is_pending_in, is_signal, none_pending, with_pending}
+use Rattle.guest_signals.specs.Signals.{is_pending_in, is_signal, none_pending, with_pending}
 use Rattle.group_world.specs.History.{Act, Event, Deliver, Inject, Clock, Random, Signal, Kill, History, datagram}
 
 -- what is around one process, apart from its datagrams: the random bytes that are left, the wall time as the

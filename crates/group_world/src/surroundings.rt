@@ -2,11 +2,11 @@
 ghost use Rattle.std.specs.Prelude.{◌≡◌, ◌↔◌, ℕ, ◌++◌, ◌≤◌, length, true, false, IsTrue, OnOk, OnErr};
 ghost use Rattle.lib_calls.specs.Entry.{entry_of};
 ghost use Rattle.lib_calls.specs.Traffic.{drawn as drawn_of};
-ghost use Rattle.signal_points.specs.Signals.{is_pending_in, most_signal, with_pending};
+ghost use Rattle.guest_signals.specs.Signals.{is_pending_in, most_signal, with_pending};
 ghost use Rattle.group_world.specs.World.{after_entry, no_surroundings};
 
+use guest_signals::{MOST_SIGNAL, Pending};
 use lib_calls::{EntryView, drawn};
-use signal_points::{MOST_SIGNAL, Pending};
 use std::alloc::{AllocError, Global};
 use std::marker::Model;
 

@@ -3,7 +3,7 @@ ghost use Rattle.std.specs.Prelude.{◌≡◌, ◌↔◌, ℕ, ◌<◌, ◌≤�
 ghost use Rattle.lib_calls.specs.Entry.{entry_of};
 ghost use Rattle.lib_calls.specs.Traffic.{drawn as drawn_of, is_sent as is_sent_of, is_taken as is_taken_of};
 ghost use Rattle.lossy_net.specs.Network.{first_waiting, kept_sent, mailbox_of, nth_of, sent_by};
-ghost use Rattle.signal_points.specs.Signals.{most_signal};
+ghost use Rattle.guest_signals.specs.Signals.{most_signal};
 ghost use Rattle.group_world.specs.History.{Event, Deliver, Inject, Clock, Random, Signal, Kill, datagram as datagram_of};
 ghost use Rattle.group_world.specs.World.{has_pending, new_world, sent_if, process_count, surroundings_of, took_if, with_act};
 

@@ -12,7 +12,7 @@ use Rattle.coop_threads.specs.declared.status.Status.TheVariants.{Unknown, Live,
 use Rattle.lib_calls.specs.Answer.{Answer}
 use Rattle.lib_calls.specs.Effects.{is_good, minus_one}
 use Rattle.lib_calls.specs.declared.entry.Call.{Call}
-use Rattle.signal_points.specs.Signals.{with_handler}
+use Rattle.guest_signals.specs.Signals.{with_handler}
 use Rattle.wasm_step.specs.Strand.{new_thread}
 use Rattle.wasm_stack.specs.Thread.{Thread}
 use Rattle.guest_process.specs.inside.Advancing.{acted_on_answer}

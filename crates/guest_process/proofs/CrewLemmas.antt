@@ -18,7 +18,7 @@ use Rattle.wasm_step.specs.Strand.{new_thread}
 use Rattle.wasm_stack.specs.Thread.{Thread}
 use Rattle.guest_process.specs.declared.waiting.Waiting.{Waiting}
 use Rattle.guest_process.specs.Answers.{effects_of_answer, narrow, spawnable}
-use Rattle.guest_process.specs.Crews.{AsMany, LockAfter, LockKept, Locked, MadeAfter, OneMore, OnlySpawnAdds, OtherThreadsStay, Same, Unlocked}
+use Rattle.guest_process.specs.Crews.{AsMany, LockAfter, LockKept, Locked, ThreadCountAfter, OneMore, OnlySpawnAdds, OtherThreadsStay, Same, Unlocked}
 use Rattle.guest_process.specs.Fits.{StateFits, WaitingFits}
 use Rattle.guest_process.specs.GoesOn.{with_event_counted}
 use Rattle.guest_process.specs.Legal.{entry_checks, reason_at}
@@ -71,7 +71,7 @@ others_kept keeps S e s h = others_at keeps S e s (thread_at S e.thread) (unless
 told_kind : (S : State) (e : Entry) (w : Waiting) → Hold (entry_checks S e w) → e.call.kind ≡ w.call.kind
 told_kind S e w holds = ap (λ call. call.kind) (call_told S e w holds)
 
-thread_made : (S : State) (e : Entry) (w : Waiting) (f : ℕ) (thread : Thread) → e.call.kind ≡ Spawn → e.call ≡ w.call → spawnable S (narrow w.call.a0) ≡ Some f → new_thread S.store.«module» f (narrow w.call.a1) ≡ Some thread → MadeAfter S e (with_new_thread S (waiting_at S.store.«module» thread))
+thread_made : (S : State) (e : Entry) (w : Waiting) (f : ℕ) (thread : Thread) → e.call.kind ≡ Spawn → e.call ≡ w.call → spawnable S (narrow w.call.a0) ≡ Some f → new_thread S.store.«module» f (narrow w.call.a1) ≡ Some thread → ThreadCountAfter S e (with_new_thread S (waiting_at S.store.«module» thread))
 thread_made S e w f thread kind call found starts = OneMore (record {
   func = f;
   thread = thread;
@@ -84,7 +84,7 @@ thread_made S e w f thread kind call found starts = OneMore (record {
 })
 
 -- the thread that goes on is another
-made_later : (S S' S'' : State) (e : Entry) → e.thread < length S.crew.threads → length S''.crew.threads ≡ length S'.crew.threads → ((u : ℕ) → u ≢ e.thread → slice_get S''.crew.threads u ≡ slice_get S'.crew.threads u) → MadeAfter S e S' → MadeAfter S e S''
+made_later : (S S' S'' : State) (e : Entry) → e.thread < length S.crew.threads → length S''.crew.threads ≡ length S'.crew.threads → ((u : ℕ) → u ≢ e.thread → slice_get S''.crew.threads u ≡ slice_get S'.crew.threads u) → ThreadCountAfter S e S' → ThreadCountAfter S e S''
 made_later S S' S'' e low same others (AsMany h) = AsMany (same ∙ h)
 made_later S S' S'' e low same others (OneMore n) = OneMore (record {
   func = n.func;
@@ -97,7 +97,7 @@ made_later S S' S'' e low same others (OneMore n) = OneMore (record {
   made = others (length S.crew.threads) (λ is. absurd (omega (arith, low, is))) ∙ n.made;
 })
 
-made_at : KeepsModule → (S : State) (e : Entry) → StateFits S → (o : Option Waiting) → thread_at S e.thread ≡ o → reason_at S e o ≡ None → MadeAfter S e (next_at_thread S e o)
+made_at : KeepsModule → (S : State) (e : Entry) → StateFits S → (o : Option Waiting) → thread_at S e.thread ≡ o → reason_at S e o ≡ None → ThreadCountAfter S e (next_at_thread S e o)
 made_at keeps S e s None at h = cc
 made_at keeps S e s (Some w) at h =
     let holds = all_hold (entry_checks S e w) h in
@@ -105,7 +105,7 @@ made_at keeps S e s (Some w) at h =
     let kind = told_kind S e w holds in
     let later = goes keeps S e s w in
     made_later S (effects_of_answer w.call.kind S e.thread w.call (answer_of e)) (next_at_thread S e (Some w)) e (live_low S.crew.threads e.thread w at) later.room later.others
-    (effects_has (MadeAfter S e) w.call.kind S e.thread w.call (answer_of e)
+    (effects_has (ThreadCountAfter S e) w.call.kind S e.thread w.call (answer_of e)
     (record {
       locks = λ k free. AsMany refl;
       unlocks = λ k held. AsMany refl;

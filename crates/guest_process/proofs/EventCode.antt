@@ -32,7 +32,7 @@ use Rattle.guest_process.specs.GoesOn.{after_running, instruction_budget, with_e
 use Rattle.guest_process.specs.Kinds.{ends_process, reply_value}
 use Rattle.guest_process.specs.Legal.{reason, reason_at}
 use Rattle.guest_process.specs.Next.{next, next_at_thread}
-use Rattle.guest_process.specs.inside.Meanings.{IsOfModule, state_of}
+use Rattle.guest_process.specs.inside.Meanings.{BodyInvariant, state_of}
 use Rattle.guest_process.specs.Sound.{IsSoundProcess, IsStandingAtCall}
 use Rattle.guest_process.specs.Start.{waiting_at}
 use Rattle.guest_process.specs.State.{State, awaits_event, is_running, thread_at, with_thread}
@@ -185,7 +185,7 @@ goes S e w legal at h =
 
 -- ---- the body after a legal entry's event is that of a process
 
-pub process_kept : KeepsModule → MarkLaws → (p q : Body) (e : Entry) → IsOfModule p → reason (state_of p) e ≡ None → state_of q ≡ next (state_of p) e → q.«module» ≡ p.«module» → SuitsModule q.store → IsOfModule q
+pub process_kept : KeepsModule → MarkLaws → (p q : Body) (e : Entry) → BodyInvariant p → reason (state_of p) e ≡ None → state_of q ≡ next (state_of p) e → q.«module» ≡ p.«module» → SuitsModule q.store → BodyInvariant q
 process_kept keeps marks p q e is h state same_module suits = record {
   suits = suits;
   same_module = ap (λ r. module_of r.now) same_module ∙ is.same_module ∙ sym (ap (λ S. S.store.«module») state ∙ next_module keeps (state_of p) e is.sound);

@@ -18,7 +18,7 @@ use Rattle.wasm_types.specs.Modules.{GlobalDef, Module, Segment}
 use Rattle.wasm_types.specs.declared.code.Value.{Value}
 use Rattle.wasm_step.specs.Burst.{burst}
 use Rattle.wasm_step.specs.Laws.{KeepsStamps, TellsMarks}
-use Rattle.wasm_store.specs.Marks.{MarkedStore, MarksFollow, StoreMarksTell, MarksWithin, NothingMarks, WritesMark}
+use Rattle.wasm_store.specs.Marks.{MarkedStore, MarkedTransitive, StoreMarksTell, MarksWithin, MarkedReflexive, WritesMark}
 use Rattle.wasm_stack.specs.After.{Halt, Calls, Ends, Traps, Sticks}
 use Rattle.wasm_store.specs.Start.{memory_before_segments, first_min, first_most, first_store, initial_value, initial_globals, offset_in, put_segments, segments_fit, unset_globals}
 use Rattle.wasm_store.specs.Store.{Store}
@@ -89,8 +89,8 @@ pub record MarkLaws : Type 0 where
   pub keeps : KeepsStamps
   pub tells : TellsMarks
   pub written : WritesMark
-  pub nothing : NothingMarks
-  pub follow : MarksFollow
+  pub nothing : MarkedReflexive
+  pub follow : MarkedTransitive
 
 module _ (laws : MarkLaws) where
   taken_marks : (c : Call) (payload sender : List ℕ) (g : Store) → MarkedStore g (record g { memory = taken c payload sender g.memory })

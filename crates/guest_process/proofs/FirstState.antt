@@ -12,10 +12,10 @@ use Rattle.wasm_store.specs.Store.{Store}
 use Rattle.wasm_step.specs.Strand.{first_thread}
 use Rattle.wasm_store.specs.Suits.{SuitsModule}
 use Rattle.wasm_stack.specs.Thread.{Thread}
-use Rattle.signal_points.specs.Signals.{handler_of, no_handlers}
+use Rattle.guest_signals.specs.Signals.{handler_of, no_handlers}
 use Rattle.guest_process.specs.GoesOn.{handler}
 use Rattle.guest_process.specs.Fits.{StateFits}
-use Rattle.guest_process.specs.inside.Meanings.{IsOfModule, state_of}
+use Rattle.guest_process.specs.inside.Meanings.{BodyInvariant, state_of}
 use Rattle.guest_process.specs.Sound.{IsSoundProcess, IsStandingAtCall}
 use Rattle.guest_process.specs.Start.{waiting_at, begun_process, begun_with}
 use Rattle.guest_process.specs.declared.body.Body.{Body}
@@ -72,7 +72,7 @@ started writes unstamped m who count S valid low few h = by_store (first_store m
 
 -- the body with which the code begins, over the store g, is that of a process
 pub is_process : NoLaterWhenWritten → FreshIsUnstamped → (p : Body) (g : Store) (thread : Thread) → p.who < p.count → p.count ≤ 16 → first_store (module_of p.«module».now) ≡ Some g → IsValid (module_of p.«module».now) → SuitsModule g
-    → state_of p ≡ begun_process (module_of p.«module».now) p.who p.count g thread → IsOfModule p
+    → state_of p ≡ begun_process (module_of p.«module».now) p.who p.count g thread → BodyInvariant p
 is_process writes unstamped p g thread low few store valid suits state =
     let m = module_of p.«module».now in
     let holds = begun_holds writes unstamped m p.who p.count g thread low few store valid in

@@ -8,7 +8,7 @@ use Rattle.call_table.specs.declared.kind.Kind.{Kind}
 use Rattle.call_table.specs.declared.kind.Kind.TheVariants.{OnSignal}
 use Rattle.lib_calls.specs.Answer.{Answer}
 use Rattle.lib_calls.specs.declared.entry.Call.{Call}
-use Rattle.signal_points.specs.Signals.{handler_of, is_signal, with_handler}
+use Rattle.guest_signals.specs.Signals.{handler_of, is_signal, with_handler}
 use Rattle.wasm_types.specs.declared.code.ValType.{ValType}
 use Rattle.wasm_types.specs.declared.code.ValType.TheVariants as types
 use Rattle.wasm_types.specs.Functions.{type_of}

@@ -15,7 +15,7 @@ use Rattle.lib_calls.specs.declared.entry.Entry.{Entry}
 use Rattle.lib_calls.specs.Answer.{Answer, answer_of}
 use Rattle.lib_calls.specs.Effects.{is_good, minus_one, minus_two, outgoing_of, takes_counted}
 use Rattle.lib_calls.specs.Traffic.{is_taken, takes_as}
-use Rattle.signal_points.specs.Signals.{most_signal}
+use Rattle.guest_signals.specs.Signals.{most_signal}
 use Rattle.guest_process.specs.declared.waiting.Waiting.{Waiting}
 use Rattle.guest_process.specs.Answers.{Need, Fixed, Blocked, World, need_of_world, brings_nothing, effects_of_answer, is_drawn, is_due, is_empty, is_payload, is_possible, need, takes_datagram}
 use Rattle.guest_process.specs.Fits.{StateFits}

@@ -13,7 +13,7 @@ use Rattle.lib_calls.specs.declared.entry.Call.{Call}
 use Rattle.lib_calls.specs.Effects.{outgoing_of}
 use Rattle.lib_calls.specs.Entry.{IsStringIf, IsTagIf}
 use Rattle.call_table.specs.declared.kind.Kind.{Kind}
-use Rattle.signal_points.specs.Signals.{most_signal}
+use Rattle.guest_signals.specs.Signals.{most_signal}
 use Rattle.guest_process.specs.declared.waiting.Waiting.{Waiting}
 use Rattle.guest_process.specs.Answers.{Need, Fixed, Blocked, World, need, is_possible, with_answer, after_need, effects_of_answer}
 use Rattle.guest_process.specs.Fits.{EnvFits, StateFits, WaitingFits, live_has}

@@ -13,7 +13,7 @@ use Rattle.lib_calls.specs.declared.entry.Call.{Call}
 use Rattle.lib_calls.specs.declared.entry.Entry.{Entry}
 use Rattle.lib_calls.specs.Answer.{Answer, answer_of}
 use Rattle.lib_calls.specs.Effects.{is_good, minus_one, minus_two, outgoing_of, takes_counted}
-use Rattle.signal_points.specs.Signals.{most_signal}
+use Rattle.guest_signals.specs.Signals.{most_signal}
 use Rattle.guest_process.specs.declared.waiting.Waiting.{Waiting}
 use Rattle.guest_process.specs.Answers.{Need, Fixed, Blocked, World, after_need, effects_of_answer, is_drawn, is_due, is_empty, is_payload, brings_nothing, is_possible, takes_datagram, need, replies_with, with_answer}
 use Rattle.guest_process.specs.GoesOn.{thread_goes_on, handler}
@@ -21,7 +21,7 @@ use Rattle.guest_process.specs.Kinds.{ends_process}
 use Rattle.guest_process.specs.Legal.{entry_checks, need_gives_answer, is_handled, reason_at}
 use Rattle.guest_process.specs.Live.{Env, Event, AnsweredCall, answered_now, as_given, chosen_signal, cut_datagram, drawn_of, event, event_of_waiting, from_world, is_ready_signal, lowest_signal, random_answer, taken_of, wall_time_at_waking, world_answer}
 use Rattle.guest_process.specs.Next.{next_at_thread}
-use Rattle.guest_process.specs.OneEvent.{WorldBrings, IsThereToTake, Possible, StandsFirst, WorldSupplies, HoldsUnless, WorldIsThere, datagram_as, mailbox_for}
+use Rattle.guest_process.specs.OneEvent.{WorldBrings, MailboxMatchesAnswer, Possible, IsHeadOfMailbox, WorldSupplies, Unless, SomeWorldAllows, datagram_as, mailbox_for}
 use Rattle.guest_process.specs.State.{State, is_running, thread_at}
 use Rattle.guest_process.specs.Fits.{StateFits}
 use Rattle.guest_process.proofs.FirstFailure.{all_hold, unless_none}
@@ -31,15 +31,15 @@ use Rattle.guest_process.proofs.AnswerWrites.{asked_good, given_written, not_min
 not_minus_one : (reply : ℕ) → reply ≤ 60000 → (reply == minus_one) ≡ false
 not_minus_one reply low = ne_eqb reply minus_one (λ is. omega (arith, low, is))
 
-here : {P : Type 0} (test : Bool) → test ≡ false → HoldsUnless test P → P
+here : {P : Type 0} (test : Bool) → test ≡ false → Unless test P → P
 here true is h = cc
 here false is h = h
 
-there : (test : Bool) (a : Answer) (box : List (List ℕ)) → test ≡ false → IsThereToTake test a box → StandsFirst a box
+there : (test : Bool) (a : Answer) (box : List (List ℕ)) → test ≡ false → MailboxMatchesAnswer test a box → IsHeadOfMailbox a box
 there true a box is h = cc
 there false a box is h = h
 
-not_there : (test : Bool) (a : Answer) (box : List (List ℕ)) → test ≡ true → IsThereToTake test a box → box ≡ []
+not_there : (test : Bool) (a : Answer) (box : List (List ℕ)) → test ≡ true → MailboxMatchesAnswer test a box → box ≡ []
 not_there true a box is h = h
 not_there false a box is h = cc
 
@@ -113,21 +113,21 @@ module _ (again : IsReadBack) where
       let counts = and_parts (a.reply == length a.incoming) (nat_le (length a.incoming) c.a1) (taken_counted S.count c a h) in
       omega (arith, short, eqb-true a.reply (length a.incoming) counts.0, leb-true (length a.incoming) c.a1 counts.1)
 
-  first_given : (count : ℕ) (c : Call) (a : Answer) (box : List (List ℕ)) → count ≤ 16 → takes_datagram count c a ≡ true → StandsFirst a box → taken_of count c.a1 box ≡ Some a
+  first_given : (count : ℕ) (c : Call) (a : Answer) (box : List (List ℕ)) → count ≤ 16 → takes_datagram count c a ≡ true → IsHeadOfMailbox a box → taken_of count c.a1 box ≡ Some a
   first_given count c a box few h first = ap (taken_of count c.a1) first.1 ∙ ap Some (cut_is count c a few h)
 
-  recv_gives : (S : State) (c : Call) (a : Answer) (box : List (List ℕ)) → S.count ≤ 16 → c.kind ≡ Recv → is_good c S.store.memory ≡ true → takes_datagram S.count c a ≡ true → HoldsUnless (a.reply == minus_one) (StandsFirst a box) → taken_of S.count c.a1 box ≡ Some a
+  recv_gives : (S : State) (c : Call) (a : Answer) (box : List (List ℕ)) → S.count ≤ 16 → c.kind ≡ Recv → is_good c S.store.memory ≡ true → takes_datagram S.count c a ≡ true → Unless (a.reply == minus_one) (IsHeadOfMailbox a box) → taken_of S.count c.a1 box ≡ Some a
   recv_gives S c a box few e good h first =
       let low = taken_low S c a h (recv_short S c e good) in
       first_given S.count c a box few h (here (a.reply == minus_one) (not_minus_one a.reply low) first)
 
-  taken_gives : (S : State) (c : Call) (a : Answer) (box : List (List ℕ)) → S.count ≤ 16 → c.kind ≡ TryRecv → is_good c S.store.memory ≡ true → takes_datagram S.count c a ≡ true → HoldsUnless (a.reply == minus_one) (IsThereToTake (a.reply == minus_two) a box) → unwrap_or (taken_of S.count c.a1 box) (replies_with minus_two) ≡ a
+  taken_gives : (S : State) (c : Call) (a : Answer) (box : List (List ℕ)) → S.count ≤ 16 → c.kind ≡ TryRecv → is_good c S.store.memory ≡ true → takes_datagram S.count c a ≡ true → Unless (a.reply == minus_one) (MailboxMatchesAnswer (a.reply == minus_two) a box) → unwrap_or (taken_of S.count c.a1 box) (replies_with minus_two) ≡ a
   taken_gives S c a box few e good h first =
       let low = taken_low S c a h (try_recv_short S c e good) in
       ap (λ taken. unwrap_or taken (replies_with minus_two))
       (first_given S.count c a box few h (there (a.reply == minus_two) a box (not_minus_two a.reply low) (here (a.reply == minus_one) (not_minus_one a.reply low) first)))
 
-  empty_gives : (S : State) (c : Call) (a : Answer) (box : List (List ℕ)) → is_empty a ≡ true → HoldsUnless (a.reply == minus_one) (IsThereToTake (a.reply == minus_two) a box) → unwrap_or (taken_of S.count c.a1 box) (replies_with minus_two) ≡ a
+  empty_gives : (S : State) (c : Call) (a : Answer) (box : List (List ℕ)) → is_empty a ≡ true → Unless (a.reply == minus_one) (MailboxMatchesAnswer (a.reply == minus_two) a box) → unwrap_or (taken_of S.count c.a1 box) (replies_with minus_two) ≡ a
   empty_gives S c a box h first =
       let parts = and_parts (a.reply == minus_two) (brings_nothing a.tag a.incoming) h in
       let is = eqb-true a.reply minus_two parts.0 in
@@ -262,11 +262,11 @@ possible again S e s h env has =
 
 -- ---- the world in which an entry comes about
 
-unless_any : {P : Type 0} (test : Bool) → P → HoldsUnless test P
+unless_any : {P : Type 0} (test : Bool) → P → Unless test P
 unless_any true h = tt
 unless_any false h = h
 
-in_mailbox : (test : Bool) (a : Answer) → IsThereToTake test a (if test then [] else datagram_as a.tag a.incoming ∷ [])
+in_mailbox : (test : Bool) (a : Answer) → MailboxMatchesAnswer test a (if test then [] else datagram_as a.tag a.incoming ∷ [])
 in_mailbox true a = refl
 in_mailbox false a = ([], refl)
 
@@ -278,7 +278,7 @@ brought Recv a signal = unless_any (a.reply == minus_one) ([], refl)
 brought TryRecv a signal = unless_any (a.reply == minus_one) (in_mailbox (a.reply == minus_two) a)
 brought _ a signal = tt
 
-pub world_is_there : WorldIsThere
+pub world_is_there : SomeWorldAllows
 world_is_there e shape = (
   record { time = shape.reply },
   record { alive = refl; brings = brought e.call.kind (answer_of e) e.signal; signals = λ s low high. refl },

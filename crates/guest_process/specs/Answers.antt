@@ -15,7 +15,7 @@ use Rattle.lamport_tag.specs.Tag.{is_sendable, tag_at}
 use Rattle.lib_calls.specs.declared.entry.Call.{Call}
 use Rattle.lib_calls.specs.Answer.{Answer}
 use Rattle.lib_calls.specs.Effects.{is_good, minus_one, minus_two, takes_counted, memory_after_answer as memory_with}
-use Rattle.signal_points.specs.Signals.{is_signal, with_handler}
+use Rattle.guest_signals.specs.Signals.{is_signal, with_handler}
 use Rattle.wasm_store.specs.Store.{Store, handler_at}
 use Rattle.wasm_step.specs.Strand.{new_thread}
 use Rattle.wasm_stack.specs.Thread as stack

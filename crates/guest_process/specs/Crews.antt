@@ -31,13 +31,13 @@ pub record SpawnsThread (S : State) (e : Entry) (S' : State) : Type 0 where
   pub made : slice_get S'.crew.threads (length S.crew.threads) ≡ Some (Kept (waiting_at S.store.«module» thread))
 
 -- what an event does to the number of threads
-pub data MadeAfter (S : State) (e : Entry) (S' : State) : Type 0 where
-  AsMany : length S'.crew.threads ≡ length S.crew.threads → MadeAfter S e S'
-  OneMore : SpawnsThread S e S' → MadeAfter S e S'
+pub data ThreadCountAfter (S : State) (e : Entry) (S' : State) : Type 0 where
+  AsMany : length S'.crew.threads ≡ length S.crew.threads → ThreadCountAfter S e S'
+  OneMore : SpawnsThread S e S' → ThreadCountAfter S e S'
 
 -- no event but one of `spawn` makes a thread
 abbrev pub OnlySpawnAdds : Type 0
-OnlySpawnAdds = (S : State) (e : Entry) → StateFits S → reason S e ≡ None → MadeAfter S e (next S e)
+OnlySpawnAdds = (S : State) (e : Entry) → StateFits S → reason S e ≡ None → ThreadCountAfter S e (next S e)
 
 -- the event takes a lock that was free for its thread
 pub record TakesLock (S : State) (e : Entry) (m : ℕ) (S' : State) : Type 0 where

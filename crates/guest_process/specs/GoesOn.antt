@@ -5,7 +5,7 @@ use Rattle.call_table.specs.declared.kind.Kind.{Kind}
 use Rattle.coop_threads.specs.declared.slot.Slot.{Slot}
 use Rattle.coop_threads.specs.declared.slot.Slot.TheVariants.{Kept, Lent, Over}
 use Rattle.lib_calls.specs.declared.entry.Call.{Call}
-use Rattle.signal_points.specs.Signals.{handler_of}
+use Rattle.guest_signals.specs.Signals.{handler_of}
 use Rattle.wasm_types.specs.declared.traps.Trap.{Trap}
 use Rattle.wasm_types.specs.declared.traps.Trap.TheVariants.{Exhausted, Unreachable}
 use Rattle.guest_module.specs.Library.{kind_at}

@@ -7,7 +7,7 @@ use Rattle.lib_calls.specs.declared.entry.Call.{Call}
 use Rattle.lib_calls.specs.declared.entry.Entry.{Entry}
 use Rattle.lib_calls.specs.Answer.{Answer, answer_of}
 use Rattle.lib_calls.specs.Effects.{outgoing_of}
-use Rattle.signal_points.specs.Signals.{most_signal}
+use Rattle.guest_signals.specs.Signals.{most_signal}
 use Rattle.guest_process.specs.declared.divergence.Divergence.{Divergence}
 use Rattle.guest_process.specs.declared.divergence.Divergence.TheVariants.{AfterEnd, NoThread, OtherCall, OtherArguments, OtherBytes, OtherReply, NoHandler, OtherClock}
 use Rattle.guest_process.specs.declared.waiting.Waiting.{Waiting}

@@ -9,7 +9,7 @@ use Rattle.lib_calls.specs.declared.entry.Entry.{Entry}
 use Rattle.lib_calls.specs.Effects.{is_good, minus_two}
 use Rattle.lib_calls.specs.Limits.{most_call_bytes}
 use Rattle.lib_calls.specs.Traffic.{drawn, is_sent, is_taken}
-use Rattle.signal_points.specs.Signals.{most_signal}
+use Rattle.guest_signals.specs.Signals.{most_signal}
 use Rattle.guest_process.specs.Fits.{StateFits}
 use Rattle.guest_process.specs.Legal.{reason}
 use Rattle.guest_process.specs.State.{State}

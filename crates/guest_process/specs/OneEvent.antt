@@ -9,7 +9,7 @@ use Rattle.lib_calls.specs.Effects.{minus_one, minus_two}
 use Rattle.lamport_tag.specs.Tag.{clock_of, tag_bytes}
 use Rattle.lib_calls.specs.Entry.{IsShaped}
 use Rattle.lib_calls.specs.declared.entry.Entry.{Entry}
-use Rattle.signal_points.specs.Signals.{most_signal}
+use Rattle.guest_signals.specs.Signals.{most_signal}
 use Rattle.wasm_types.specs.Modules.{Module}
 use Rattle.guest_module.specs.Valid.{IsValid}
 use Rattle.guest_process.specs.Fits.{StateFits, EnvFits}
@@ -47,26 +47,26 @@ datagram_as None payload = payload
 datagram_as (Some tag) payload = tag_bytes tag ++ payload
 
 -- it holds, but where this does
-abbrev pub HoldsUnless : Bool → Type 0 → Type 0
-HoldsUnless true P = Unit {0}
-HoldsUnless false P = P
+abbrev pub Unless : Bool → Type 0 → Type 0
+Unless true P = Unit {0}
+Unless false P = P
 
 -- the datagram of the answer comes first in the mailbox
-abbrev pub StandsFirst : Answer → List (List ℕ) → Type 0
-StandsFirst a mailbox = (later : List (List ℕ)) × (mailbox ≡ datagram_as a.tag a.incoming ∷ later)
+abbrev pub IsHeadOfMailbox : Answer → List (List ℕ) → Type 0
+IsHeadOfMailbox a mailbox = (later : List (List ℕ)) × (mailbox ≡ datagram_as a.tag a.incoming ∷ later)
 
 -- the datagram of the answer is there, or where the answer says so there is none
-abbrev pub IsThereToTake : Bool → Answer → List (List ℕ) → Type 0
-IsThereToTake true a mailbox = mailbox ≡ []
-IsThereToTake false a mailbox = StandsFirst a mailbox
+abbrev pub MailboxMatchesAnswer : Bool → Answer → List (List ℕ) → Type 0
+MailboxMatchesAnswer true a mailbox = mailbox ≡ []
+MailboxMatchesAnswer false a mailbox = IsHeadOfMailbox a mailbox
 
 -- the world has what the answer to a call of this kind brings
 abbrev pub WorldBrings : Kind → Answer → Env → Type 0
 WorldBrings Now a env = env.time ≡ a.reply
 WorldBrings SleepUntil a env = env.time ≡ a.reply
-WorldBrings Random a env = HoldsUnless (a.reply == minus_one) (take (length a.incoming) env.pool ≡ a.incoming)
-WorldBrings Recv a env = HoldsUnless (a.reply == minus_one) (StandsFirst a env.mailbox)
-WorldBrings TryRecv a env = HoldsUnless (a.reply == minus_one) (IsThereToTake (a.reply == minus_two) a env.mailbox)
+WorldBrings Random a env = Unless (a.reply == minus_one) (take (length a.incoming) env.pool ≡ a.incoming)
+WorldBrings Recv a env = Unless (a.reply == minus_one) (IsHeadOfMailbox a env.mailbox)
+WorldBrings TryRecv a env = Unless (a.reply == minus_one) (MailboxMatchesAnswer (a.reply == minus_two) a env.mailbox)
 WorldBrings _ a env = Unit {0}
 
 -- and of the signals only the one that is delivered is pending
@@ -91,8 +91,8 @@ world_for e = record {
 }
 
 -- it has what the entry brings, and is one that can be
-abbrev pub WorldIsThere : Type 0
-WorldIsThere = (e : Entry) → IsShaped e → EnvFits (world_for e) × WorldSupplies e (world_for e)
+abbrev pub SomeWorldAllows : Type 0
+SomeWorldAllows = (e : Entry) → IsShaped e → EnvFits (world_for e) × WorldSupplies e (world_for e)
 
 -- a legal entry is the event of a try of its thread in each world that has what it brings
 abbrev pub Possible : Type 0

@@ -3,7 +3,7 @@ use Rattle.std.specs.Prelude.{ℕ, [], Option, Some, None}
 use Rattle.call_table.specs.declared.kind.Kind.TheVariants.{Begin}
 use Rattle.coop_threads.specs.Crew.{empty, with_live}
 use Rattle.lib_calls.specs.declared.entry.Call.{Call}
-use Rattle.signal_points.specs.Signals.{no_handlers}
+use Rattle.guest_signals.specs.Signals.{no_handlers}
 use Rattle.wasm_types.specs.Modules.{Module}
 use Rattle.wasm_store.specs.Start.{first_store}
 use Rattle.wasm_store.specs.Store.{Store}

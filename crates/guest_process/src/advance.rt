@@ -13,7 +13,7 @@ ghost use Rattle.guest_process.specs.Answers.{with_answer};
 ghost use Rattle.guest_process.specs.GoesOn.{process_after_burst, instruction_budget, handler as handler_of};
 ghost use Rattle.guest_process.specs.Legal.{reason};
 ghost use Rattle.guest_process.specs.Next.{next};
-ghost use Rattle.guest_process.specs.inside.Meanings.{IsOfModule, state_of};
+ghost use Rattle.guest_process.specs.inside.Meanings.{BodyInvariant, state_of};
 ghost use Rattle.guest_process.specs.Sound.{StandsAtKind};
 ghost use Rattle.guest_process.specs.State.{awaits_event};
 
@@ -30,7 +30,7 @@ use wasm_types::Trap;
 impl<'m> Body<'m> {
     /// Makes the event of a legal entry.
     pub(crate) fn advance(&mut self, entry: &EntryView<'_>) -> Result<(), AllocError>
-        requires process { IsOfModule self.old }
+        requires process { BodyInvariant self.old }
         requires legal { reason (state_of self.old) (entry_of entry.now) ≡ None }
         requires few { self.old.events < 2 ^ 61 }
         ensures state { OnOk result (state_of self.new ≡ next (state_of self.old) (entry_of entry.now)) }
@@ -44,7 +44,7 @@ impl<'m> Body<'m> {
 
     // The event, but that the memory still bears its number.
     fn make_event(&mut self, entry: &EntryView<'_>) -> Result<(), AllocError>
-        requires process { IsOfModule self.old }
+        requires process { BodyInvariant self.old }
         requires legal { reason (state_of self.old) (entry_of entry.now) ≡ None }
         requires few { self.old.events < 2 ^ 61 }
         ensures state { OnOk result (awaits_event (state_of self.new) ≡ next (state_of self.old) (entry_of entry.now)) }

@@ -7,8 +7,8 @@ ghost use Rattle.guest_process.specs.Kinds.{reply_value};
 ghost use Rattle.guest_process.specs.Sound.{StandsAtKind};
 
 use crate::waiting::Waiting;
+use guest_signals::Handlers;
 use lib_calls::Kind;
-use signal_points::Handlers;
 use std::alloc::AllocError;
 use wasm_step::Strand;
 use wasm_types::Value;

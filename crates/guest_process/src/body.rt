@@ -15,7 +15,7 @@ use crate::frames::Frames;
 use crate::waiting::Waiting;
 use coop_threads::{Crew, Status};
 use guest_module::ValidModule;
-use signal_points::Handlers;
+use guest_signals::Handlers;
 use std::alloc::{AllocError, Global};
 use wasm_step::{Pause, Store};
 use wasm_types::Trap;

@@ -1,14 +1,14 @@
 // How calls set the handlers of signals.
 ghost use Rattle.std.specs.Prelude.{◌≡◌, IfSome, IsTrue};
-ghost use Rattle.signal_points.specs.Signals.{is_signal};
+ghost use Rattle.guest_signals.specs.Signals.{is_signal};
 ghost use Rattle.guest_process.specs.Answers.{after_need, handled, handler_given};
 ghost use Rattle.guest_process.specs.Meanings.{plain_need};
 ghost use Rattle.guest_process.specs.inside.Meanings.{state_of};
 
 use crate::body::Body;
 use crate::need::Need;
+use guest_signals::{Handlers, MOST_SIGNAL};
 use lib_calls::REFUSED;
-use signal_points::{Handlers, MOST_SIGNAL};
 
 // The number at which no function handles a signal.
 const REMOVAL: u32 = 0xFFFF_FFFF;

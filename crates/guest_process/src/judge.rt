@@ -15,9 +15,9 @@ use crate::need::Need;
 use crate::threads::narrow;
 use crate::waiting::Waiting;
 use crate::world::{brings_nothing, is_drawn, takes_datagram};
+use guest_signals::{Handlers, MOST_SIGNAL};
 use lamport_tag::is_next_clock;
 use lib_calls::{Call, EntryView, Kind, NONE_THERE, REFUSED, good_arguments, is_outgoing};
-use signal_points::{Handlers, MOST_SIGNAL};
 
 impl<'m> Body<'m> {
     /// What the answer to the thread's pending call depends on.

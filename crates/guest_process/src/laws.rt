@@ -3,7 +3,7 @@ ghost use Rattle.guest_process.specs.Crews.{LockKept, OnlySpawnAdds, OtherThread
 ghost use Rattle.guest_process.specs.EventCount.{BeginsFresh, CountsEvents};
 ghost use Rattle.guest_process.specs.Marks.{UnmarkedStays};
 ghost use Rattle.guest_process.specs.Numbers.{LegalNumbers, LegalTraffic};
-ghost use Rattle.guest_process.specs.OneEvent.{IsKeptByEvents, IsKeptSound, IsStarted, LowestFirst, OneEvent, Possible, Rises, WorldIsThere};
+ghost use Rattle.guest_process.specs.OneEvent.{IsKeptByEvents, IsKeptSound, IsStarted, LowestFirst, OneEvent, Possible, Rises, SomeWorldAllows};
 
 /// An event that the world let a process have has the shape of its kind and is legal where it comes,
 /// and the state after it is the one that its entry alone tells.
@@ -28,7 +28,7 @@ pub fn lowest_first()
 /// legal that no world gives.
 pub fn possible()
     ensures event { Possible }
-    ensures world { WorldIsThere }
+    ensures world { SomeWorldAllows }
 {
     lamport_tag::laws::tags_read_back();
 }

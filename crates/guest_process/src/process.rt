@@ -27,8 +27,8 @@ use crate::waiting::{Waiting, beginning};
 use coop_threads::{Crew, Status};
 use guest_memory::Memory;
 use guest_module::ValidModule;
+use guest_signals::Handlers;
 use lib_calls::{Call, EntryView};
-use signal_points::Handlers;
 use std::alloc::{AllocError, Global};
 use std::marker::Model;
 use wasm_step::{StartError, Store, Strand};
@@ -45,7 +45,7 @@ impl<'m> Model for Process<'m> {
     ghost use Rattle.std.specs.Coded.{codes};
     ghost use Rattle.wasm_types.specs.Coding.{trees_code};
     ghost use Rattle.coop_threads.specs.Crew.{crew_code};
-    ghost use Rattle.guest_process.specs.inside.Meanings.{IsOfModule, state_of};
+    ghost use Rattle.guest_process.specs.inside.Meanings.{BodyInvariant, state_of};
     ghost use Rattle.guest_process.specs.State.{State};
 
     ghost Value = { State };
@@ -54,7 +54,7 @@ impl<'m> Model for Process<'m> {
 
     ghost view = { λ p. state_of p.body.value };
 
-    ghost invariant = { λ p. IsOfModule p.body.value };
+    ghost invariant = { λ p. BodyInvariant p.body.value };
 }
 
 impl<'m> Process<'m> {

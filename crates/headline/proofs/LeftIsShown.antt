@@ -3,7 +3,7 @@ use Rattle.std.proofs.Common.{◌⊎◌, ◌∙◌, ◌<◌, ℕ, List, [], ◌�
 use Rattle.std.specs.List.{AllByRecursion}
 use Rattle.fri_outside.specs.Outside.{Folder}
 use Rattle.group_record.specs.Run.{IsMoment, RunStep, log_of, processes_in_group}
-use Rattle.record_command.specs.Agreement.{IsAtMomentOfRun, IsStoppedInHeads, IsRecordable, LeavesCut, MayFollowLog, Nothing, group_in, steps_in}
+use Rattle.record_command.specs.Agreement.{IsAtMomentOfRun, IsStoppedInHeads, IsRecordable, LeavesTruncatedLogs, IsPartialEntry, Nothing, group_in, steps_in}
 use Rattle.command_run.specs.Call.{IsAnswerStatus}
 use Rattle.record_command.specs.Expected.{KeepsSchedule}
 use Rattle.record_command.specs.ExpectedLaws.{done_is_kept}
@@ -17,19 +17,19 @@ module _ {before : Folder} {name : List ℕ} (r : IsRecordable before name) (ste
   Below ps = AllByRecursion (λ p. p < processes_in_group (group_in r)) ps
 
   -- a folder that has the logs that were left has those of the run
-  holds : LeavesCut (group_in r) steps cut after → (ps : List ℕ) (pairs : List Pair) → Below ps → AreHeld r (logs_in (group_in r) after) folder ps pairs → AreHeld r (logs_of_run (run_to r steps) cut) folder ps pairs
+  holds : LeavesTruncatedLogs (group_in r) steps cut after → (ps : List ℕ) (pairs : List Pair) → Below ps → AreHeld r (logs_in (group_in r) after) folder ps pairs → AreHeld r (logs_of_run (run_to r steps) cut) folder ps pairs
   holds left [] [] below has = tt
   holds left (p ∷ ps) (pair ∷ pairs) below has = (record { «module» = has.0.«module»; log = has.0.log ∙ left p below.0 }, holds left ps pairs below.1 has.1)
   holds left [] (pair ∷ pairs) below has = absurd has
   holds left (p ∷ ps) [] below has = absurd has
 
-  all_follow : ((p : ℕ) → p < processes_in_group (group_in r) → MayFollowLog (group_in r) (steps_in r) steps p (cut p)) → (ps : List ℕ) → Below ps
-      → AllByRecursion (λ p. MayFollowLog (group_in r) (steps_in r) steps p (cut p)) ps
+  all_follow : ((p : ℕ) → p < processes_in_group (group_in r) → IsPartialEntry (group_in r) (steps_in r) steps p (cut p)) → (ps : List ℕ) → Below ps
+      → AllByRecursion (λ p. IsPartialEntry (group_in r) (steps_in r) steps p (cut p)) ps
   all_follow follows [] below = tt
   all_follow follows (p ∷ ps) below = (follows p below.0, all_follow follows ps below.1)
 
 shows_steps : Headline → {before : Folder} {name : List ℕ} (r : IsRecordable before name) (steps : List RunStep) → IsMoment steps (steps_in r) → (cut : ℕ → List ℕ) (after : Folder)
-    → ((p : ℕ) → p < processes_in_group (group_in r) → MayFollowLog (group_in r) (steps_in r) steps p (cut p)) → LeavesCut (group_in r) steps cut after → ShowsSteps r steps cut after
+    → ((p : ℕ) → p < processes_in_group (group_in r) → IsPartialEntry (group_in r) (steps_in r) steps p (cut p)) → LeavesTruncatedLogs (group_in r) steps cut after → ShowsSteps r steps cut after
 shows_steps law {before} {name} r steps moment cut after follows left ps are folder pairs has =
     law before name r steps moment cut ps are (all_follow r steps cut after folder follows ps are.within) folder pairs (holds r steps cut after folder left ps pairs are.within has)
 

@@ -21,7 +21,7 @@ use Rattle.command_run.specs.Laws.{ReadsModules}
 use Rattle.command_run.specs.Outcome.{CommandStop, and_then}
 use Rattle.command_run.specs.Logs.{log_in, log_or_bad_head}
 use Rattle.log_pairs.specs.Pairs.{Loaded, Pair, clash_of_logs, has_name, has_process, is_other_group, loaded_pair, loaded_pairs, replay_of_log, replays_of, unless_clash}
-use Rattle.log_pairs.specs.Valid.{GoTogether}
+use Rattle.log_pairs.specs.Valid.{AreOfOneGroup}
 
 -- ---- a log that clashes with none before it
 
@@ -36,7 +36,7 @@ never true wrong = absurd (wrong refl)
 never false wrong = refl
 
 abbrev GoWith : List Loaded → Head → Type 0
-GoWith ls h = AllByRecursion (λ l. GoTogether l.head h) ls
+GoWith ls h = AllByRecursion (λ l. AreOfOneGroup l.head h) ls
 
 same_group : (ls : List Loaded) (h : Head) → GoWith ls h → is_other_group ls h.count ≡ false
 same_group [] h all = refl
@@ -95,16 +95,16 @@ AllStand folder (pair ∷ pairs) [] = ⊥
 -- the heads go together, each with all after it
 abbrev pub AllTogether : List Replaying → Type 0
 AllTogether [] = Unit {0}
-AllTogether (r ∷ rs) = AllByRecursion (λ s. GoTogether r.head s.head) rs × AllTogether rs
+AllTogether (r ∷ rs) = AllByRecursion (λ s. AreOfOneGroup r.head s.head) rs × AllTogether rs
 
 abbrev GoBehind : List Loaded → List Replaying → Type 0
 GoBehind earlier rs = AllByRecursion (λ r. GoWith earlier r.head) rs
 
-one_more : (earlier : List Loaded) (l : Loaded) (h : Head) → GoWith earlier h → GoTogether l.head h → GoWith (earlier ++ l ∷ []) h
+one_more : (earlier : List Loaded) (l : Loaded) (h : Head) → GoWith earlier h → AreOfOneGroup l.head h → GoWith (earlier ++ l ∷ []) h
 one_more [] l h all one = (one, tt)
 one_more (x ∷ earlier) l h all one = (all.0, one_more earlier l h all.1 one)
 
-behind_more : (earlier : List Loaded) (l : Loaded) (rs : List Replaying) → GoBehind earlier rs → AllByRecursion (λ s. GoTogether l.head s.head) rs → GoBehind (earlier ++ l ∷ []) rs
+behind_more : (earlier : List Loaded) (l : Loaded) (rs : List Replaying) → GoBehind earlier rs → AllByRecursion (λ s. AreOfOneGroup l.head s.head) rs → GoBehind (earlier ++ l ∷ []) rs
 behind_more earlier l [] all goes = tt
 behind_more earlier l (r ∷ rs) all goes = (one_more earlier l r.head all.0 goes.0, behind_more earlier l rs all.1 goes.1)
 

@@ -16,7 +16,7 @@ use Rattle.guest_process.specs.Start.{start}
 use Rattle.guest_process.specs.State.{State}
 use Rattle.group_record.specs.Answer.{first_states_from, group_of, with_first_state}
 use Rattle.group_record.specs.Laws.{Beginning, IsBegun}
-use Rattle.group_record.specs.Logs.{TellsBeforeRest}
+use Rattle.group_record.specs.Logs.{IsLogWithTail}
 use Rattle.group_record.specs.Run.{GroupStart, RunStep, head_of_log, log_of, name_of_process, processes_in_group}
 use Rattle.command_run.specs.declared.refusal.Reason.{Reason}
 use Rattle.command_run.specs.Fault.{fault_of}
@@ -26,7 +26,7 @@ use Rattle.command_run.specs.Limits.{most_module}
 use Rattle.command_run.specs.Outcome.{CommandStop, and_then, bytes_or_stop, file_of}
 use Rattle.command_run.specs.OutcomeLaws.{result_follows, same_Ok_value, ok_value_or}
 use Rattle.log_pairs.specs.Pairs.{Pair}
-use Rattle.log_pairs.specs.Valid.{GoTogether}
+use Rattle.log_pairs.specs.Valid.{AreOfOneGroup}
 use Rattle.record_command.specs.Agreement.{IsRecordable, group_in}
 use Rattle.record_command.specs.Expected.{module_name, modules_of, schedule_in, schedule_or_refusal}
 use Rattle.schedule_text.specs.Limits.{most_schedule}
@@ -168,7 +168,7 @@ same_module before folder name other m is same =
     ap (λ (held : Option (List ℕ)). module_by other (found_within most_module held)) same ∙ found_again name other (found_file before name most_module) m is
 
 pub pair_stands : ReadsModules → {before : Folder} {name : List ℕ} (r : IsRecordable before name) (steps : List RunStep) (cut : ℕ → List ℕ) (folder : Folder) (p : ℕ) (pair : Pair)
-    → HoldsPair r (logs_of_run (run_to r steps) cut) folder p pair → (t : TellsBeforeRest (group_in r) steps p (cut p)) → PairStands folder pair (replay_of (run_to r steps) cut p t)
+    → HoldsPair r (logs_of_run (run_to r steps) cut) folder p pair → (t : IsLogWithTail (group_in r) steps p (cut p)) → PairStands folder pair (replay_of (run_to r steps) cut p t)
 pair_stands reads {before} r steps cut folder p pair holds t =
     let b = begins_in r p t.first t.begun in
     record {
@@ -202,7 +202,7 @@ less_or_more (suc p) (suc q) apart = further (less_or_more p q (λ same. apart (
   further (inr more) = inr (omega (arith, more))
 
 pub together : (schedule : Schedule) (first : List State) → IsWellFormed schedule → (p q : ℕ) → p < processes_in_group (group_of schedule first) → q < processes_in_group (group_of schedule first) → p ≢ q
-    → GoTogether (head_of_log (group_of schedule first) p) (head_of_log (group_of schedule first) q)
+    → AreOfOneGroup (head_of_log (group_of schedule first) p) (head_of_log (group_of schedule first) q)
 together schedule first formed p q below also apart = record {
   count = refl;
   process = apart;

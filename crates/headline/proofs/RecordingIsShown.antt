@@ -17,24 +17,24 @@ use Rattle.call_log.specs.Log.{head_at}
 use Rattle.guest_process.specs.State.{State}
 use Rattle.proc_replay.specs.Replaying.{Replaying}
 use Rattle.group_record.specs.Laws.{Beginning, TakesDatagram, TellsCutLogs}
-use Rattle.group_record.specs.Logs.{IsLogOfRun, TellsBeforeRest, TellsEvents}
+use Rattle.group_record.specs.Logs.{IsLogOfRun, IsLogWithTail, TellsEvents}
 use Rattle.group_record.specs.RunLaws.{before_steps}
 use Rattle.group_record.specs.Run.{GroupStart, Had, IsMoment, RunStep, entries_of_steps, entry_bytes, head_of_log, log_of, processes_in_group}
-use Rattle.group_record.specs.Standing.{RunStandsAs, Standing}
+use Rattle.group_record.specs.Standing.{IsReachableRun, Standing}
 use Rattle.group_state.specs.Laws.{Ordered, SendsFirst}
 use Rattle.group_state.specs.Nodes.{nodes_at, seen_node}
 use Rattle.group_state.specs.Place.{ReplaysFit, events_of_replays, states_of_nodes}
 use Rattle.watch_expr.specs.Reads.{VariablesUnseen, no_variables}
 use Rattle.watch_expr.specs.Value.{value}
-use Rattle.embed_cmds.specs.Variables.{variable_value}
+use Rattle.point_programs.specs.Variables.{variable_value}
 use Rattle.shell_points.specs.Firing.{place_at}
 use Rattle.shell_points.specs.Laws.{ExactFiring}
 use Rattle.command_run.specs.Laws.{ReadsModules}
 use Rattle.command_run.specs.Apart.{apart_work}
 use Rattle.command_run.specs.Outcome.{CommandOutcome, CommandStop, and_then}
 use Rattle.log_pairs.specs.Pairs.{Loaded, Pair, names_of_pairs, replays_of, replays_of_pairs, sort_replays}
-use Rattle.log_pairs.specs.Valid.{GoTogether}
-use Rattle.record_command.specs.Agreement.{IsRecordable, LogsAgree, MayFollowLog, Front, Nothing, group_in, steps_in}
+use Rattle.log_pairs.specs.Valid.{AreOfOneGroup}
+use Rattle.record_command.specs.Agreement.{IsRecordable, LogsAgree, IsPartialEntry, Front, Nothing, group_in, steps_in}
 use Rattle.record_command.specs.Laws.{RecordingsAgree}
 use Rattle.replay_command.specs.Report.{replay_work}
 use Rattle.conversation.specs.Opening.{opened_outcome}
@@ -87,13 +87,13 @@ all_fit run cut (p ∷ ps) [] all k d below = absurd all
 -- ---- a log, with or without a part of one more entry
 
 -- a log with nothing after it
-tells_whole : (group : GroupStart) (steps : List RunStep) (p : ℕ) (cut : List ℕ) → TellsEvents group steps p → cut ≡ [] → TellsBeforeRest group steps p cut
+tells_whole : (group : GroupStart) (steps : List RunStep) (p : ℕ) (cut : List ℕ) → TellsEvents group steps p → cut ≡ [] → IsLogWithTail group steps p cut
 tells_whole group steps p cut t none =
-    subst (λ (cut : List ℕ). TellsBeforeRest group steps p cut) (sym none)
+    subst (λ (cut : List ℕ). IsLogWithTail group steps p cut) (sym none)
     (subst (λ (bytes : List ℕ). IsLogOfRun group steps p bytes []) (sym (append-nil (log_of group steps p))) t)
 
 -- what the log is after other steps, among which the process had no event
-tells_after : (group : GroupStart) (early steps : List RunStep) (p : ℕ) (cut : List ℕ) → TellsEvents group steps p → TellsBeforeRest group early p cut → entries_of_steps early p ≡ entries_of_steps steps p → TellsBeforeRest group steps p cut
+tells_after : (group : GroupStart) (early steps : List RunStep) (p : ℕ) (cut : List ℕ) → TellsEvents group steps p → IsLogWithTail group early p cut → entries_of_steps early p ≡ entries_of_steps steps p → IsLogWithTail group steps p cut
 tells_after group early steps p cut whole part same =
     let bytes : log_of group early p ++ cut ≡ log_of group steps p ++ cut = ap (λ (es : List Entry). (head_bytes (head_of_log group p) ++ encodings Two 0 es) ++ cut) same in
     record {
@@ -108,10 +108,10 @@ tells_after group early steps p cut whole part same =
       states = whole.states;
     }
 
-tells_by : (group : GroupStart) (all steps : List RunStep) (p : ℕ) (cut : List ℕ) → TellsCutLogs group all → TellsEvents group steps p → MayFollowLog group all steps p cut → TellsBeforeRest group steps p cut
+tells_by : (group : GroupStart) (all steps : List RunStep) (p : ℕ) (cut : List ℕ) → TellsCutLogs group all → TellsEvents group steps p → IsPartialEntry group all steps p cut → IsLogWithTail group steps p cut
 tells_by group all steps p cut cuts whole (Nothing none) = tells_whole group steps p cut whole none
 tells_by group all steps p cut cuts whole (Front later early e n split same short is) =
-    subst (λ (cut : List ℕ). TellsBeforeRest group steps p cut) (sym is) (tells_after group early steps p (take n (entry_bytes group early p e)) whole (cuts later early p e split n short) same)
+    subst (λ (cut : List ℕ). IsLogWithTail group steps p cut) (sym is) (tells_after group early steps p (take n (entry_bytes group early p e)) whole (cuts later early p e split n short) same)
 
 -- ---- a folder that holds some processes of a recording
 
@@ -120,7 +120,7 @@ module _ (reads : ReadsModules) (gives : GivesSchedules) (beginning : Beginning)
   begun : HasBegun (group_in r) r.schedule.items
   begun = has_begun reads gives beginning r
 
-  stands : RunStandsAs (group_in r) steps
+  stands : IsReachableRun (group_in r) steps
   stands = standing (group_in r) r.schedule.items begun.begun begun.fits steps moment
 
   agreed : LogsAgree (group_in r) (steps_in r)
@@ -134,9 +134,9 @@ module _ (reads : ReadsModules) (gives : GivesSchedules) (beginning : Beginning)
 
   -- no more than a part of its next entry follows the log of a process
   abbrev MayFollow : ℕ → Type 0
-  MayFollow p = MayFollowLog (group_in r) (steps_in r) steps p (cut p)
+  MayFollow p = IsPartialEntry (group_in r) (steps_in r) steps p (cut p)
 
-  tells : (p : ℕ) → p < count → MayFollow p → TellsBeforeRest (group_in r) steps p (cut p)
+  tells : (p : ℕ) → p < count → MayFollow p → IsLogWithTail (group_in r) steps p (cut p)
   tells p below follow = tells_by (group_in r) (steps_in r) steps p (cut p) agreed.cut (agreed.logs steps moment p below) follow
 
   -- the first state of a process is in its ranges
@@ -175,7 +175,7 @@ module _ (reads : ReadsModules) (gives : GivesSchedules) (beginning : Beginning)
   all_stand (p ∷ ps) [] below follow held = absurd held
 
   one_together : (p : ℕ) → p < count → (ps : List ℕ) (below : Below ps) (follow : AllFollow ps) → AllByRecursion (λ q. p ≢ q) ps
-      → AllByRecursion (λ s. GoTogether (head_of_log (group_in r) p) s.head) (replays ps below follow)
+      → AllByRecursion (λ s. AreOfOneGroup (head_of_log (group_in r) p) s.head) (replays ps below follow)
   one_together p here [] below follow apart = tt
   one_together p here (q ∷ ps) below follow apart =
       (together r.schedule r.first (schedule_formed gives before name r.schedule r.spelled) p q here below.0 apart.0, one_together p here ps below.1 follow.1 apart.1)

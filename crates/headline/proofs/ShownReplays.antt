@@ -13,9 +13,9 @@ use Rattle.guest_process.specs.declared.verdict.Verdict.{Verdict}
 use Rattle.guest_process.specs.Replay.{accepted, last_state, left_over, reach_of_entries, reach_with_entry, replayed, state_after, verdict, verdict_of}
 use Rattle.guest_process.specs.State.{State}
 use Rattle.proc_replay.specs.Replaying.{Replaying}
-use Rattle.group_record.specs.Logs.{TellsBeforeRest}
+use Rattle.group_record.specs.Logs.{IsLogWithTail}
 use Rattle.group_record.specs.Run.{GroupStart, RunStep, entries_of_steps, head_of_log, process_after, process_states, recorded_states, processes_in_group}
-use Rattle.group_record.specs.Standing.{RunStandsAs, StandsReplayed}
+use Rattle.group_record.specs.Standing.{IsReachableRun, StandsReplayed}
 use Rattle.group_state.specs.Image.{memory_of_image, print_of_image}
 use Rattle.group_record.specs.Images.{memory_of_process}
 use Rattle.group_record.specs.Answer.{end_after}
@@ -26,7 +26,7 @@ use Rattle.headline.specs.Shown.{RecordedRun, ShowsProcess, recorded_line}
 use Rattle.headline.proofs.RecordedCourse.{states_count}
 
 -- the replay of a log
-abbrev pub replay_of : (run : RecordedRun) (cut : ℕ → List ℕ) (p : ℕ) → TellsBeforeRest run.group run.steps p (cut p) → Replaying
+abbrev pub replay_of : (run : RecordedRun) (cut : ℕ → List ℕ) (p : ℕ) → IsLogWithTail run.group run.steps p (cut p) → Replaying
 replay_of run cut p t = record { head = head_of_log run.group p; state = t.first; left = t.left }
 
 some_state : (xs : List State) (n : ℕ) → n < length xs → (S : State) × (slice_get xs n ≡ Some S)
@@ -34,7 +34,7 @@ some_state [] n below = absurd (omega (arith, below))
 some_state (S ∷ xs) zero below = (S, refl)
 some_state (S ∷ xs) (suc n) below = some_state xs n (omega (arith, below))
 
-pub shows : (run : RecordedRun) (cut : ℕ → List ℕ) (p : ℕ) → RunStandsAs run.group run.steps → (t : TellsBeforeRest run.group run.steps p (cut p)) → ShowsProcess run cut p (replay_of run cut p t)
+pub shows : (run : RecordedRun) (cut : ℕ → List ℕ) (p : ℕ) → IsReachableRun run.group run.steps → (t : IsLogWithTail run.group run.steps p (cut p)) → ShowsProcess run cut p (replay_of run cut p t)
 shows run cut p stands t = record {
   head = refl;
   begun = t.begun;
@@ -77,7 +77,7 @@ record Ends (S last : State) (es : List Entry) : Type 0 where
 last_is : (S last : State) (es : List Entry) → Ends S last es → last_state S es ≡ last
 last_is S last es ends = ap (state_after S es) ends.all ∙ ap (replayed S) (take-length es) ∙ ends.at
 
-ends_at : (group : GroupStart) (steps : List RunStep) (cut : ℕ → List ℕ) (p : ℕ) (t : TellsBeforeRest group steps p (cut p)) (s : StandsReplayed group steps p) → Ends t.first s.last (entries_of_steps steps p)
+ends_at : (group : GroupStart) (steps : List RunStep) (cut : ℕ → List ℕ) (p : ℕ) (t : IsLogWithTail group steps p (cut p)) (s : StandsReplayed group steps p) → Ends t.first s.last (entries_of_steps steps p)
 ends_at group steps cut p t s = record {
   all = t.accepted;
   at = ap (λ (S : State). replayed S (entries_of_steps steps p)) (same_Some t.first s.first (sym t.begun ∙ s.begun)) ∙ s.replay;
@@ -95,7 +95,7 @@ line_of r es rest = record { name = r.head.name; events = accepted r.state es; e
 abbrev ended_line : Replaying → ℕ → State → Verdict → ReportLine
 ended_line r n last v = record { name = r.head.name; events = n; end = last.end; verdict = v }
 
-pub comes_to : (run : RecordedRun) (cut : ℕ → List ℕ) (p : ℕ) → RunStandsAs run.group run.steps → p < processes_in_group run.group → (t : TellsBeforeRest run.group run.steps p (cut p)) → ComesTo run cut p (replay_of run cut p t)
+pub comes_to : (run : RecordedRun) (cut : ℕ → List ℕ) (p : ℕ) → IsReachableRun run.group run.steps → p < processes_in_group run.group → (t : IsLogWithTail run.group run.steps p (cut p)) → ComesTo run cut p (replay_of run cut p t)
 comes_to run cut p stands below t =
     let s = stands.processes p below in
     let es = entries_of_steps run.steps p in

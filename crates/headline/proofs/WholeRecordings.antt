@@ -4,7 +4,7 @@ use Rattle.std.specs.List.{AllByRecursion, range_with_len}
 use Rattle.fri_outside.specs.Outside.{Folder}
 use Rattle.group_record.specs.Run.{log_of, processes_in_group}
 use Rattle.log_pairs.specs.Pairs.{Pair}
-use Rattle.record_command.specs.Agreement.{IsRecordable, MayFollowLog, Nothing, group_in, steps_in}
+use Rattle.record_command.specs.Agreement.{IsRecordable, IsPartialEntry, Nothing, group_in, steps_in}
 use Rattle.headline.specs.Headline.{AreDistinct, AreHeld, AreProcesses, Headline, WholeRecordings, logs_of_run, processes_of, run_to, whole_logs}
 use Rattle.headline.specs.Shown.{no_cut}
 
@@ -36,7 +36,7 @@ module _ {before : Folder} {name : List ℕ} (r : IsRecordable before name) (fol
   whole [] (pair ∷ pairs) held = absurd held
   whole (p ∷ ps) [] held = absurd held
 
-  none_follow : (ps : List ℕ) → AllByRecursion (λ p. MayFollowLog (group_in r) (steps_in r) (steps_in r) p (no_cut p)) ps
+  none_follow : (ps : List ℕ) → AllByRecursion (λ p. IsPartialEntry (group_in r) (steps_in r) (steps_in r) p (no_cut p)) ps
   none_follow [] = tt
   none_follow (p ∷ ps) = (Nothing refl, none_follow ps)
 

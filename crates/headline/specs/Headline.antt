@@ -14,7 +14,7 @@ use Rattle.command_run.specs.Apart.{AreApart}
 use Rattle.command_run.specs.Call.{IsAnswerStatus}
 use Rattle.command_run.specs.Outcome.{outcome_status, writes_of}
 use Rattle.log_pairs.specs.Pairs.{Pair, names_of_pairs, replays_of_pairs}
-use Rattle.record_command.specs.Agreement.{IsAtMomentOfRun, IsStoppedInHeads, IsRecordable, LeavesMoment, MayFollowLog, group_in, steps_in}
+use Rattle.record_command.specs.Agreement.{IsAtMomentOfRun, IsStoppedInHeads, IsRecordable, LeavesMoment, IsPartialEntry, group_in, steps_in}
 use Rattle.record_command.specs.Expected.{KeepsSchedule, module_name, record_outcome}
 use Rattle.replay_command.specs.Report.{replay_outcome}
 use Rattle.debug_command.specs.Debug.{debug_outcome, session_outcome}
@@ -116,7 +116,7 @@ ShowsLogs r steps cut logs ps =
 -- as a recording leaves it that was stopped
 abbrev pub Headline : Type 0
 Headline = (before : Folder) (schedule_name : List ℕ) (r : IsRecordable before schedule_name) (steps : List RunStep) → IsMoment steps (steps_in r)
-    → (cut : ℕ → List ℕ) (ps : List ℕ) → AreProcesses (processes_in_group (group_in r)) ps → AllByRecursion (λ p. MayFollowLog (group_in r) (steps_in r) steps p (cut p)) ps
+    → (cut : ℕ → List ℕ) (ps : List ℕ) → AreProcesses (processes_in_group (group_in r)) ps → AllByRecursion (λ p. IsPartialEntry (group_in r) (steps_in r) steps p (cut p)) ps
     → ShowsLogs r steps cut (logs_of_run (run_to r steps) cut) ps
 
 -- ---- what a recording leaves

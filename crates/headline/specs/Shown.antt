@@ -26,8 +26,8 @@ use Rattle.expression_text.specs.Expression.{Expression}
 use Rattle.expression_text.specs.Faulty.{names_variable}
 use Rattle.watch_expr.specs.Reads.{no_variables}
 use Rattle.watch_expr.specs.Value.{value}
-use Rattle.embed_cmds.specs.Running.{value_in}
-use Rattle.embed_cmds.specs.Variables.{Variable}
+use Rattle.point_programs.specs.Running.{value_in}
+use Rattle.point_programs.specs.Variables.{Variable}
 use Rattle.shell_points.specs.Firing.{place_at, value_at_position, watchpoint_fires}
 use Rattle.command_run.specs.Outcome.{CommandWork}
 use Rattle.lamport_tag.specs.Limits.{most_clock}

@@ -15,7 +15,7 @@ use Rattle.command_run.specs.Valid.{ProcessBegins}
 use Rattle.log_pairs.specs.Laws.{OpensGroups}
 use Rattle.command_run.specs.LogLaws.{FindsLogs}
 use Rattle.log_pairs.specs.Pairs.{Loaded, Pair, loaded_pairs, replay_of_log, replays_of, replays_of_pairs, sort_replays}
-use Rattle.log_pairs.specs.Valid.{ArePairs, GoTogether, IsGroup, IsPairOfFiles, heads_in}
+use Rattle.log_pairs.specs.Valid.{ArePairs, AreOfOneGroup, IsGroup, IsPairOfFiles, heads_in}
 use Rattle.log_pairs.proofs.LoadedPairs.{pair_stands, read_as}
 use Rattle.log_pairs.proofs.PairsTogether.{no_clash}
 
@@ -43,7 +43,7 @@ module _ (modules : ReadsModules) (finds : FindsLogs) where
   replays_in folder (pair ∷ pairs) files = replay_in folder pair files.0 ∷ replays_in folder pairs files.1
 
   -- the pairs after some others, where the heads of them all go together
-  pairs_stand : (folder : Folder) (earlier : List Loaded) (pairs : List Pair) (files : ArePairs folder pairs) → AllPairs GoTogether (map (λ l. l.head) earlier ++ heads_in folder pairs files)
+  pairs_stand : (folder : Folder) (earlier : List Loaded) (pairs : List Pair) (files : ArePairs folder pairs) → AllPairs AreOfOneGroup (map (λ l. l.head) earlier ++ heads_in folder pairs files)
       → loaded_pairs folder earlier pairs ≡ Ok (earlier ++ held_in folder pairs files)
   pairs_stand folder earlier [] files together = ap (λ (ls : List Loaded). Ok ls) (sym (append-nil earlier))
   pairs_stand folder earlier (pair ∷ pairs) files together =
@@ -55,7 +55,7 @@ module _ (modules : ReadsModules) (finds : FindsLogs) where
       let same : map (λ l. l.head) earlier ++ file.log.head ∷ heads ≡ map (λ l. l.head) (earlier ++ l ∷ []) ++ heads =
       sym (append_assoc (map (λ l. l.head) earlier) (file.log.head ∷ []) heads) ∙ ap (λ (hs : List Head). hs ++ heads) (sym (map-append (λ (l : Loaded). l.head) earlier (l ∷ []))) in
       ap (λ (r : Result Loaded CommandStop). and_then r (λ l. loaded_pairs folder (earlier ++ l ∷ []) pairs)) one
-      ∙ pairs_stand folder (earlier ++ l ∷ []) pairs files.1 (subst (λ (hs : List Head). AllPairs GoTogether hs) same together)
+      ∙ pairs_stand folder (earlier ++ l ∷ []) pairs files.1 (subst (λ (hs : List Head). AllPairs AreOfOneGroup hs) same together)
       ∙ ap (λ (ls : List Loaded). Ok ls) (append_assoc earlier (l ∷ []) (held_in folder pairs files.1))
 
   replay_begins : (folder : Folder) (pair : Pair) (file : IsPairOfFiles folder pair) → replay_of_log (held folder pair file) ≡ Ok (replay_in folder pair file)

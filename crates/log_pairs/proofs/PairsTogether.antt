@@ -9,7 +9,7 @@ use Rattle.std.proofs.lemmas.List.{length-append}
 use Rattle.std.proofs.lemmas.Slice.Eq.{bytes_eq-Decides}
 use Rattle.call_log.specs.Head.{Head}
 use Rattle.log_pairs.specs.Pairs.{Loaded, clash_of_logs, has_name, has_process, is_other_group}
-use Rattle.log_pairs.specs.Valid.{GoTogether}
+use Rattle.log_pairs.specs.Valid.{AreOfOneGroup}
 use Rattle.log_pairs.proofs.LogClashes.{first_reason}
 
 -- ---- what is so of each two is so of those before a place and of what stands there
@@ -41,25 +41,25 @@ never : (b : Bool) → (b ≡ true → ⊥) → b ≡ false
 never true wrong = absurd (wrong refl)
 never false wrong = refl
 
-same_group : (ls : List Loaded) (h : Head) → AllByRecursion (λ l. GoTogether l.head h) ls → is_other_group ls h.count ≡ false
+same_group : (ls : List Loaded) (h : Head) → AllByRecursion (λ l. AreOfOneGroup l.head h) ls → is_other_group ls h.count ≡ false
 same_group [] h all = refl
 same_group (l ∷ ls) h all = ap not (equal_test l.head.count h.count all.0.count)
 
-no_process : (ls : List Loaded) (h : Head) → AllByRecursion (λ l. GoTogether l.head h) ls → has_process ls h.process ≡ false
+no_process : (ls : List Loaded) (h : Head) → AllByRecursion (λ l. AreOfOneGroup l.head h) ls → has_process ls h.process ≡ false
 no_process [] h all = refl
 no_process (l ∷ ls) h all = ap (λ (b : Bool). b || has_process ls h.process) (ne_eqb l.head.process h.process all.0.process) ∙ no_process ls h all.1
 
-no_name : (ls : List Loaded) (h : Head) → AllByRecursion (λ l. GoTogether l.head h) ls → has_name ls h.name ≡ false
+no_name : (ls : List Loaded) (h : Head) → AllByRecursion (λ l. AreOfOneGroup l.head h) ls → has_name ls h.name ≡ false
 no_name [] h all = refl
 no_name (l ∷ ls) h all =
     ap (λ (b : Bool). b || has_name ls h.name) (never (bytes_eq l.head.name h.name) (λ e. all.0.name ((bytes_eq-Decides l.head.name h.name).0 e))) ∙ no_name ls h all.1
 
-clashes_not : (ls : List Loaded) (h : Head) → AllByRecursion (λ l. GoTogether l.head h) ls → clash_of_logs ls h ≡ None
+clashes_not : (ls : List Loaded) (h : Head) → AllByRecursion (λ l. AreOfOneGroup l.head h) ls → clash_of_logs ls h ≡ None
 clashes_not ls h all =
     ap (λ (b : Bool). first_reason b (has_process ls h.process) (has_name ls h.name)) (same_group ls h all)
     ∙ ap (λ (b : Bool). first_reason false b (has_name ls h.name)) (no_process ls h all)
     ∙ ap (first_reason false false) (no_name ls h all)
 
 -- a head after those of some pairs, where each two go together
-pub no_clash : (ls : List Loaded) (h : Head) (rest : List Head) → AllPairs GoTogether (map (λ l. l.head) ls ++ h ∷ rest) → clash_of_logs ls h ≡ None
-no_clash ls h rest all = clashes_not ls h (of_heads (λ x. GoTogether x h) ls (before_it GoTogether (map (λ l. l.head) ls) h rest all))
+pub no_clash : (ls : List Loaded) (h : Head) (rest : List Head) → AllPairs AreOfOneGroup (map (λ l. l.head) ls ++ h ∷ rest) → clash_of_logs ls h ≡ None
+no_clash ls h rest all = clashes_not ls h (of_heads (λ x. AreOfOneGroup x h) ls (before_it AreOfOneGroup (map (λ l. l.head) ls) h rest all))

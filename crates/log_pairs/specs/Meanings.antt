@@ -43,5 +43,5 @@ AreOneGroup [] = Unit {0}
 AreOneGroup (l ∷ ls) = AllByRecursion (IsApartPair l) ls × AreOneGroup ls
 
 -- the files of these pairs were read, as far as the folder tells them
-abbrev pub WereLoaded : List Pair → Option Folder → List LoadedFiles → Type 0
-WereLoaded pairs told all = WhenTold told (λ folder. (ls : List Loaded) × ((loaded_pairs folder [] pairs ≡ Ok ls) × AreLoadedPairs all ls))
+abbrev pub LoadsFiles : List Pair → Option Folder → List LoadedFiles → Type 0
+LoadsFiles pairs told all = WhenTold told (λ folder. (ls : List Loaded) × ((loaded_pairs folder [] pairs ≡ Ok ls) × AreLoadedPairs all ls))

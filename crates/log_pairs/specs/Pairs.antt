@@ -95,9 +95,9 @@ abbrev pub replays_of_pairs : Folder → List Pair → Result (List Replaying) C
 replays_of_pairs folder pairs = and_then (loaded_pairs folder [] pairs) (λ ls. and_then (replays_of ls) (λ rs. Ok (sort_replays [] rs)))
 
 -- they are these, as far as the folder tells its files
-abbrev pub WasOpened : List Pair → Option Folder → List Replaying → Type 0
-WasOpened pairs told start = WhenTold told (λ folder. replays_of_pairs folder pairs ≡ Ok start)
+abbrev pub OpensReplays : List Pair → Option Folder → List Replaying → Type 0
+OpensReplays pairs told start = WhenTold told (λ folder. replays_of_pairs folder pairs ≡ Ok start)
 
 -- none could be, for this refusal
-abbrev pub NoneOpened : List Pair → Option Folder → StopCause → Type 0
-NoneOpened pairs told e = WhenTold told (λ folder. StopsAsCause (replays_of_pairs folder pairs) e)
+abbrev pub RefusesPairs : List Pair → Option Folder → StopCause → Type 0
+RefusesPairs pairs told e = WhenTold told (λ folder. StopsAsCause (replays_of_pairs folder pairs) e)

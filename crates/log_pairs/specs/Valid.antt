@@ -22,7 +22,7 @@ heads_in folder [] files = []
 heads_in folder (pair ∷ pairs) files = files.0.log.head ∷ heads_in folder pairs files.1
 
 -- of one group, and of two processes with two names
-pub record GoTogether (h other : Head) : Type 0 where
+pub record AreOfOneGroup (h other : Head) : Type 0 where
   pub count : h.count ≡ other.count
   pub process : h.process ≢ other.process
   pub name : h.name ≢ other.name
@@ -30,4 +30,4 @@ pub record GoTogether (h other : Head) : Type 0 where
 -- the pairs are modules and logs of one group's processes, each of another
 pub record IsGroup (folder : Folder) (pairs : List Pair) : Type 0 where
   pub files : ArePairs folder pairs
-  pub together : AllPairs GoTogether (heads_in folder pairs files)
+  pub together : AllPairs AreOfOneGroup (heads_in folder pairs files)

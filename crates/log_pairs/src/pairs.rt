@@ -7,8 +7,8 @@ ghost use Rattle.proc_replay.specs.AtHead.{IsAtHead};
 ghost use Rattle.group_state.specs.Place.{AreGroupReplays};
 ghost use Rattle.command_run.specs.Call.{CountsFaults, RaisesCount, TellsResult, reads_after, writes_after};
 ghost use Rattle.command_run.specs.Kept.{AreOfFiles};
-ghost use Rattle.log_pairs.specs.Pairs.{Loaded as LoadedOf, NoneOpened, Pair as PairOf, WasOpened, clash_of_logs, has_name, has_process, insert_replay, is_other_group, replay_of_log};
-ghost use Rattle.log_pairs.specs.Meanings.{AreLoadedPairs, AreOneGroup, IsLoadedPair, WereLoaded, pair_of};
+ghost use Rattle.log_pairs.specs.Pairs.{Loaded as LoadedOf, RefusesPairs, Pair as PairOf, OpensReplays, clash_of_logs, has_name, has_process, insert_replay, is_other_group, replay_of_log};
+ghost use Rattle.log_pairs.specs.Meanings.{AreLoadedPairs, AreOneGroup, IsLoadedPair, LoadsFiles, pair_of};
 ghost use Rattle.log_pairs.specs.inside.Loading.{LoadsPair};
 
 use call_log::{LogHead, LogView};
@@ -129,8 +129,8 @@ pub fn load_all<'a, F: Files>(
     pairs: &[Pair<'a>],
     files: &mut F,
 ) -> Result<Vec<Loaded<'a>>, StopCause>
-    ensures answer { MatchResult result (λ all. WereLoaded (map pair_of pairs.now) (F.told files.old) all.items)
-        (NoneOpened (map pair_of pairs.now) (F.told files.old)) }
+    ensures answer { MatchResult result (λ all. LoadsFiles (map pair_of pairs.now) (F.told files.old) all.items)
+        (RefusesPairs (map pair_of pairs.now) (F.told files.old)) }
     ensures loaded { IfOk result (λ all. (ls : List LoadedOf) × AreLoadedPairs all.items ls) }
     ensures apart { IfOk result (λ all. AreOneGroup all.items) }
     ensures same { F.told files.new ≡ F.told files.old }
@@ -198,8 +198,8 @@ pub fn begin_all<'m>(
 ) -> Result<Vec<Replayer<'m, 'm>>, StopCause>
     requires loaded { (ls : List LoadedOf) × AreLoadedPairs all.now ls }
     requires apart { AreOneGroup all.now }
-    ensures answer { (pairs : List PairOf) (told : Option Folder) → WereLoaded pairs told all.now → MatchResult result
-        (λ replays. WasOpened pairs told replays.items) (NoneOpened pairs told) }
+    ensures answer { (pairs : List PairOf) (told : Option Folder) → LoadsFiles pairs told all.now → MatchResult result
+        (λ replays. OpensReplays pairs told replays.items) (RefusesPairs pairs told) }
     ensures replayers { IfOk result (λ replays. AreGroupReplays replays.items) }
     ensures heads { IfOk result (λ replays. All (λ r. IsHead r.head) replays.items) }
     ensures at_heads { IfOk result (λ replays. All IsAtHead replays.items) }

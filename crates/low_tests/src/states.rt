@@ -1,6 +1,6 @@
 // What a process has: its threads and locks, and its signals.
 use coop_threads::{CopyOut, Crew, Grip, SpawnError, Status};
-use signal_points::{Handlers, Pending};
+use guest_signals::{Handlers, Pending};
 use std::alloc::AllocError;
 use std::test::Fail;
 

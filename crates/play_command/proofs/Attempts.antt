@@ -9,7 +9,7 @@ use Rattle.group_record.specs.Live.{ActsAfter, LiveParts, TriesAfter}
 use Rattle.group_record.specs.Run.{Did, GroupStart, Had, RunProgress, after_item, attempt, event_of_try, had_event, name_of_process, unless_log_full, with_full_log, with_step}
 use Rattle.group_record.specs.declared.tried.Tried.{Tried}
 use Rattle.group_record.specs.declared.tried.Tried.TheVariants as tried
-use Rattle.group_texts.specs.Texts.{named_event_text}
+use Rattle.group_text.specs.Texts.{named_event_text}
 use Rattle.play_command.specs.declared.told.Told.{Told}
 use Rattle.play_command.specs.inside.Playing.{WentOn, told_event, told_if}
 use Rattle.play_command.proofs.GoingOn.{none_told}

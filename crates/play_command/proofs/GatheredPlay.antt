@@ -18,7 +18,7 @@ use Rattle.command_run.specs.Call.{RaisesCount, StopsAsCause, reads_after, write
 use Rattle.command_run.specs.Outcome.{CommandStop, CommandWork, and_then, refuses_at_once}
 use Rattle.record_command.specs.Expected.{inputs_in, module_name}
 use Rattle.record_command.specs.ExpectedLaws.{inputs_are}
-use Rattle.record_command.specs.Gathering.{GathersFromFolder, RefusesAs}
+use Rattle.record_command.specs.Gathering.{GathersFromFolder, IsRefusalOf}
 use Rattle.command_run.specs.OutcomeLaws.{stops_before_next}
 use Rattle.play_command.specs.Outcome.{opening_play, play_in, play_of_modules, unless_full_log}
 use Rattle.play_command.specs.Play.{PlayState}
@@ -44,7 +44,7 @@ refused_for : (play : Result PlayState CommandStop) (name : List ℕ) (why : Rea
 refused_for play name why file reason is named told = cc
 
 pub begins_not : (folder : Folder) (name : List ℕ) (schedule : Schedule) (modules : List Module) (error : RecordError) (e : StopCause) → GathersFromFolder folder name schedule modules
-    → OpensPlay schedule modules (first_states schedule modules) (Err error) → RefusesAs name schedule error e → StopsAsCause (play_in name folder) e
+    → OpensPlay schedule modules (first_states schedule modules) (Err error) → IsRefusalOf name schedule error e → StopsAsCause (play_in name folder) e
 begins_not folder name schedule modules (errors.BadSegment p) (refusal.Refused file why) g is refuses =
     refused_for (play_in name folder) _ _ _ _ (begun_of folder name schedule modules g ∙ ap (play_of_modules name schedule) is) refuses.0 refuses.1
 begins_not folder name schedule modules (errors.BadSegment p) refusal.NoMemory g is refuses = tt
@@ -57,7 +57,7 @@ begins_not folder name schedule modules errors.WriteFault e g is refuses = absur
 begins_not folder name schedule modules errors.NoMemory e g is refuses = subst (λ (r : StopCause). StopsAsCause (play_in name folder) r) (sym refuses) tt
 
 -- such a refusal counts nothing
-pub refusal_raises : (name : List ℕ) (schedule : Schedule) (modules : List Module) (begun : Result (List State) ℕ) (error : RecordError) (e : StopCause) (old new : Counts) → OpensPlay schedule modules begun (Err error) → RefusesAs name schedule error e
+pub refusal_raises : (name : List ℕ) (schedule : Schedule) (modules : List Module) (begun : Result (List State) ℕ) (error : RecordError) (e : StopCause) (old new : Counts) → OpensPlay schedule modules begun (Err error) → IsRefusalOf name schedule error e
     → RaisesCount old new e
 refusal_raises name schedule modules begun (errors.BadSegment p) (refusal.Refused file why) old new opens refuses = λ large. let is = refuses.1 in cc
 refusal_raises name schedule modules begun (errors.BadSegment p) refusal.NoMemory old new opens refuses = tt
@@ -68,7 +68,7 @@ refusal_raises name schedule modules begun (errors.LogFull item) other old new o
 refusal_raises name schedule modules begun errors.WriteFault e old new opens refuses = absurd opens
 refusal_raises name schedule modules begun errors.NoMemory e old new opens refuses = subst (λ (r : StopCause). RaisesCount old new r) (sym refuses) tt
 
-pub refusal_still : (name : List ℕ) (schedule : Schedule) (modules : List Module) (begun : Result (List State) ℕ) (error : RecordError) (e : StopCause) → OpensPlay schedule modules begun (Err error) → RefusesAs name schedule error e
+pub refusal_still : (name : List ℕ) (schedule : Schedule) (modules : List Module) (begun : Result (List State) ℕ) (error : RecordError) (e : StopCause) → OpensPlay schedule modules begun (Err error) → IsRefusalOf name schedule error e
     → (n : ℕ) → (reads_after {T = ⊤} n (Err e) ≡ n) × (writes_after {T = ⊤} n (Err e) ≡ n)
 refusal_still name schedule modules begun (errors.BadSegment p) (refusal.Refused file why) opens refuses n = (refl, refl)
 refusal_still name schedule modules begun (errors.BadSegment p) refusal.NoMemory opens refuses n = (refl, refl)

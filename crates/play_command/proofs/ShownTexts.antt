@@ -16,7 +16,7 @@ use Rattle.group_record.specs.Live.{IsLiveAfter, LiveParts, LiveStates, TellsKil
 use Rattle.group_record.specs.Run.{GroupStart, RunStep, history_of_steps, name_of_process, process_after}
 use Rattle.group_record.specs.declared.summary.SummaryLine.{SummaryLine}
 use Rattle.group_state.specs.Nodes.{seen_node}
-use Rattle.group_texts.specs.Texts.{process_lines}
+use Rattle.group_text.specs.Texts.{process_lines}
 use Rattle.record_command.specs.Record.{process_line}
 use Rattle.expression_text.specs.Expression.{Expression}
 use Rattle.watch_expr.specs.Reads.{no_variables}

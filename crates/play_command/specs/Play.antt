@@ -19,8 +19,8 @@ use Rattle.watch_expr.specs.Reads.{no_variables}
 use Rattle.watch_expr.specs.Value.{value}
 use Rattle.watch_expr.specs.View.{Node, bytes_of_node}
 use Rattle.group_state.specs.Nodes.{seen_node}
-use Rattle.group_texts.specs.Texts.{named_event_text, process_lines}
-use Rattle.embed_cmds.specs.Running.{value_word}
+use Rattle.group_text.specs.Texts.{named_event_text, process_lines}
+use Rattle.point_programs.specs.Running.{value_word}
 use Rattle.conversation.specs.Talker.{Answered}
 use Rattle.play_lines.specs.Lines.{Again, Datagram, Mem, PlayCommand, Print, Printed, Processes, Quit, Threads}
 use Rattle.play_lines.specs.Meaning.{Does, PlayMeaning, Plays, Refuses, Silent, play_meaning}

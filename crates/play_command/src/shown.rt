@@ -2,7 +2,7 @@
 ghost use Rattle.std.specs.Prelude.{◌≡◌, ◌<◌, ◌++◌, IfOk, codes, drop, if◌then◌else◌, option_map};
 ghost use Rattle.lossy_net.specs.Network.{kept_sent};
 ghost use Rattle.group_record.specs.Live.{live_count};
-ghost use Rattle.group_texts.specs.Texts.{process_lines};
+ghost use Rattle.group_text.specs.Texts.{process_lines};
 ghost use Rattle.expression_text.specs.Expression.{expression_of};
 ghost use Rattle.play_lines.specs.Lines.{Datagram, Mem, Print, Printed, Processes, Threads};
 ghost use Rattle.play_command.specs.Play.{bytes_line, datagram_line};
@@ -10,14 +10,14 @@ ghost use Rattle.play_command.specs.inside.Playing.{IsUnderWay};
 ghost use Rattle.play_command.specs.inside.Shown.{Shows, SumsUp, node_within};
 
 use crate::seen::SeenGroup;
-use embed_cmds::push_value;
 use fri_bytes::Bytes;
 use fri_text::Text;
 use group_record::{LiveGroup, SummaryLine};
-use group_texts::push_process_named;
+use group_text::push_process_named;
 use group_world::SentBytes;
 use guest_process::Process;
 use lib_calls::memory_part;
+use point_programs::push_value;
 use record_command::push_process_line;
 use std::alloc::{AllocError, Global};
 use watch_expr::{Expr, NoVariables, eval};

@@ -4,7 +4,7 @@ ghost use Rattle.lib_calls.specs.Entry.{entry_of};
 ghost use Rattle.play_command.specs.inside.Playing.{told_event};
 
 use fri_text::Text;
-use group_texts::push_event_of;
+use group_text::push_event_of;
 use lib_calls::EntryView;
 use std::alloc::{AllocError, Global};
 

@@ -3,7 +3,7 @@ use Rattle.std.proofs.Common.{◌≡◌, ◌⊎◌, inl, inr, ℕ, suc, ◌+◌,
 use Rattle.lib_calls.specs.declared.entry.Entry.{Entry}
 use Rattle.call_log.specs.Limits.{least_entry}
 use Rattle.call_log.specs.Log.{Unread, entry_at, entries_of, rest_of_log}
-use Rattle.call_log.specs.Walk.{IsEndOfLog, EntryLeads}
+use Rattle.call_log.specs.Walk.{IsEndOfLog, EntryStep}
 use Rattle.guest_process.specs.declared.divergence.Divergence.{Divergence}
 use Rattle.guest_process.specs.EventCount.{CountsEvents}
 use Rattle.guest_process.specs.Legal.{reason}
@@ -31,7 +31,7 @@ pub record Stands (r : Replaying) : Type 0 where
   pub stays : after_replay_turn r ≡ r
   pub tells : TellsVerdict (turn r) r.left.bytes (outcome_of_replay r).verdict
 
-pub cases : EntryLeads → IsEndOfLog → (r : Replaying) → Goes r ⊎ Stands r
+pub cases : EntryStep → IsEndOfLog → (r : Replaying) → Goes r ⊎ Stands r
 cases step end r = by_entry (entry_at r.left) refl
   where
     by_reason : (e : Entry) (behind : Unread) → entry_at r.left ≡ Some (e, behind) → (o : Option Divergence) → reason r.state e ≡ o → Goes r ⊎ Stands r

@@ -5,7 +5,7 @@ use Rattle.std.proofs.lemmas.Option.{same_Some}
 use Rattle.lib_calls.specs.declared.entry.Entry.{Entry}
 use Rattle.call_log.specs.Limits.{least_entry}
 use Rattle.call_log.specs.Log.{entries_of, rest_of_log}
-use Rattle.call_log.specs.Walk.{IsEndOfLog, EntryLeads}
+use Rattle.call_log.specs.Walk.{IsEndOfLog, EntryStep}
 use Rattle.guest_process.specs.EventCount.{CountsEvents}
 use Rattle.guest_process.specs.declared.verdict.Verdict.{Verdict}
 use Rattle.guest_process.specs.Replay.{accepted, reach_of_entries, state_after, verdict, verdict_of}
@@ -51,7 +51,7 @@ fresh_verdict S es rest fresh =
 pub same_entry : (e f : Entry) → Makes e ≡ Makes f → e ≡ f
 same_entry e f same = cc
 
-module _ (step : EntryLeads) (end : IsEndOfLog) (counted : CountsEvents) where
+module _ (step : EntryStep) (end : IsEndOfLog) (counted : CountsEvents) where
   states : (n : ℕ) (r : Replaying) → n ≤ left_to_make r → (after_turns r n).state ≡ state_after r.state (entries_of r.left) n
   states zero r few = refl
   states (suc n) r few = elim (cases step end r) [

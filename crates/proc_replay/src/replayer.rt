@@ -2,7 +2,7 @@
 ghost use Rattle.std.specs.Prelude.{◌≡◌, ◌*◌, ◌<◌, ◌^◌, IfOk, length};
 ghost use Rattle.call_log.specs.Head.{head_of};
 ghost use Rattle.call_log.specs.Limits.{least_entry};
-ghost use Rattle.proc_replay.specs.inside.Ahead.{IsAhead, IsRoomy, replaying};
+ghost use Rattle.proc_replay.specs.inside.Ahead.{IsLookahead, FitsEventCount, replaying};
 ghost use Rattle.proc_replay.specs.Replaying.{after_replay_turn, turn};
 ghost use Rattle.proc_replay.specs.Meanings.{move_of};
 
@@ -142,9 +142,9 @@ impl<'m, 'a> Replayer<'m, 'a> {
 impl<'a> Ahead<'a> {
     // Goes on after the entry that comes next, whose event led to this process.
     fn go_on(&mut self, process: &Process<'_>)
-        requires { IsRoomy process.now self.old.following }
+        requires { FitsEventCount process.now self.old.following }
         ensures log { self.new.log ≡ self.old.following }
-        ensures ahead { IsAhead (replaying process.now self.old.following) self.new.turn self.new.following }
+        ensures ahead { IsLookahead (replaying process.now self.old.following) self.new.turn self.new.following }
     {
         self.log = self.following.copy();
         self.look(process);
@@ -152,9 +152,9 @@ impl<'a> Ahead<'a> {
 
     // Reads the entry that stands next, and judges it. The turn is written where it is kept, and not moved there.
     fn look(&mut self, process: &Process<'_>)
-        requires { IsRoomy process.now self.old.following }
+        requires { FitsEventCount process.now self.old.following }
         ensures log { self.new.log ≡ self.old.log }
-        ensures ahead { IsAhead (replaying process.now self.old.following) self.new.turn self.new.following }
+        ensures ahead { IsLookahead (replaying process.now self.old.following) self.new.turn self.new.following }
     {
         let Some(entry) = self.following.next_entry() else {
             self.turn = Turn::LogEnd;

@@ -25,7 +25,7 @@ use Rattle.command_run.specs.Call.{MakesWorkFiles, TellsOutcome}
 use Rattle.record_command.specs.Expected.{group_outcome}
 use Rattle.command_run.specs.Outcome.{Refuses, no_work_done, writes_of}
 use Rattle.record_command.specs.Record.{outcome_by_room, recorded_work, run_outcome, summary_text, written_before}
-use Rattle.record_command.specs.Gathering.{RefusesAs}
+use Rattle.record_command.specs.Gathering.{IsRefusalOf}
 use Rattle.record_command.proofs.FileFronts.{all_made}
 use Rattle.command_run.specs.FileLaws.{same_changes}
 use Rattle.record_command.proofs.GroupModules.{fails_within}
@@ -104,7 +104,7 @@ full_tells images name schedule states item file before after (first, is, full) 
       refl,
     )
 
-pub error_tells : (images : Bool) (name : List ℕ) (schedule : Schedule) (states : Result (List State) ℕ) (error : RecordError) (e : StopCause) (before after : Option Folder) → RecordAnswers schedule images states (Err error) (change before after) → RefusesAs name schedule error e
+pub error_tells : (images : Bool) (name : List ℕ) (schedule : Schedule) (states : Result (List State) ℕ) (error : RecordError) (e : StopCause) (before after : Option Folder) → RecordAnswers schedule images states (Err error) (change before after) → IsRefusalOf name schedule error e
     → TellsOutcome (group_outcome images name schedule states) (Err e)
 error_tells images name schedule states (errors.BadSegment p) (refusal.Refused file why) before after answers (named, is) =
     (no_work_done, rw (named, is) (ap (group_outcome images name schedule) answers.0), refl)
@@ -130,7 +130,7 @@ full_makes images name schedule states item before after (first, is, full) =
     full.files ∙ ap (λ (files : List (List ℕ × List ℕ)). with_files files before)
     (full_writes images (group_of schedule first) (run_of schedule first) item full.full ∙ writes_at images name schedule states first is)
 
-pub error_makes : KeepsFiles → (images : Bool) (name : List ℕ) (schedule : Schedule) (states : Result (List State) ℕ) (error : RecordError) (e : StopCause) (before after : Option Folder) → RecordAnswers schedule images states (Err error) (change before after) → RefusesAs name schedule error e
+pub error_makes : KeepsFiles → (images : Bool) (name : List ℕ) (schedule : Schedule) (states : Result (List State) ℕ) (error : RecordError) (e : StopCause) (before after : Option Folder) → RecordAnswers schedule images states (Err error) (change before after) → IsRefusalOf name schedule error e
     → MakesWorkFiles (Err e) (writes_of (group_outcome images name schedule states)) before after
 error_makes keeps images name schedule states (errors.BadSegment p) (refusal.Refused file why) before after answers named =
     answers.1 ∙ ap (λ (files : List (List ℕ × List ℕ)). with_files files before) (sym (ap writes_of (ap (group_outcome images name schedule) answers.0)))

@@ -11,7 +11,7 @@ use Rattle.group_record.specs.Files.{IsStoppedRecording, InHeads, Between, InEnt
 use Rattle.group_record.specs.Images.{images_of}
 use Rattle.group_record.specs.Logs.{log_name, logs_of_steps}
 use Rattle.group_record.specs.Run.{GroupStart, Had, IsMoment, RunStep, entry_bytes, log_of, name_of_process, processes_in_group}
-use Rattle.record_command.specs.Agreement.{IsAtMomentOfRun, IsStoppedInHeads, MayFollowLog, Front, Nothing, group_in, run_in, steps_in}
+use Rattle.record_command.specs.Agreement.{IsAtMomentOfRun, IsStoppedInHeads, IsPartialEntry, Front, Nothing, group_in, run_in, steps_in}
 use Rattle.record_command.specs.Laws.{RecordingsStand}
 use Rattle.record_command.proofs.FolderRecordings.{schedule_formed}
 use Rattle.record_command.proofs.StoppedFiles.{files_stand, images_are_no_logs, log_at, logs_apart, logs_stand, first_fronts}
@@ -69,14 +69,14 @@ uncut group all steps after moment stand = record {
 }
 
 follows_entry : (group : GroupStart) (all later early : List RunStep) (p n : ℕ) (e : Event) → all ≡ later ++ (Had p e ∷ early) → n < length (entry_bytes group early p e)
-    → (q : ℕ) → MayFollowLog group all early q (piece_at p (take n (entry_bytes group early p e)) q)
+    → (q : ℕ) → IsPartialEntry group all early q (piece_at p (take n (entry_bytes group early p e)) q)
 follows_entry group all later early p n e split short q = by_place (here_or_nothing p piece q) where
   piece : List ℕ
   piece = take n (entry_bytes group early p e)
 
-  by_place : ((p ≡ q) × (piece_at p piece q ≡ piece)) ⊎ (piece_at p piece q ≡ []) → MayFollowLog group all early q (piece_at p piece q)
+  by_place : ((p ≡ q) × (piece_at p piece q ≡ piece)) ⊎ (piece_at p piece q ≡ []) → IsPartialEntry group all early q (piece_at p piece q)
   by_place (inr nothing) = Nothing nothing
-  by_place (inl here) = subst (λ (cut : List ℕ). MayFollowLog group all early q cut) (sym here.1) (subst (λ (q : ℕ). MayFollowLog group all early q piece) here.0 (Front later early e n split refl short refl))
+  by_place (inl here) = subst (λ (cut : List ℕ). IsPartialEntry group all early q cut) (sym here.1) (subst (λ (q : ℕ). IsPartialEntry group all early q piece) here.0 (Front later early e n split refl short refl))
 
 pub recordings_stand_so : KeepsFiles → GivesSchedules → RecordingsStand
 recordings_stand_so keeps gives images name before after r stopped = by_case stopped where

@@ -41,14 +41,14 @@ LeavesLogs group steps after = (p : ℕ) → p < processes_in_group group → ge
 
 -- what may be after the log of process p at a moment of a run with all these steps: nothing, or a first part of the
 -- entry of the process's next event, and not all of it
-pub data MayFollowLog (group : GroupStart) (all steps : List RunStep) (p : ℕ) (cut : List ℕ) : Type 0 where
-  Nothing : cut ≡ [] → MayFollowLog group all steps p cut
+pub data IsPartialEntry (group : GroupStart) (all steps : List RunStep) (p : ℕ) (cut : List ℕ) : Type 0 where
+  Nothing : cut ≡ [] → IsPartialEntry group all steps p cut
   Front : (later early : List RunStep) → (e : Event) → (n : ℕ) → all ≡ later ++ (Had p e ∷ early) → entries_of_steps early p ≡ entries_of_steps steps p
-      → n < length (entry_bytes group early p e) → cut ≡ take n (entry_bytes group early p e) → MayFollowLog group all steps p cut
+      → n < length (entry_bytes group early p e) → cut ≡ take n (entry_bytes group early p e) → IsPartialEntry group all steps p cut
 
 -- each process has its log afterwards, with this much of one more entry after it
-abbrev pub LeavesCut : GroupStart → List RunStep → (ℕ → List ℕ) → Folder → Type 0
-LeavesCut group steps cut after = (p : ℕ) → p < processes_in_group group → get after (log_name (name_of_process group p)) ≡ Some (log_of group steps p ++ cut p)
+abbrev pub LeavesTruncatedLogs : GroupStart → List RunStep → (ℕ → List ℕ) → Folder → Type 0
+LeavesTruncatedLogs group steps cut after = (p : ℕ) → p < processes_in_group group → get after (log_name (name_of_process group p)) ≡ Some (log_of group steps p ++ cut p)
 
 -- not all logs are there, or not with their whole heads
 abbrev pub IsStoppedInHeads : GroupStart → Folder → Folder → Type 0
@@ -59,8 +59,8 @@ pub record IsAtMomentOfRun (group : GroupStart) (all : List RunStep) (after : Fo
   pub steps : List RunStep
   pub is_moment : IsMoment steps all
   pub cut : ℕ → List ℕ
-  pub may_follow : (p : ℕ) → p < processes_in_group group → MayFollowLog group all steps p (cut p)
-  pub logs : LeavesCut group steps cut after
+  pub may_follow : (p : ℕ) → p < processes_in_group group → IsPartialEntry group all steps p (cut p)
+  pub logs : LeavesTruncatedLogs group steps cut after
 
 -- at each moment of the run the logs tell its events, also the log after which a part of the next entry stands. Each
 -- datagram that was taken came first in the mailbox, and from outside or by a send that an item delivered; what waits

@@ -25,8 +25,8 @@ GathersInputs folder schedule_name result = MatchResult result
 
 -- the outcome of a recording that was not done: the refusal of a module or of the schedule, a fault, or want of
 -- memory, which may also come in the place of a refusal
-abbrev pub RefusesAs : List ℕ → Schedule → RecordError → StopCause → Type 0
-RefusesAs schedule_name schedule (errors.BadSegment p) e = RefusesFile (module_name schedule p) reason.BadSegment e
-RefusesAs schedule_name schedule (errors.LogFull item) e = RefusesFile schedule_name (reason.LogFull item) e
-RefusesAs schedule_name schedule errors.WriteFault e = e ≡ refusal.WriteFault
-RefusesAs schedule_name schedule errors.NoMemory e = e ≡ refusal.NoMemory
+abbrev pub IsRefusalOf : List ℕ → Schedule → RecordError → StopCause → Type 0
+IsRefusalOf schedule_name schedule (errors.BadSegment p) e = RefusesFile (module_name schedule p) reason.BadSegment e
+IsRefusalOf schedule_name schedule (errors.LogFull item) e = RefusesFile schedule_name (reason.LogFull item) e
+IsRefusalOf schedule_name schedule errors.WriteFault e = e ≡ refusal.WriteFault
+IsRefusalOf schedule_name schedule errors.NoMemory e = e ≡ refusal.NoMemory

@@ -26,8 +26,8 @@ RecordingsLeaveLogs = (images : Bool) (schedule_name : List ℕ) (before after :
     → Some after ≡ with_files (writes_of (record_outcome images schedule_name before)) (Some before) → LeavesLogs (group_in r) (steps_in r) after
 
 -- before anything is made a folder stands as at a moment of the run
-abbrev pub RecordingsRest : Type 0
-RecordingsRest = (images : Bool) (schedule_name : List ℕ) (folder : Folder) → LeavesMoment images schedule_name folder (Some folder)
+abbrev pub UntouchedFolderIsMoment : Type 0
+UntouchedFolderIsMoment = (images : Bool) (schedule_name : List ℕ) (folder : Folder) → LeavesMoment images schedule_name folder (Some folder)
 
 -- wherever a recording was stopped after its heads, its logs are those of a moment of its run
 abbrev pub RecordingsStand : Type 0

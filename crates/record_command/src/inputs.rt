@@ -7,7 +7,7 @@ ghost use Rattle.command_run.specs.Call.{CountsFaults, RaisesCount, RefusesFile,
 ghost use Rattle.command_run.specs.Inputs.{module_in};
 ghost use Rattle.command_run.specs.Kept.{AreOfFiles};
 ghost use Rattle.record_command.specs.Expected.{module_name, modules_of, schedule_in};
-ghost use Rattle.record_command.specs.Gathering.{GathersInputs, RefusesAs};
+ghost use Rattle.record_command.specs.Gathering.{GathersInputs, IsRefusalOf};
 
 use command_run::{ModuleFiles, Reason, StopCause, take_file};
 use fri_outside::Files;
@@ -99,7 +99,7 @@ pub fn refusal_of(
     error: RecordError,
 ) -> StopCause
     requires { (p : ℕ) → error ≡ RecordError.BadSegment p → p < length schedule.now.processes }
-    ensures { RefusesAs schedule_file.now schedule.now error result }
+    ensures { IsRefusalOf schedule_file.now schedule.now error result }
 {
     match error {
         RecordError::BadSegment(p) => refuse_module(alloc, schedule, p),

@@ -1,5 +1,5 @@
 // What is so of all recordings, as calls that do nothing.
-ghost use Rattle.record_command.specs.Laws.{RecordingsAgree, RecordingsLeaveLogs, RecordingsRest, RecordingsStand, RecordingsWork};
+ghost use Rattle.record_command.specs.Laws.{RecordingsAgree, RecordingsLeaveLogs, UntouchedFolderIsMoment, RecordingsStand, RecordingsWork};
 
 /// The logs of a recording tell its events at each moment, also where the next entry comes after one in part. Each
 /// datagram that was taken came from outside or is one that was sent; what waits is taken, and nothing twice.
@@ -32,7 +32,7 @@ pub fn recordings_work()
 
 /// Before anything is made, a folder stands as at a moment of the run.
 pub fn recordings_rest()
-    ensures { RecordingsRest }
+    ensures { UntouchedFolderIsMoment }
 {}
 
 /// Wherever a recording was stopped after its heads, the logs are those of a moment of its run, with at most a first part of

@@ -17,7 +17,7 @@ use Rattle.replay_command.specs.Report.{replay_outcome, some_log_diverges, image
 use Rattle.command_run.specs.Apart.{apart_work, unless_over_input}
 use Rattle.command_run.specs.ApartLaws.{apart_works, clash_stops}
 use Rattle.command_run.specs.Outcome.{CommandOutcome, CommandStop, and_then, writes_of}
-use Rattle.log_pairs.specs.Pairs.{NoneOpened, Pair, WasOpened, names_of_pairs, replays_of_pairs}
+use Rattle.log_pairs.specs.Pairs.{RefusesPairs, Pair, OpensReplays, names_of_pairs, replays_of_pairs}
 use Rattle.replay_command.specs.inside.Ending.{PrintsAtEnd}
 use Rattle.command_run.specs.OutcomeLaws.{outcome_when_told, stops_before_next}
 
@@ -27,12 +27,12 @@ made_of images start = map (λ file. file.0) (images_if images start)
 
 -- ---- the files were refused
 
-pub opening_stops : (images : Bool) (pairs : List Pair) (told : Option Folder) (e : StopCause) → NoneOpened pairs told e → WhenTold told (λ folder. StopsAsCause (replay_outcome images pairs folder) e)
+pub opening_stops : (images : Bool) (pairs : List Pair) (told : Option Folder) (e : StopCause) → RefusesPairs pairs told e → WhenTold told (λ folder. StopsAsCause (replay_outcome images pairs folder) e)
 opening_stops images pairs told e stops folder is = stops_before_next (replays_of_pairs folder pairs) _ e (stops folder is)
 
 -- ---- the replays began
 
-module _ (images : Bool) (pairs : List Pair) (told : Option Folder) (start : List Replaying) (opens : WasOpened pairs told start) where
+module _ (images : Bool) (pairs : List Pair) (told : Option Folder) (start : List Replaying) (opens : OpensReplays pairs told start) where
   begun : (folder : Folder) → told ≡ Some folder → replay_outcome images pairs folder ≡ apart_work (names_of_pairs pairs) (replay_work images start)
   begun folder is = ap (λ (r : Result (List Replaying) CommandStop). and_then r (λ start. apart_work (names_of_pairs pairs) (replay_work images start))) (opens folder is)
 
@@ -45,10 +45,10 @@ module _ (images : Bool) (pairs : List Pair) (told : Option Folder) (start : Lis
 
 -- the replays began, and no file that was read would be made
 pub record CanWork (images : Bool) (pairs : List Pair) (told : Option Folder) (start : List Replaying) : Type 0 where
-  pub opens : WasOpened pairs told start
+  pub opens : OpensReplays pairs told start
   pub kept : unless_over_input (names_of_pairs pairs) (made_of images start) ≡ Ok tt
 
-pub can_work : (images : Bool) (pairs : List Pair) (told : Option Folder) (slice start : List Replaying) → slice ≡ start → WasOpened pairs told start → unless_over_input (names_of_pairs pairs) (made_of images slice) ≡ Ok tt → CanWork images pairs told start
+pub can_work : (images : Bool) (pairs : List Pair) (told : Option Folder) (slice start : List Replaying) → slice ≡ start → OpensReplays pairs told start → unless_over_input (names_of_pairs pairs) (made_of images slice) ≡ Ok tt → CanWork images pairs told start
 can_work images pairs told slice start same opens kept = record { opens = opens; kept = ap (λ (rs : List Replaying). unless_over_input (names_of_pairs pairs) (made_of images rs)) (sym same) ∙ kept }
 
 pub opened_works : (images : Bool) (pairs : List Pair) (told : Option Folder) (start : List Replaying) → CanWork images pairs told start

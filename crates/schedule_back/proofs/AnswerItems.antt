@@ -10,7 +10,7 @@ use Rattle.lib_calls.specs.Answer.{answer_of}
 use Rattle.lib_calls.specs.Effects.{minus_one, minus_two}
 use Rattle.lib_calls.specs.Traffic.{drawn, draws_as, is_taken, takes_as}
 use Rattle.guest_process.specs.Live.{Env}
-use Rattle.guest_process.specs.OneEvent.{WorldBrings, IsThereToTake, StandsFirst, HoldsUnless, datagram_as}
+use Rattle.guest_process.specs.OneEvent.{WorldBrings, MailboxMatchesAnswer, IsHeadOfMailbox, Unless, datagram_as}
 use Rattle.schedule_text.specs.declared.item.Item.{Item}
 use Rattle.schedule_text.specs.declared.item.Item.TheVariants as item
 use Rattle.group_world.specs.History.{Clock, Inject, Random, Signal}
@@ -78,13 +78,13 @@ module _ (group : GroupStart) (count : ℕ) (steps : List RunStep) (p : ℕ) (e 
     by_test : (bad : Bool) → (e.reply == minus_one) ≡ bad → IsPrepared group count steps p e (cond bad [] (item.Random p e.incoming ∷ []))
     by_test true bad =
         prepared_nothing (taken_by e RandomCall is) (drawn_by e RandomCall is ∙ ap (λ b. cond b 0 (length e.incoming)) bad)
-        (λ env box. by_kind RandomCall is env (subst (λ b. HoldsUnless b (take (length e.incoming) env.pool ≡ e.incoming)) (sym bad) tt))
+        (λ env box. by_kind RandomCall is env (subst (λ b. Unless b (take (length e.incoming) env.pool ≡ e.incoming)) (sym bad) tt))
     by_test false good = record {
       after = Did (Random p e.incoming) ∷ steps;
       comes = record { moves = λ rest n. (suc n, refl); states = λ q. refl; logs = λ q. refl };
       given = given_bytes count (history_of_steps steps) p e e.incoming quiet (taken_by e RandomCall is)
           (drawn_by e RandomCall is ∙ ap (λ b. cond b 0 (length e.incoming)) good)
-          (λ env pool. by_kind RandomCall is env (subst (λ b. HoldsUnless b (take (length e.incoming) env.pool ≡ e.incoming)) (sym good) (ap (take (length e.incoming)) pool ∙ whole e.incoming)));
+          (λ env pool. by_kind RandomCall is env (subst (λ b. Unless b (take (length e.incoming) env.pool ≡ e.incoming)) (sym good) (ap (take (length e.incoming)) pool ∙ whole e.incoming)));
     } where
       whole : (xs : List ℕ) → take (length xs) xs ≡ xs
       whole [] = refl
@@ -105,33 +105,33 @@ module _ (group : GroupStart) (count : ℕ) (steps : List RunStep) (p : ℕ) (e 
     }
     by_test false taken = prepared_nothing taken (drawn_by e k is ∙ drew) (λ env box. by_kind k is env (none (sym (taken_by e k is) ∙ taken) env box))
 
-  recv_none : not (e.reply == minus_one) ≡ false → (env : Env) → HoldsUnless (e.reply == minus_one) (StandsFirst (answer_of e) env.mailbox)
+  recv_none : not (e.reply == minus_one) ≡ false → (env : Env) → Unless (e.reply == minus_one) (IsHeadOfMailbox (answer_of e) env.mailbox)
   recv_none none env = by_test (e.reply == minus_one) none where
-    by_test : (b : Bool) → not b ≡ false → HoldsUnless b (StandsFirst (answer_of e) env.mailbox)
+    by_test : (b : Bool) → not b ≡ false → Unless b (IsHeadOfMailbox (answer_of e) env.mailbox)
     by_test true none = tt
     by_test false none = cc
 
-  first : (env : Env) → env.mailbox ≡ datagram_as e.tag e.incoming ∷ [] → StandsFirst (answer_of e) env.mailbox
+  first : (env : Env) → env.mailbox ≡ datagram_as e.tag e.incoming ∷ [] → IsHeadOfMailbox (answer_of e) env.mailbox
   first env box = ([], box)
 
-  recv_some : (env : Env) → env.mailbox ≡ datagram_as e.tag e.incoming ∷ [] → HoldsUnless (e.reply == minus_one) (StandsFirst (answer_of e) env.mailbox)
+  recv_some : (env : Env) → env.mailbox ≡ datagram_as e.tag e.incoming ∷ [] → Unless (e.reply == minus_one) (IsHeadOfMailbox (answer_of e) env.mailbox)
   recv_some env box = by_test (e.reply == minus_one) where
-    by_test : (b : Bool) → HoldsUnless b (StandsFirst (answer_of e) env.mailbox)
+    by_test : (b : Bool) → Unless b (IsHeadOfMailbox (answer_of e) env.mailbox)
     by_test true = tt
     by_test false = first env box
 
   try_none : (not (e.reply == minus_one) && not (e.reply == minus_two)) ≡ false → (env : Env) → env.mailbox ≡ []
-      → HoldsUnless (e.reply == minus_one) (IsThereToTake (e.reply == minus_two) (answer_of e) env.mailbox)
+      → Unless (e.reply == minus_one) (MailboxMatchesAnswer (e.reply == minus_two) (answer_of e) env.mailbox)
   try_none none env box = by_test (e.reply == minus_one) (e.reply == minus_two) none where
-    by_test : (a b : Bool) → (not a && not b) ≡ false → HoldsUnless a (IsThereToTake b (answer_of e) env.mailbox)
+    by_test : (a b : Bool) → (not a && not b) ≡ false → Unless a (MailboxMatchesAnswer b (answer_of e) env.mailbox)
     by_test true b none = tt
     by_test false true none = box
     by_test false false none = cc
 
   try_some : (not (e.reply == minus_one) && not (e.reply == minus_two)) ≡ true → (env : Env) → env.mailbox ≡ datagram_as e.tag e.incoming ∷ []
-      → HoldsUnless (e.reply == minus_one) (IsThereToTake (e.reply == minus_two) (answer_of e) env.mailbox)
+      → Unless (e.reply == minus_one) (MailboxMatchesAnswer (e.reply == minus_two) (answer_of e) env.mailbox)
   try_some some env box = by_test (e.reply == minus_one) (e.reply == minus_two) some where
-    by_test : (a b : Bool) → (not a && not b) ≡ true → HoldsUnless a (IsThereToTake b (answer_of e) env.mailbox)
+    by_test : (a b : Bool) → (not a && not b) ≡ true → Unless a (MailboxMatchesAnswer b (answer_of e) env.mailbox)
     by_test true b some = tt
     by_test false true some = cc
     by_test false false some = first env box

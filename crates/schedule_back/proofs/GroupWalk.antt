@@ -13,7 +13,7 @@ use Rattle.group_state.specs.declared.event.GroupEvent.{GroupEvent}
 use Rattle.group_state.specs.Moves.{GroupMoves, event_of}
 use Rattle.group_state.specs.Place.{GroupPlace, events_of_replays}
 use Rattle.schedule_text.specs.declared.process.ProcessLine.{ProcessLine}
-use Rattle.schedule_back.specs.Meanings.{BringBytes}
+use Rattle.schedule_back.specs.Meanings.{IncomingAreBytes}
 use Rattle.schedule_back.specs.inside.Draft.{IsDraft}
 use Rattle.schedule_back.proofs.NodeFronts.{take_more}
 
@@ -31,7 +31,7 @@ all_push P (y ∷ xs) x all one = (all.0, all_push P xs x all.1 one)
 abbrev Brings : NodeEvent Entry → Type 0
 Brings e = AreBytes e.entry.incoming
 
-bytes_more : (es : List (NodeEvent Entry)) (e : NodeEvent Entry) → BringBytes es → AreBytes e.entry.incoming → BringBytes (es ++ e ∷ [])
+bytes_more : (es : List (NodeEvent Entry)) (e : NodeEvent Entry) → IncomingAreBytes es → AreBytes e.entry.incoming → IncomingAreBytes (es ++ e ∷ [])
 bytes_more es e all one = All-from_recursion Brings (es ++ e ∷ []) (all_push Brings es e (recursion_from_All Brings es all) one)
 
 -- ---- the walk
@@ -41,9 +41,9 @@ pub record WalkedTo (first here : GroupPlace) (begun longer : Option (List ℕ))
   pub start : here.start ≡ first.start
   pub within : here.at ≤ length (events_of_replays first.start)
   pub draft : (lines : List ProcessLine) → IsDraft lines [] begun → IsDraft lines (take here.at (events_of_replays first.start)) longer
-  pub bytes : BringBytes (take here.at (events_of_replays first.start))
+  pub bytes : IncomingAreBytes (take here.at (events_of_replays first.start))
 
-no_bytes : BringBytes []
+no_bytes : IncomingAreBytes []
 no_bytes k d below = absurd (omega (arith, below))
 
 pub none_walked : (first : GroupPlace) (begun : Option (List ℕ)) → first.at ≡ 0 → WalkedTo first first begun begun
@@ -53,7 +53,7 @@ none_walked first begun none =
       start = refl;
       within = omega (arith, none);
       draft = λ lines is. subst (λ (es : List (NodeEvent Entry)). IsDraft lines es begun) (sym same) is;
-      bytes = subst BringBytes (sym same) no_bytes;
+      bytes = subst IncomingAreBytes (sym same) no_bytes;
     }
 
 -- at one position more
@@ -73,7 +73,7 @@ one_walked first old new event begun longer next so_far moves adds are =
         within = omega (arith, below, at);
         draft = λ lines is.
             subst (λ (es : List (NodeEvent Entry)). IsDraft lines es next) more (adds lines (take old.at (events_of_replays first.start)) (so_far.draft lines is));
-        bytes = subst BringBytes more (bytes_more (take old.at (events_of_replays first.start)) (event_of event) so_far.bytes are);
+        bytes = subst IncomingAreBytes more (bytes_more (take old.at (events_of_replays first.start)) (event_of event) so_far.bytes are);
       },
       below,
       at,
@@ -84,7 +84,7 @@ pub record WalkedAll (first here : GroupPlace) (begun longer : Option (List ℕ)
   pub start : here.start ≡ first.start
   pub end : here.at ≡ length (events_of_replays first.start)
   pub draft : (lines : List ProcessLine) → IsDraft lines [] begun → IsDraft lines (events_of_replays first.start) longer
-  pub bytes : BringBytes (events_of_replays first.start)
+  pub bytes : IncomingAreBytes (events_of_replays first.start)
 
 -- there is no event more
 pub all_walked : (first old new : GroupPlace) (begun longer : Option (List ℕ)) → WalkedTo first old begun longer → GroupMoves old new None → WalkedAll first new begun longer
@@ -98,5 +98,5 @@ all_walked first old new begun longer so_far moves =
       start = ap (λ (p : GroupPlace). p.start) moves.place ∙ so_far.start;
       end = ap (λ (p : GroupPlace). p.at) moves.place ∙ end;
       draft = λ lines is. subst (λ (es : List (NodeEvent Entry)). IsDraft lines es longer) whole (so_far.draft lines is);
-      bytes = subst BringBytes whole so_far.bytes;
+      bytes = subst IncomingAreBytes whole so_far.bytes;
     }

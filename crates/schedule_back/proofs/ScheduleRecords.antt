@@ -34,7 +34,7 @@ use Rattle.schedule_back.specs.Back.{back, items_of}
 use Rattle.proc_replay.specs.AtHead.{IsAtHead}
 use Rattle.schedule_back.specs.Laws.{Converse, IsWholeGroup, NothingWaits, RecordsBack, back_group, back_run, front_run}
 use Rattle.schedule_back.specs.Outcome.{text_or_refusal}
-use Rattle.schedule_back.specs.Meanings.{BringBytes}
+use Rattle.schedule_back.specs.Meanings.{IncomingAreBytes}
 use Rattle.schedule_back.proofs.ProcessRanges.{all_fit}
 use Rattle.schedule_back.proofs.ScheduleFits.{IsRanged, all_in, all_tries, items_of_events}
 use Rattle.schedule_back.proofs.AnswerItems.{at_rest}
@@ -160,7 +160,7 @@ module _ (exact : ExactLogs) (ordered : Ordered) (stepwise : Stepwise) (possible
 
   -- ---- the schedule
 
-  ranged : BringBytes (events_of_replays start) → AllByRecursion (IsRanged (length lines)) (events_of_replays start)
+  ranged : IncomingAreBytes (events_of_replays start) → AllByRecursion (IsRanged (length lines)) (events_of_replays start)
   ranged bytes = all_by_place (IsRanged (length lines)) (events_of_replays start) one where
     one : (k : ℕ) (e : NodeEvent Entry) → slice_get (events_of_replays start) k ≡ Some e → IsRanged (length lines) e
     one k e at =
@@ -184,7 +184,7 @@ module _ (exact : ExactLogs) (ordered : Ordered) (stepwise : Stepwise) (possible
       let rest : map (λ (line : ProcessLine). line.name) lines ≡ map (λ (r : Replaying). r.head.name) rs = cc in
       (record { name = ap is_name name ∙ heads.0.head.named; file = files.0 }, are_processes lines rs rest heads.1 files.1)
 
-  formed : (text : List ℕ) → Says lines start text → BringBytes (events_of_replays start) → IsSchedule (back lines start)
+  formed : (text : List ℕ) → Says lines start text → IncomingAreBytes (events_of_replays start) → IsSchedule (back lines start)
   formed text says bytes = record {
     formed = record {
       some = omega (arith, length_lines, g.some);
@@ -204,7 +204,7 @@ module _ (exact : ExactLogs) (ordered : Ordered) (stepwise : Stepwise) (possible
       whole_run.at.logs p ∙ ap (of_node p) (take-length (events_of_replays start)) ∙ all_own ordered start g.fits p r at
       ∙ ap (λ n. take n (entries_of r.left)) all ∙ take-length (entries_of r.left)
 
-  pub records_back : (text : List ℕ) → BringBytes (events_of_replays start) → text_or_refusal lines start ≡ Ok text → RecordsBack lines start text
+  pub records_back : (text : List ℕ) → IncomingAreBytes (events_of_replays start) → text_or_refusal lines start ≡ Ok text → RecordsBack lines start text
   records_back text bytes is =
       let s = says lines start text is in
       let run_is : back_run lines start ≡ at_rest whole_run.after = whole_run.comes in

@@ -14,7 +14,7 @@ use Rattle.schedule_text.specs.declared.process.ProcessLine.{ProcessLine}
 use Rattle.group_state.specs.Place.{AreGroupReplays, ReplaysFit, events_of_replays, group_count, node_names}
 use Rattle.schedule_back.specs.Back.{back, schedule_of_events}
 use Rattle.schedule_back.specs.Outcome.{text_or_refusal}
-use Rattle.schedule_back.specs.Meanings.{BringBytes}
+use Rattle.schedule_back.specs.Meanings.{IncomingAreBytes}
 
 -- the logs of all processes of a group, in order of their numbers; and of each process a line of a schedule, with the name
 -- that its log says, which no other has
@@ -63,5 +63,5 @@ pub record RecordsBack (lines : List ProcessLine) (start : List Replaying) (text
 
 -- this holds wherever such a schedule has a text
 abbrev pub Converse : Type 0
-Converse = (lines : List ProcessLine) (start : List Replaying) (text : List ℕ) → IsWholeGroup lines start → BringBytes (events_of_replays start)
+Converse = (lines : List ProcessLine) (start : List Replaying) (text : List ℕ) → IsWholeGroup lines start → IncomingAreBytes (events_of_replays start)
     → text_or_refusal lines start ≡ Ok text → RecordsBack lines start text

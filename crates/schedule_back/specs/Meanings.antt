@@ -16,5 +16,5 @@ IsBackError outcome error.TooLong = outcome ≡ Err TooLong
 IsBackError outcome error.NoMemory = Unit {0}
 
 -- what came in with these events are bytes
-abbrev pub BringBytes : List (NodeEvent Entry) → Type 0
-BringBytes es = All (λ e. AreBytes e.entry.incoming) es
+abbrev pub IncomingAreBytes : List (NodeEvent Entry) → Type 0
+IncomingAreBytes es = All (λ e. AreBytes e.entry.incoming) es

@@ -2,7 +2,7 @@
 ghost use Rattle.std.specs.Prelude.{◌≡◌, IfOk, MatchResult, Ok, length};
 ghost use Rattle.group_state.specs.Place.{AreGroupReplays, events_of_replays};
 ghost use Rattle.schedule_back.specs.Outcome.{first_bad_name, first_not_whole, is_whole, text_or_refusal};
-ghost use Rattle.schedule_back.specs.Meanings.{BringBytes, IsBackError};
+ghost use Rattle.schedule_back.specs.Meanings.{IncomingAreBytes, IsBackError};
 
 use crate::draft::{begin, walk};
 use crate::refusal::BackError;
@@ -59,7 +59,7 @@ pub fn schedule_back(
     requires lines { length lines.now ≡ length replayers.items }
     ensures answer { MatchResult result (λ text. text_or_refusal lines.now replayers.entry.items ≡ Ok text)
         (IsBackError (text_or_refusal lines.now replayers.entry.items)) }
-    ensures bytes { IfOk result (λ _. BringBytes (events_of_replays replayers.entry.items)) }
+    ensures bytes { IfOk result (λ _. IncomingAreBytes (events_of_replays replayers.entry.items)) }
 {
     let draft = begin(alloc, lines)?;
     let group = Group::begin(alloc, replayers)?;

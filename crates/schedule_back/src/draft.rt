@@ -7,7 +7,7 @@ ghost use Rattle.group_state.specs.Moves.{event_of};
 ghost use Rattle.group_state.specs.Place.{events_of_replays};
 ghost use Rattle.schedule_text.specs.Limits.{most_schedule};
 ghost use Rattle.schedule_text.specs.declared.process.ProcessLine.{ProcessLine as LineOf};
-ghost use Rattle.schedule_back.specs.Meanings.{BringBytes};
+ghost use Rattle.schedule_back.specs.Meanings.{IncomingAreBytes};
 ghost use Rattle.schedule_back.specs.inside.Draft.{IsDraft};
 
 use crate::items::push_event;
@@ -68,7 +68,7 @@ pub(crate) fn walk<'m, 'a>(
     ensures end { IfOk result (λ walked. walked.0.at ≡ length (events_of_replays group.entry.start)) }
     ensures draft { IfOk result (λ walked. (lines : List LineOf) → IsDraft lines [] draft
         → IsDraft lines (events_of_replays group.entry.start) walked.1) }
-    ensures bytes { IfOk result (λ _. BringBytes (events_of_replays group.entry.start)) }
+    ensures bytes { IfOk result (λ _. IncomingAreBytes (events_of_replays group.entry.start)) }
 {
     let mut here = group;
     let mut longer = draft;

@@ -12,10 +12,10 @@ use Rattle.command_run.specs.Outcome.{CommandOutcome, CommandStop, and_then, wri
 use Rattle.command_run.specs.OutcomeLaws.{result_follows, outcome_when_told, same_Ok_value, stops_make_files, stops_tell_outcome}
 use Rattle.command_run.specs.Run.{PerformedCommand, expectation, file_state}
 use Rattle.log_pairs.specs.declared.pairs.Loaded.{Loaded as LoadedFiles}
-use Rattle.log_pairs.specs.Pairs.{Loaded, NoneOpened, Pair, WasOpened, loaded_pairs, replays_of, replays_of_pairs, sort_replays}
-use Rattle.log_pairs.specs.Meanings.{AreLoadedPairs, WereLoaded}
+use Rattle.log_pairs.specs.Pairs.{Loaded, RefusesPairs, Pair, OpensReplays, loaded_pairs, replays_of, replays_of_pairs, sort_replays}
+use Rattle.log_pairs.specs.Meanings.{AreLoadedPairs, LoadsFiles}
 use Rattle.schedule_command.specs.Schedule.{prints_text, schedule_outcome, unless_incomplete}
-use Rattle.schedule_command.specs.inside.Meanings.{IsMade}
+use Rattle.schedule_command.specs.inside.Meanings.{IsScheduleText}
 
 -- ---- what was read decides
 
@@ -112,24 +112,24 @@ performed pairs told after counts counts_after ended ends same done counted caus
 
 -- ---- the parts of the call
 
-pub not_read : (pairs : List Pair) (told : Option Folder) (e : StopCause) → NoneOpened pairs told e → WhenTold told (λ folder. Ends pairs folder (Err e))
+pub not_read : (pairs : List Pair) (told : Option Folder) (e : StopCause) → RefusesPairs pairs told e → WhenTold told (λ folder. Ends pairs folder (Err e))
 not_read pairs told e none folder is = stops_too folder pairs e (none folder is)
 
 made_ends : (pairs : List Pair) (folder : Folder) (ls : List Loaded) (start : List Replaying) (ended : Result WorkText StopCause) → schedule_outcome pairs folder ≡ unless_incomplete pairs ls start
-    → MatchResult ended (IsMade pairs ls start) (StopsAsCause (unless_incomplete pairs ls start)) → Ends pairs folder ended
+    → MatchResult ended (IsScheduleText pairs ls start) (StopsAsCause (unless_incomplete pairs ls start)) → Ends pairs folder ended
 made_ends pairs folder ls start (Ok (answered.Done text)) same is = same ∙ is
 made_ends pairs folder ls start (Ok (answered.Diverged text)) same is = is
 made_ends pairs folder ls start (Err e) same is = subst (λ (o : CommandOutcome). StopsAsCause o e) (sym same) is
 
-pub was_made : (pairs : List Pair) (told : Option Folder) (all : List LoadedFiles) (start : List Replaying) (ended : Result WorkText StopCause) → WereLoaded pairs told all → WasOpened pairs told start
-    → ((ls : List Loaded) → AreLoadedPairs all ls → MatchResult ended (IsMade pairs ls start) (StopsAsCause (unless_incomplete pairs ls start))) → WhenTold told (λ folder. Ends pairs folder ended)
+pub was_made : (pairs : List Pair) (told : Option Folder) (all : List LoadedFiles) (start : List Replaying) (ended : Result WorkText StopCause) → LoadsFiles pairs told all → OpensReplays pairs told start
+    → ((ls : List Loaded) → AreLoadedPairs all ls → MatchResult ended (IsScheduleText pairs ls start) (StopsAsCause (unless_incomplete pairs ls start))) → WhenTold told (λ folder. Ends pairs folder ended)
 was_made pairs told all start ended loaded begun made folder is =
     let l = loaded folder is in
     let o = opened folder pairs l.0 start l.1.0 (begun folder is) in
     made_ends pairs folder l.0 start ended o.outcome (made l.0 l.1.1)
 
 pub not_diverged : (pairs : List Pair) (all : List LoadedFiles) (start : List Replaying) (ended : Result WorkText StopCause) → (ls : List Loaded) → AreLoadedPairs all ls
-    → MatchResult ended (IsMade pairs ls start) (StopsAsCause (unless_incomplete pairs ls start)) → DivergesOnlyIf false ended
+    → MatchResult ended (IsScheduleText pairs ls start) (StopsAsCause (unless_incomplete pairs ls start)) → DivergesOnlyIf false ended
 not_diverged pairs all start (Ok (answered.Done text)) ls are is = tt
 not_diverged pairs all start (Ok (answered.Diverged text)) ls are is = absurd is
 not_diverged pairs all start (Err e) ls are is = tt

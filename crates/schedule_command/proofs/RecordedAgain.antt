@@ -24,7 +24,7 @@ use Rattle.schedule_text.specs.declared.process.ProcessLine.{ProcessLine}
 use Rattle.group_state.specs.Place.{AreGroupReplays, events_of_replays}
 use Rattle.schedule_back.specs.Laws.{Converse, RecordsBack as BackRecords, back_group, back_run}
 use Rattle.schedule_back.specs.Outcome.{text_or_refusal}
-use Rattle.schedule_back.specs.Meanings.{BringBytes}
+use Rattle.schedule_back.specs.Meanings.{IncomingAreBytes}
 use Rattle.command_run.specs.Inputs.{module_in}
 use Rattle.command_run.specs.Laws.{ReadsModules}
 use Rattle.record_command.specs.Agreement.{group_in, steps_in}
@@ -134,7 +134,7 @@ module _ (exact : ExactLogs) (rewritten_read : RewrittenIsRead) (reads : ReadsMo
 
   -- where the schedule has this text
   module _ (replayers : AreGroupReplays (sort_replays [] rs)) (at_heads : All IsAtHead (sort_replays [] rs)) (complete : IsTrue (is_complete (sort_replays [] rs))) (text : List ℕ)
-      (text_is : text_or_refusal (lines_of_replays pairs ls (sort_replays [] rs)) (sort_replays [] rs) ≡ Ok text) (bytes : BringBytes (events_of_replays (sort_replays [] rs))) where
+      (text_is : text_or_refusal (lines_of_replays pairs ls (sort_replays [] rs)) (sort_replays [] rs) ≡ Ok text) (bytes : IncomingAreBytes (events_of_replays (sort_replays [] rs))) where
     back_is : BackRecords lines start text
     back_is = converse lines start text (whole_group exact reads started folder pairs ls start found.apart found.ofs replayers at_heads complete) bytes text_is
 

@@ -6,10 +6,10 @@ ghost use Rattle.command_run.specs.Run.{PerformedCommand, expectation, file_stat
 ghost use Rattle.group_state.specs.Place.{AreGroupReplays, events_of_replays};
 ghost use Rattle.log_pairs.specs.Pairs.{Loaded as LoadedOf};
 ghost use Rattle.log_pairs.specs.Meanings.{AreLoadedPairs, pair_of};
-ghost use Rattle.schedule_back.specs.Meanings.{BringBytes};
+ghost use Rattle.schedule_back.specs.Meanings.{IncomingAreBytes};
 ghost use Rattle.schedule_command.specs.Schedule.{is_complete, lines_of_replays, schedule_outcome, unless_incomplete};
 ghost use Rattle.schedule_command.specs.Meanings.{AnswerRecordsBack};
-ghost use Rattle.schedule_command.specs.inside.Meanings.{IsMade};
+ghost use Rattle.schedule_command.specs.inside.Meanings.{IsScheduleText};
 
 use command_run::{Reason, StopCause, WorkText};
 use fri_bytes::Bytes;
@@ -59,9 +59,9 @@ fn make<'a>(
 ) -> Result<WorkText, StopCause>
     requires loaded { (ls : List LoadedOf) × AreLoadedPairs all.now ls }
     requires replayers { AreGroupReplays replayers.items }
-    ensures answer { (ls : List LoadedOf) → AreLoadedPairs all.now ls → MatchResult result (IsMade (map pair_of pairs.now) ls replayers.entry.items)
+    ensures answer { (ls : List LoadedOf) → AreLoadedPairs all.now ls → MatchResult result (IsScheduleText (map pair_of pairs.now) ls replayers.entry.items)
         (StopsAsCause (unless_incomplete (map pair_of pairs.now) ls replayers.entry.items)) }
-    ensures bytes { IfOk result (λ _. BringBytes (events_of_replays replayers.entry.items)) }
+    ensures bytes { IfOk result (λ _. IncomingAreBytes (events_of_replays replayers.entry.items)) }
     ensures cause { (old new : Counts) → IfErr result (RaisesCount old new) }
     ensures still { (n : ℕ) → (reads_after n result ≡ n) × (writes_after n result ≡ n) }
 {

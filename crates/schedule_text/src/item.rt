@@ -8,7 +8,7 @@ use crate::limits::{MOST_DATAGRAM, MOST_THREAD};
 use crate::word::{bytes, number, positive, process_number, times};
 use fri_bytes::Bytes;
 use fri_text::read_signed;
-use signal_points::MOST_SIGNAL;
+use guest_signals::MOST_SIGNAL;
 use std::alloc::{AllocError, Global};
 
 /// What happens next in a group. Processes are numbered from 0 in the order of their lines.

@@ -7,7 +7,7 @@
 //! (one try), `run P T N` (N tries), `deliver P N`, `inject P HEX`, `clock P V`, `random P HEX`, `signal P S` or `kill P`.
 //!
 //! P is the number of a process, T is 0 to `MOST_THREAD`, N is 1 to `MOST_RUNS` after `run` and to `MOST_DATAGRAM` after
-//! `deliver`, S is 1 to `MOST_SIGNAL` of `signal_points`, and V is a signed number of 64 bits. Numbers are written in decimal
+//! `deliver`, S is 1 to `MOST_SIGNAL` of `guest_signals`, and V is a signed number of 64 bits. Numbers are written in decimal
 //! digits, with any zeros in front; a negative V has one minus. HEX is two hexadecimal digits of either case for each byte, or
 //! `-` for no bytes. `ProcessLine` says what NAME and MODULE may be.
 //!

@@ -9,10 +9,10 @@ use Rattle.expression_text.specs.Computed.{begins_some_expression, expression_sp
 use Rattle.expression_text.specs.Expression.{Expression, Var}
 use Rattle.expression_text.specs.Grammar.{BeginsExpr, IsExpr, higher, variable}
 use Rattle.expression_text.specs.Laws.{ExactReading}
-use Rattle.embed_cmds.specs.Grammar.{BeginsProgram, NoProgramGoesOn, IsProgram, last, stop}
-use Rattle.embed_cmds.specs.Laws.{ExactPrograms}
-use Rattle.embed_cmds.specs.Reading.{program_of}
-use Rattle.embed_cmds.specs.Tree.{End, Statements, Stop as StopStatement, Then as ThenStatement}
+use Rattle.point_programs.specs.Grammar.{BeginsProgram, NoProgramGoesOn, IsProgram, last, stop}
+use Rattle.point_programs.specs.Laws.{ExactPrograms}
+use Rattle.point_programs.specs.Reading.{program_of}
+use Rattle.point_programs.specs.Tree.{End, Statements, Stop as StopStatement, Then as ThenStatement}
 use Rattle.shell_lines.specs.Grammar.{IsCondition, left_out, given}
 use Rattle.shell_lines.specs.Lines.{LineCommand, condition_from, count_or, ends_at, expression_from, expression_or_at, located_program, number_from, program_from, sign_of, then_takes, token_at}
 use Rattle.shell_lines.proofs.TokenForms.{Ends, Form, Maybe, Stop, Then, Tokens, as_form, ends_form, maybe_form, retold, then_form}

@@ -11,8 +11,8 @@ use Rattle.call_table.specs.Table.{kind_named, row}
 use Rattle.call_table.specs.declared.kind.Kind.{Kind}
 use Rattle.expression_text.specs.Laws.{ExactReading}
 use Rattle.expression_text.specs.Spelling.{number_at_most, hex_number_of, is_word, most_number, number_of}
-use Rattle.embed_cmds.specs.Laws.{ExactPrograms}
-use Rattle.embed_cmds.specs.Reading.{word_of}
+use Rattle.point_programs.specs.Laws.{ExactPrograms}
+use Rattle.point_programs.specs.Reading.{word_of}
 use Rattle.shell_lines.specs.declared.command.Verb.{Verb}
 use Rattle.shell_lines.specs.declared.command.Verb.TheVariants as verb
 use Rattle.shell_lines.specs.Grammar.{IsCommand, BeginsCommand, StopsAtToken, goto, step_once, step, back_once, back, print, mem, threads, frames, last_events, events, watch, break, delete, attach, list, set, vars, continue, continue_most, rcontinue, quit, IsScope, one_node, everywhere, AreCalls, of_kind, all}

@@ -3,8 +3,8 @@ use Rattle.std.proofs.Common.{◌≡◌, ℕ, ◌-◌, List, length, Result, Ok,
 use Rattle.expression_text.specs.declared.error.ExprError.{ExprError}
 use Rattle.expression_text.specs.declared.error.ExprError.TheVariants.{Syntax, NoNode, TooDeep, Nested, NoMemory}
 use Rattle.expression_text.specs.Lexing.{LexedLine, token_texts}
-use Rattle.embed_cmds.specs.Parsing.{ParsedProgram}
-use Rattle.embed_cmds.specs.Tree.{Statements}
+use Rattle.point_programs.specs.Parsing.{ParsedProgram}
+use Rattle.point_programs.specs.Tree.{Statements}
 use Rattle.shell_lines.specs.Lines.{LineCommand, Do, located_program, program_from, then_takes}
 use Rattle.shell_lines.specs.inside.Reading.{ReadsCommand}
 

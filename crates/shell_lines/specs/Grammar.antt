@@ -5,8 +5,8 @@ use Rattle.call_table.specs.declared.kind.Kind.{Kind}
 use Rattle.expression_text.specs.Expression.{Expression}
 use Rattle.expression_text.specs.Grammar.{IsExpr}
 use Rattle.expression_text.specs.Spelling.{is_word, number_of}
-use Rattle.embed_cmds.specs.Grammar.{IsProgram}
-use Rattle.embed_cmds.specs.Tree.{Statements}
+use Rattle.point_programs.specs.Grammar.{IsProgram}
+use Rattle.point_programs.specs.Tree.{Statements}
 use Rattle.shell_lines.specs.Limits.{most_shown_bytes, most_shown_events, greatest_thread}
 use Rattle.shell_lines.specs.Lines.{At, Back, Break, LineCommand, Continue, Delete, Do, Events, Everywhere, Frames, Goto, ListPoints, ListVariables, Mem, Print, Quit, Rcontinue, SetTo, Step, Threads, Watch, WhichNodes, node_called}
 

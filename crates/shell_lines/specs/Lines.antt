@@ -7,9 +7,9 @@ use Rattle.call_table.specs.declared.kind.Kind.{Kind}
 use Rattle.expression_text.specs.Faulty.{is_nested, lacks_node, lacks_some_node, names_variable}
 use Rattle.expression_text.specs.Spelling.{is_word, most_number, number_of}
 use Rattle.expression_text.specs.Expression.{Expression}
-use Rattle.embed_cmds.specs.Faulty.{lacks_names, nests_aggregates}
-use Rattle.embed_cmds.specs.Reading.{program_of, word_of}
-use Rattle.embed_cmds.specs.Tree.{Statements}
+use Rattle.point_programs.specs.Faulty.{lacks_names, nests_aggregates}
+use Rattle.point_programs.specs.Reading.{program_of, word_of}
+use Rattle.point_programs.specs.Tree.{Statements}
 use Rattle.shell_lines.specs.Limits.{most_shown_bytes, most_shown_events, greatest_thread}
 use Rattle.shell_lines.specs.declared.command.Verb.{Verb}
 use Rattle.shell_lines.specs.declared.command.Verb.TheVariants as verb

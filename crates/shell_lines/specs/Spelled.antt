@@ -2,7 +2,7 @@
 use Rattle.std.specs.Prelude.{Option, option_map}
 use Rattle.expression_text.specs.declared.expr.Expr.{Expr}
 use Rattle.expression_text.specs.Expression.{Expression, expression_of}
-use Rattle.embed_cmds.specs.Tree.{program_body}
+use Rattle.point_programs.specs.Tree.{program_body}
 use Rattle.shell_lines.specs.declared.command.DebuggerCommand.{DebuggerCommand as Spelled}
 use Rattle.shell_lines.specs.declared.command.DebuggerCommand.TheVariants as spelled
 use Rattle.shell_lines.specs.declared.command.WhichNodes.{WhichNodes as ScopeSpelled}

@@ -1,8 +1,8 @@
 // The commands of the shell.
 
-use embed_cmds::Program;
 use fri_bytes::Bytes;
 use lib_calls::Kind;
+use point_programs::Program;
 use watch_expr::Expr;
 
 /// The word that a command begins with.

@@ -7,6 +7,6 @@ pub fn exact_commands()
     ensures { ExactCommands }
 {
     watch_expr::laws::exact_reading();
-    embed_cmds::laws::exact_programs();
+    point_programs::laws::exact_programs();
     call_table::laws::read_back();
 }

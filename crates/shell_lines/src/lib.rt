@@ -7,10 +7,10 @@
 //! in friday_shell.
 //!
 //! The tests on a line come in their order in `line_meaning`. `exact_commands` rests on the laws of expression_text and
-//! embed_cmds, which say what an expression and a program are. The code cuts and reads a line in `line`, `verbs` and `read`.
+//! point_programs, which say what an expression and a program are. The code cuts and reads a line in `line`, `verbs` and `read`.
 //!
-//! The debugger's lines are four crates, each of which can be proved by itself: this one and group_texts know nothing of each
-//! other, shell_points uses group_texts, and friday_shell all three.
+//! The debugger's lines are four crates, each of which can be proved by itself: this one and group_text know nothing of each
+//! other, shell_points uses group_text, and friday_shell all three.
 #![tactic(auto)]
 
 mod command;

@@ -13,8 +13,8 @@ ghost use Rattle.expression_text.specs.Lexing.{is_blank};
 use crate::command::{DebuggerCommand, WhichNodes};
 use crate::refusal::LineRefusal;
 use crate::verbs::read_command;
-use embed_cmds::program_faults;
 use fri_bytes::Bytes;
+use point_programs::program_faults;
 use std::alloc::{AllocError, Global};
 use watch_expr::{Expr, ExprError, Faults, find_faults, is_blank, lacks_some_node, lex};
 

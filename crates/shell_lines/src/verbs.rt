@@ -11,8 +11,8 @@ use crate::read::{
     ending, read_calls, read_condition, read_count, read_expression, read_front_expression,
     read_node, read_number, read_scope, read_variable,
 };
-use embed_cmds::parse_program;
 use fri_bytes::Bytes;
+use point_programs::parse_program;
 use std::alloc::Global;
 use watch_expr::{ExprError, MOST_NUMBER, Tokens};
 

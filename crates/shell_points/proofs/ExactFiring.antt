@@ -6,9 +6,9 @@ use Rattle.std.proofs.lemmas.List.Elements.{recursion_from_All}
 use Rattle.std.proofs.Math.Bool.{or_assoc}
 use Rattle.std.specs.List.{AllByRecursion}
 use Rattle.std.specs.Prelude.{negsuc, pos}
-use Rattle.embed_cmds.specs.Running.{ProgramSetting, ProgramState, is_nonzero}
-use Rattle.embed_cmds.specs.Tree.{Statements}
-use Rattle.embed_cmds.specs.Variables.{Variable}
+use Rattle.point_programs.specs.Running.{ProgramSetting, ProgramState, is_nonzero}
+use Rattle.point_programs.specs.Tree.{Statements}
+use Rattle.point_programs.specs.Variables.{Variable}
 use Rattle.page_watch.specs.Firing.{is_same_value}
 use Rattle.proc_replay.specs.Replaying.{Replaying}
 use Rattle.expression_text.specs.Expression.{Expression}

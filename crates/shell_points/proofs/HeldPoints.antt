@@ -3,8 +3,8 @@ use Rattle.std.proofs.Common.{◌≡◌, ◌∙◌, ℕ, zero, suc, ◌+◌, ◌
 use Rattle.std.specs.Prelude.{slice_set}
 use Rattle.std.specs.List.{flat_map, list_any, position, position_or_len, prefix_len}
 use Rattle.std.proofs.lemmas.List.{length-map, drop_more}
-use Rattle.embed_cmds.specs.declared.program.Program.{Program}
-use Rattle.embed_cmds.specs.Tree.{program_body}
+use Rattle.point_programs.specs.declared.program.Program.{Program}
+use Rattle.point_programs.specs.Tree.{program_body}
 use Rattle.shell_points.specs.declared.point.Point.{Point as Held}
 use Rattle.shell_points.specs.Points.{Point, has_point, index_of_point, point_text, with_program, without_point}
 use Rattle.shell_points.specs.inside.Meanings.{point}

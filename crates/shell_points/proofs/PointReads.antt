@@ -17,7 +17,7 @@ use Rattle.watch_expr.specs.Reads.{no_variables, reads_of_expression}
 use Rattle.watch_expr.specs.Value.{value}
 use Rattle.page_watch.specs.Touch.{meets}
 use Rattle.page_watch.specs.Watched.{WatchStands, Watched}
-use Rattle.embed_cmds.specs.Running.{ProgramState}
+use Rattle.point_programs.specs.Running.{ProgramState}
 use Rattle.page_watch.specs.Firing.{is_same_value}
 use Rattle.shell_points.specs.declared.point.Point.{Point as Held}
 use Rattle.shell_points.specs.declared.point.Trigger.{Trigger as HeldTrigger}

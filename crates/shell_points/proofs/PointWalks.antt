@@ -10,8 +10,8 @@ use Rattle.group_state.specs.declared.event.GroupEvent.{GroupEvent}
 use Rattle.group_state.specs.Moves.{GroupMoves}
 use Rattle.group_state.specs.Place.{GroupPlace, events_of_replays}
 use Rattle.proc_replay.specs.Replaying.{Replaying}
-use Rattle.embed_cmds.specs.Running.{ProgramState}
-use Rattle.embed_cmds.specs.Variables.{Variable}
+use Rattle.point_programs.specs.Running.{ProgramState}
+use Rattle.point_programs.specs.Variables.{Variable}
 use Rattle.shell_points.specs.declared.point.Point.{Point as Held}
 use Rattle.shell_points.specs.Firing.{place_at, reading, point_said_at}
 use Rattle.shell_points.specs.Points.{Point, Trigger}

@@ -12,7 +12,7 @@ use Rattle.group_state.specs.Nodes.{nodes_at}
 use Rattle.expression_text.specs.Expression.{Expression}
 use Rattle.watch_expr.specs.Reads.{no_variables}
 use Rattle.watch_expr.specs.Value.{value, value_in_event}
-use Rattle.embed_cmds.specs.Running.{is_nonzero, value_word}
+use Rattle.point_programs.specs.Running.{is_nonzero, value_word}
 use Rattle.page_watch.specs.Firing.{is_same_value}
 use Rattle.shell_points.specs.Points.{Break, Point, Trigger, Watch}
 

@@ -3,7 +3,7 @@ use Rattle.std.specs.Prelude.{◌≡◌, ◌↔◌, ℕ, ℤ, suc, ◌<◌, ◌�
 use Rattle.proc_replay.specs.Replaying.{Replaying}
 use Rattle.group_state.specs.Place.{GroupPlace, events_of_replays}
 use Rattle.expression_text.specs.Expression.{Expression}
-use Rattle.embed_cmds.specs.Variables.{Variable}
+use Rattle.point_programs.specs.Variables.{Variable}
 use Rattle.shell_points.specs.Firing.{condition_value, firing_lines, has_due_point, is_due_at, is_due_point, place_at, value_at_position, watchpoint_fires}
 use Rattle.shell_points.specs.Points.{Point}
 use Rattle.shell_points.specs.Returning.{has_stopping_point, last_due}

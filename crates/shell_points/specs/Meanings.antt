@@ -3,7 +3,7 @@ use Rattle.std.specs.Prelude.{◌≡◌, ℕ, List, Option, option_map}
 use Rattle.expression_text.specs.declared.expr.Expr.{Expr}
 use Rattle.expression_text.specs.Expression.{Expression, expression_of}
 use Rattle.group_state.specs.Place.{GroupPlace}
-use Rattle.embed_cmds.specs.Variables.{Variable}
+use Rattle.point_programs.specs.Variables.{Variable}
 use Rattle.shell_points.specs.declared.point.Trigger.{Trigger as HeldTrigger}
 use Rattle.shell_points.specs.declared.point.Trigger.TheVariants as held
 use Rattle.shell_points.specs.declared.walk.WalkEnd.{WalkEnd}

@@ -3,7 +3,7 @@ use Rattle.std.specs.Prelude.{ℕ, zero, suc, ◌==◌, Bool, not, List, [], ◌
 use Rattle.std.specs.List.{list_any}
 use Rattle.call_table.specs.declared.kind.Kind.{Kind}
 use Rattle.expression_text.specs.Expression.{Expression}
-use Rattle.embed_cmds.specs.Tree.{Statements}
+use Rattle.point_programs.specs.Tree.{Statements}
 
 -- an expression whose value changes, or an event of a kind of call or of any, of the node with this number or of any
 pub data Trigger : Type 0 where

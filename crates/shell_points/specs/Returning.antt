@@ -1,8 +1,8 @@
 -- Where `rcontinue` goes, and what it says.
 use Rattle.std.specs.Prelude.{ℕ, zero, suc, ◌&&◌, Bool, true, List, codes, Option, Some, None, if◌then◌else◌}
 use Rattle.std.specs.List.{list_any}
-use Rattle.embed_cmds.specs.Running.{has_stop}
-use Rattle.embed_cmds.specs.Tree.{Statements}
+use Rattle.point_programs.specs.Running.{has_stop}
+use Rattle.point_programs.specs.Tree.{Statements}
 use Rattle.proc_replay.specs.Replaying.{Replaying}
 use Rattle.group_state.specs.Place.{GroupPlace}
 use Rattle.shell_points.specs.Firing.{firing_lines, is_due_point}

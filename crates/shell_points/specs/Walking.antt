@@ -4,9 +4,9 @@ use Rattle.fri_text.specs.Line.{is_line_feed}
 use Rattle.proc_replay.specs.Replaying.{Replaying}
 use Rattle.group_state.specs.Place.{GroupPlace, events_of_replays, node_names}
 use Rattle.group_state.specs.Nodes.{nodes_at}
-use Rattle.embed_cmds.specs.Running.{ProgramSetting, ProgramState, after_statements, program_setting}
-use Rattle.embed_cmds.specs.Tree.{Statements}
-use Rattle.embed_cmds.specs.Variables.{Variable}
+use Rattle.point_programs.specs.Running.{ProgramSetting, ProgramState, after_statements, program_setting}
+use Rattle.point_programs.specs.Tree.{Statements}
+use Rattle.point_programs.specs.Variables.{Variable}
 use Rattle.shell_points.specs.Firing.{firing_line, is_due_point, node_of_event, place_at}
 use Rattle.shell_points.specs.Points.{Point}
 

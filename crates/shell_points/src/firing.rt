@@ -7,11 +7,11 @@ ghost use Rattle.shell_points.specs.inside.Meanings.{point as seen};
 ghost use Rattle.shell_points.specs.inside.Reading.{fires_by};
 
 use crate::point::{Point, Trigger};
-use embed_cmds::{is_true, push_value};
 use fri_text::Text;
 use group_state::{Group, GroupEvent};
 use lib_calls::Kind;
 use page_watch::is_same_value;
+use point_programs::{is_true, push_value};
 use std::alloc::AllocError;
 use watch_expr::{Expr, NoVariables, eval_in_event};
 

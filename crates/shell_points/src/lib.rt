@@ -12,7 +12,7 @@
 //! to the next. The walk (`walk`) makes a watch of each watchpoint where it begins, and asks all of them together at each
 //! further position (`watching`); it holds the values of two positions, and a session keeps none. If no watch evaluated and
 //! no breakpoint is held nothing can fire, and nothing else is done there. One function does what the points do at a
-//! position (`points_run`), and runs programs by embed_cmds. A walk back (`back`) goes forward once too, from position 0,
+//! position (`points_run`), and runs programs by point_programs. A walk back (`back`) goes forward once too, from position 0,
 //! since the values before a position are known there only; it keeps what was said last, and then goes there. `specs/Laws`
 //! says in plain relations where points fire and both walks end. Inside is what points read at one position
 //! (`specs/inside/Reading`).

@@ -1,8 +1,8 @@
 // What a point is.
 
-use embed_cmds::Program;
 use fri_bytes::Bytes;
 use lib_calls::Kind;
+use point_programs::Program;
 use watch_expr::Expr;
 
 /// What a point waits for: a change of an expression's value, or an event of a kind of call or of any, of the node with

@@ -1,7 +1,7 @@
 // The points that a session holds.
 ghost use Rattle.std.specs.Prelude.{◌≡◌, ◌+◌, ◌-◌, ◌<◌, ◌++◌, ◌∷◌, ◌==◌, [], IfOk, IfSome, OnErr, OnOk, length, map, position};
 ghost use Rattle.std.specs.List.{flat_map};
-ghost use Rattle.embed_cmds.specs.Tree.{program_body};
+ghost use Rattle.point_programs.specs.Tree.{program_body};
 ghost use Rattle.group_state.specs.Touch.{watch_ticks};
 ghost use Rattle.shell_points.specs.Points.{has_point, new_point, index_of_point, point_text, with_program, without_point};
 ghost use Rattle.shell_points.specs.Meanings.{PointsReturn, PointsWalk, held_condition as condition_meant, trigger as trigger_meant};
@@ -11,10 +11,10 @@ ghost use Rattle.shell_points.specs.Watching.{watched_expressions};
 use crate::back::walk_back;
 use crate::point::{Point, Trigger};
 use crate::walk::{WalkEnd, walk};
-use embed_cmds::{Program, Vars};
 use fri_bytes::Bytes;
 use fri_text::Text;
 use group_state::Group;
+use point_programs::{Program, Vars};
 use std::alloc::{AllocError, Global};
 use std::marker::Model;
 use std::sync::ledger::Ledger;
@@ -30,7 +30,7 @@ impl Model for Points {
     ghost use Rattle.std.specs.Prelude.{List};
     ghost use Rattle.std.specs.Coded.{codes};
     ghost use Rattle.expression_text.specs.Coding.{expression_code};
-    ghost use Rattle.embed_cmds.specs.Coding.{statements_code};
+    ghost use Rattle.point_programs.specs.Coding.{statements_code};
     ghost use Rattle.shell_points.specs.Points.{Point};
 
     ghost Value = { List Point };

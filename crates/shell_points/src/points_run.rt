@@ -10,9 +10,9 @@ ghost use Rattle.shell_points.specs.declared.point.Point.{Point as Held};
 use crate::firing::{fires, node_of_event, push_line};
 use crate::point::Point;
 use crate::watching::Watching;
-use embed_cmds::{EventNode, Vars, run_program};
 use fri_text::Text;
 use group_state::Group;
+use point_programs::{EventNode, Vars, run_program};
 use std::alloc::{AllocError, Global};
 
 /// What points did so far at a position, beside what programs made of the variables: what was said, and whether a point asked

@@ -12,7 +12,7 @@ use Rattle.group_state.specs.declared.event.GroupEvent.{GroupEvent}
 use Rattle.group_state.specs.Laws.{Ordered, Stepwise}
 use Rattle.group_state.specs.Moves.{GroupMoves, event_of}
 use Rattle.group_state.specs.Place.{AreGroupReplays, ReplaysFit, GroupPlace, events_of_replays, states_of_nodes, states_from}
-use Rattle.byte_streams.specs.Laws.{UnsentIsFree}
+use Rattle.byte_streams.specs.Laws.{NoSendIsAbsent}
 use Rattle.byte_streams.specs.Traffic.{SendOrReceive}
 use Rattle.streams_command.specs.declared.telling.Told.{Told}
 use Rattle.streams_command.specs.inside.Meanings.{IsToldOf}
@@ -60,7 +60,7 @@ pub record IsNext (start : List Replaying) (old new : GroupPlace) (event : Group
   pub odd : t.odd + 1 < 2 ^ 64
   pub foreign : t.foreign + 1 < 2 ^ 64
 
-pub is_next : Ordered → Stepwise → UnsentIsFree → (start : List Replaying) (old new : GroupPlace) (event : GroupEvent) (told : Told) → AreGroupReplays start → ReplaysFit new.start → new.at < 2 ^ 64
+pub is_next : Ordered → Stepwise → NoSendIsAbsent → (start : List Replaying) (old new : GroupPlace) (event : GroupEvent) (told : Told) → AreGroupReplays start → ReplaysFit new.start → new.at < 2 ^ 64
     → WalkedTo start old told → GroupMoves old new (Some event) → IsNext start old new event told
 is_next ordered stepwise free start old new event told replayers fits bound so_far moves =
     let es = events_of_replays start in

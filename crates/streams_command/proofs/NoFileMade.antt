@@ -10,7 +10,7 @@ use Rattle.command_run.specs.Call.{CountsFaults, KeepsFolder, MakesWorkFiles, Ra
 use Rattle.command_run.specs.Outcome.{CommandOutcome, CommandStop, and_then, writes_of}
 use Rattle.command_run.specs.OutcomeLaws.{outcome_when_told, refused_makes, refused_tells, stops_before_next}
 use Rattle.command_run.specs.Run.{PerformedCommand, expectation, file_state}
-use Rattle.log_pairs.specs.Pairs.{NoneOpened, Pair, WasOpened, replays_of_pairs}
+use Rattle.log_pairs.specs.Pairs.{RefusesPairs, Pair, OpensReplays, replays_of_pairs}
 use Rattle.streams_command.specs.Streams.{streams_outcome, work_of_streams}
 
 -- ---- no text
@@ -23,7 +23,7 @@ keeps before after refusal.WriteFault same = tt
 keeps before after refusal.NoMemory same = tt
 
 -- no replays, no streams
-pub stops_too : (pairs : List Pair) (told : Option Folder) (e : StopCause) → NoneOpened pairs told e → WhenTold told (λ folder. StopsAsCause (streams_outcome pairs folder) e)
+pub stops_too : (pairs : List Pair) (told : Option Folder) (e : StopCause) → RefusesPairs pairs told e → WhenTold told (λ folder. StopsAsCause (streams_outcome pairs folder) e)
 stops_too pairs told e none folder is = stops_before_next (replays_of_pairs folder pairs) _ e (none folder is)
 
 pub stopped : (pairs : List Pair) (told after : Option Folder) (counts counts_after : Counts) (e : StopCause) → WhenTold told (λ folder. StopsAsCause (streams_outcome pairs folder) e) → after ≡ told
@@ -41,12 +41,12 @@ stopped pairs told after counts counts_after e stops same counted cause = record
 
 -- ---- the text
 
-works : (pairs : List Pair) (told : Option Folder) (start : List Replaying) → WasOpened pairs told start → (o : CommandOutcome) → option_map (streams_outcome pairs) told ≡ Some o → o ≡ Ok (work_of_streams start)
+works : (pairs : List Pair) (told : Option Folder) (start : List Replaying) → OpensReplays pairs told start → (o : CommandOutcome) → option_map (streams_outcome pairs) told ≡ Some o → o ≡ Ok (work_of_streams start)
 works pairs told start opened o is =
     let h = outcome_when_told (streams_outcome pairs) told o is in
     h.2 ∙ ap (λ (r : Result (List Replaying) CommandStop). and_then r (λ start. Ok (work_of_streams start))) (opened h.0 h.1)
 
-pub finished : (pairs : List Pair) (told after : Option Folder) (counts counts_after : Counts) (start : List Replaying) (text : List ℕ) → WasOpened pairs told start → text ≡ (work_of_streams start).text → after ≡ told
+pub finished : (pairs : List Pair) (told after : Option Folder) (counts counts_after : Counts) (start : List Replaying) (text : List ℕ) → OpensReplays pairs told start → text ≡ (work_of_streams start).text → after ≡ told
     → CountsFaults {T = WorkText} counts counts_after (Ok (answered.Done text))
     → PerformedCommand (expectation (option_map (streams_outcome pairs) told) (λ folder. []) false) (file_state told counts) (file_state after counts_after) (Ok (answered.Done text))
 finished pairs told after counts counts_after start text opened is same counted = record {

@@ -10,7 +10,7 @@ use Rattle.wasm_stack.specs.declared.stack.StackFrame.{StackFrame}
 use Rattle.wasm_stack.specs.declared.stack.Stack.TheInside.{Inside}
 use Rattle.wasm_stack.specs.Limits.{ThreadWithin}
 use Rattle.wasm_stack.specs.Thread.{Thread, arguments, called_with, entered_frame, size_of_thread, without_operands}
-use Rattle.wasm_stack.specs.inside.Stacks.{AreCut, AreFrameParts, IsStack, thread_of}
+use Rattle.wasm_stack.specs.inside.Stacks.{FloorsAscend, AreFrameParts, IsStack, thread_of}
 use Rattle.wasm_stack.proofs.StackViews.{IsSound-operands, KeepsBelow, drop_parts, length_of_frames, size_view, thread_of-operands}
 
 -- a stack within the limits
@@ -116,7 +116,7 @@ module _ (s : Inside) (func : Func) (above n first : ℕ) (here : StackFrame) (o
       record {
         part = record {
           top = omega (arith, height, e.floor);
-          cut = subst (λ o. AreCut here.bottom (reverse o) here.floor) (sym no_labels) cut;
+          cut = subst (λ o. FloorsAscend here.bottom (reverse o) here.floor) (sym no_labels) cut;
           labels_in = omega (arith, e.labels_from);
           locals_in = omega (arith, e.locals_from, grown);
         };

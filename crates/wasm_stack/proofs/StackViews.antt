@@ -16,10 +16,10 @@ use Rattle.wasm_stack.specs.declared.stack.Stack.TheInside.{Inside}
 use Rattle.wasm_types.specs.Code.{Trees, tree, trees}
 use Rattle.wasm_stack.specs.Thread.{Thread, with_operand, closed_level, closed_to, left_frame, left_to_caller, without_operands, arguments, size_of_levels, size_of_frames, size_of_thread, has_frame_room, has_room, OpenedLevel}
 use Rattle.wasm_stack.specs.View.{and_close, closed_by, entered_by, opened_as, opened_by, given_by, repeated_by}
-use Rattle.wasm_stack.specs.inside.Stacks.{innermost_opened, levels_of, frame_labels, frames_of, thread_in, thread_of, AreCut, IsFramePart, AreFrameParts, IsStack}
+use Rattle.wasm_stack.specs.inside.Stacks.{innermost_opened, levels_of, frame_labels, frames_of, thread_in, thread_of, FloorsAscend, IsFramePart, AreFrameParts, IsStack}
 
 -- a frame's operands begin below those of each of its levels
-pub AreCut-low : (bottom : ℕ) (ls : List StackLevel) (top : ℕ) → AreCut bottom ls top → bottom ≤ top
+pub AreCut-low : (bottom : ℕ) (ls : List StackLevel) (top : ℕ) → FloorsAscend bottom ls top → bottom ≤ top
 AreCut-low bottom [] top h = omega arith
 AreCut-low bottom (l ∷ ls) top h = omega (arith, AreCut-low bottom ls l.floor h.1, h.0)
 
@@ -112,7 +112,7 @@ closed_in f labels w locals ops callers l h lt e =
     let from = f.labels_from in
     let within : from ≤ length w = omega (arith, ap length e, length-append w (l ∷ []), lt) in
     let ls = ap (λ o. reverse (drop from o)) e ∙ reverse_drop_push from w l within in
-    let cut = subst (λ ls. AreCut f.bottom ls f.floor) ls h.cut in
+    let cut = subst (λ ls. FloorsAscend f.bottom ls f.floor) ls h.cut in
     let stack = ap reverse (drop_parts l.floor f.floor ops cut.0 h.top) ∙ reverse-append (drop l.floor (take f.floor ops)) (drop f.floor ops) in
     let ops' = take-take l.floor f.floor ops cut.0 in
     let lower = ap (λ o. take from o) e ∙ take-append-le from w (l ∷ []) within in
@@ -170,7 +170,7 @@ module _ (s : Inside) (n : ℕ) (h : IsStack s) (le : n ≤ length s.operands.it
       ∙ ap (λ o. record (thread_of s) { stack = o }) (ap reverse part ∙ sym (split_reverse xs m n kept_arguments).1)
 
 -- the sizes
-size_of_cut : (gives : Option ValType) (bottom : ℕ) (ls : List StackLevel) (ops : List Value) (top : ℕ) → top ≡ length ops → AreCut bottom ls top → size_of_levels (levels_of gives ls ops) + bottom ≡ length ls + length ops
+size_of_cut : (gives : Option ValType) (bottom : ℕ) (ls : List StackLevel) (ops : List Value) (top : ℕ) → top ≡ length ops → FloorsAscend bottom ls top → size_of_levels (levels_of gives ls ops) + bottom ≡ length ls + length ops
 size_of_cut gives bottom [] ops top e h = omega arith
 size_of_cut gives bottom (l ∷ ls) ops top e h =
     omega (arith, size_of_cut gives bottom ls (take l.floor ops) l.floor (sym (length-take-le l.floor ops (omega arith))) h.1, length-take-le l.floor ops (omega arith), length-reverse (drop l.floor ops), length-drop l.floor ops)
@@ -260,7 +260,7 @@ closed_part f labels w locals ops l h lt e =
     let from = f.labels_from in
     let within : from ≤ length w = omega (arith, ap length e, length-append w (l ∷ []), lt) in
     let ls = ap (λ o. reverse (drop from o)) e ∙ reverse_drop_push from w l within in
-    let cut = subst (λ ls. AreCut f.bottom ls f.floor) ls h.cut in
+    let cut = subst (λ ls. FloorsAscend f.bottom ls f.floor) ls h.cut in
     record { top = omega (arith, h.top, cut.0); cut = cut.1; labels_in = within; locals_in = h.locals_in }
 
 -- the levels that end, the last of which is below this label
@@ -397,12 +397,12 @@ module _ (s : Inside) (here : StackFrame) (w : Vec StackLevel Global) (l : Stack
   pub opened_sound : (room : ℕ) → room ≤ s.room - 1 → IsStack (record s { here = record s.here { todo = here.todo; floor = here.floor }; labels = w; room = room })
   opened_sound room fewer =
       let low : l.floor ≤ here.floor = omega (arith, h.part.top, top, floor) in
-      let cut : AreCut s.here.bottom (l ∷ reverse (drop s.here.labels_from s.labels.items)) here.floor = (low, subst (λ k. AreCut s.here.bottom (reverse (drop s.here.labels_from s.labels.items)) k) (sym floor) h.part.cut) in
+      let cut : FloorsAscend s.here.bottom (l ∷ reverse (drop s.here.labels_from s.labels.items)) here.floor = (low, subst (λ k. FloorsAscend s.here.bottom (reverse (drop s.here.labels_from s.labels.items)) k) (sym floor) h.part.cut) in
       let more = ap length e ∙ length-append s.labels.items (l ∷ []) in
       record {
         part = record {
           top = omega (arith, top);
-          cut = subst (λ ls. AreCut s.here.bottom ls here.floor) (sym around_now) cut;
+          cut = subst (λ ls. FloorsAscend s.here.bottom ls here.floor) (sym around_now) cut;
           labels_in = omega (arith, more, h.part.labels_in);
           locals_in = h.part.locals_in;
         };

@@ -13,7 +13,7 @@ use Rattle.wasm_types.specs.Modules.{Module}
 use Rattle.wasm_types.specs.Stack.{BlockStack, no_operands, jumped_stack, is_exactly, pop_type, pop_result, push_result, jump_with}
 use Rattle.wasm_types.specs.Typing.{typed_instrs}
 use Rattle.wasm_values.specs.Values.{types_of_values}
-use Rattle.wasm_step.specs.Fits.{TargetFits, known_operands, put_type, label_of_level, CodeLeaves, ThreadFits}
+use Rattle.wasm_step.specs.Fits.{TargetFits, known_operands, put_type, label_of_level, IsTypedRemainder, ThreadFits}
 use Rattle.wasm_step.specs.inside.Standing.{AfterFits}
 use Rattle.wasm_stack.specs.Control as Control
 use Rattle.wasm_stack.specs.Control.{branch, label_at}
@@ -99,7 +99,7 @@ label_true (Some k) = refl
 
 module _ (m : Module) (c : Context) where
   -- a block that is opened fits, where its inside, its end and a branch to it do
-  open_fits : (t : Thread) (gives : Option ValType) (body target : Trees) (carries loops : Bool) → RestOf m c t → carries ≡ is_some (label_of_level gives carries) → CodeLeaves c (label_of_level gives carries ∷ labels_at m t) gives body [] → TargetFits loops c (record { gives = gives; target = target; carries = carries; loops = loops }) (innermost_level_of t) t.outer → LeavesAt m c t (put_type gives (types_of_values t.stack)) → ThreadFits m (opened_level t gives body target carries loops)
+  open_fits : (t : Thread) (gives : Option ValType) (body target : Trees) (carries loops : Bool) → RestOf m c t → carries ≡ is_some (label_of_level gives carries) → IsTypedRemainder c (label_of_level gives carries ∷ labels_at m t) gives body [] → TargetFits loops c (record { gives = gives; target = target; carries = carries; loops = loops }) (innermost_level_of t) t.outer → LeavesAt m c t (put_type gives (types_of_values t.stack)) → ThreadFits m (opened_level t gives body target carries loops)
   open_fits t gives body target carries loops r e inside at_target after =
       goes m c (opened_level t gives body target carries loops) (r.0, r.1, r.2, (e, at_target, after, r.3), r.4) inside
 
@@ -114,9 +114,9 @@ module _ (m : Module) (c : Context) where
       let nf = neither _ _ h.no_float in
       let nf' = neither _ _ nf.0 in
       let after : LeavesAt m c t (put_type gives ks) = record { typed = subst (λ s. IsSome (After' m c t s >>= End' m c t)) (put_push gives ks) i.rest; no_float = nf.1 } in
-      let inside : CodeLeaves c (gives ∷ labels_at m t) gives body [] = record { typed = i.within; no_float = nf'.1 } in
+      let inside : IsTypedRemainder c (gives ∷ labels_at m t) gives body [] = record { typed = i.within; no_float = nf'.1 } in
       open_fits t gives body t.todo (is_some gives) false r (carries_it gives)
-      (subst (λ l. CodeLeaves c (l ∷ labels_at m t) gives body []) (sym (label_true gives)) inside)
+      (subst (λ l. IsTypedRemainder c (l ∷ labels_at m t) gives body []) (sym (label_true gives)) inside)
       (subst (λ l. LeavesAt m c t (put_type l ks)) (sym (label_true gives)) after) after
 
   pub loop_fits : (gives : Option ValType) (body : Trees) (t : Thread) → RestOf m c t → Before m c (Loop gives body) t (types_of_values t.stack) → ThreadFits m (opened_level t gives body body false true)
@@ -148,8 +148,8 @@ module _ (m : Module) (c : Context) where
       let at_label = subst (λ l. LeavesAt m c t (put_type l (types_of_values rest))) (sym (label_true gives)) after' in
       let t' = record t { stack = rest } in
       on_test_fits m c v _ _ kv
-      (open_fits t' gives no' t.todo (is_some gives) false r (carries_it gives) (subst (λ l. CodeLeaves c (l ∷ labels_at m t) gives no' []) (sym (label_true gives)) (record { typed = n.within; no_float = nf2.1 })) at_label after')
-      (open_fits t' gives yes' t.todo (is_some gives) false r (carries_it gives) (subst (λ l. CodeLeaves c (l ∷ labels_at m t) gives yes' []) (sym (label_true gives)) (record { typed = y.0; no_float = nf2.0 })) at_label after'))
+      (open_fits t' gives no' t.todo (is_some gives) false r (carries_it gives) (subst (λ l. IsTypedRemainder c (l ∷ labels_at m t) gives no' []) (sym (label_true gives)) (record { typed = n.within; no_float = nf2.1 })) at_label after')
+      (open_fits t' gives yes' t.todo (is_some gives) false r (carries_it gives) (subst (λ l. IsTypedRemainder c (l ∷ labels_at m t) gives yes' []) (sym (label_true gives)) (record { typed = y.0; no_float = nf2.0 })) at_label after'))
 
   pub br_fits : (n : ℕ) (t : Thread) → RestOf m c t → Before m c (Br n) t (types_of_values t.stack) → AfterFits m (branch n t)
   br_fits n t r h =

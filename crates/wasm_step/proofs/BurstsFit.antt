@@ -13,7 +13,7 @@ use Rattle.wasm_step.specs.inside.Paused.{stopped_of, stopped_result}
 use Rattle.wasm_step.specs.Burst.{SettledThread, At, Done, BurstResult, at_next_instruction, after_end, settle_by, settle, one_step_at, one_step, spent_burst, after_step, burst}
 use Rattle.wasm_values.specs.Values.{types_of_values}
 use Rattle.wasm_store.specs.Suits.{SuitsModule}
-use Rattle.wasm_step.specs.Fits.{CodeLeaves, ThreadFits, HaltFits, BurstFits}
+use Rattle.wasm_step.specs.Fits.{IsTypedRemainder, ThreadFits, HaltFits, BurstFits}
 use Rattle.wasm_step.specs.inside.Rules.{RunsByRules}
 use Rattle.wasm_step.specs.inside.Standing.{AfterFits, StandsFit}
 use Rattle.wasm_step.specs.Reduce.{ThreadAndStore, instr_row}
@@ -88,7 +88,7 @@ module _ (agree : TypesAgree) (m : Module) where
   next_fits : (todo : Trees) (t : Thread) (rest : SettledThread) → t.todo ≡ todo → ThreadFits m t → (todo ≡ End → SettledFits rest) → SettledFits (at_next_instruction todo t rest)
   next_fits End t rest e h otherwise = otherwise refl
   next_fits (Then i is) t rest e h otherwise =
-      goes m h.0.context (record t { todo = Then i is }) (rest_of m t h) (subst (λ x. CodeLeaves h.0.context (labels_at m t) t.gives x (types_of_values t.stack)) e h.0.todo)
+      goes m h.0.context (record t { todo = Then i is }) (rest_of m t h) (subst (λ x. IsTypedRemainder h.0.context (labels_at m t) t.gives x (types_of_values t.stack)) e h.0.todo)
 
   after_end_fits : (a : AfterStep) (go : Thread → SettledThread) → AfterFits m a → ((t : Thread) → a ≡ Goes t → ThreadFits m t → SettledFits (go t)) → SettledFits (after_end a go)
   after_end_fits (Goes t) go h next = next t refl h

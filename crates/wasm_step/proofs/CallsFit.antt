@@ -22,7 +22,7 @@ use Rattle.wasm_stack.specs.Call.{site_of}
 use Rattle.wasm_types.specs.Locals.{zero_of, zeros}
 use Rattle.wasm_values.specs.Values.{type_of_value, types_of_values}
 use Rattle.wasm_store.specs.Suits.{SuitsModule}
-use Rattle.wasm_step.specs.Fits.{known_operands, put_type, label_of_level, CodeLeaves, FramesFit, ThreadFits, CallFits}
+use Rattle.wasm_step.specs.Fits.{known_operands, put_type, label_of_level, IsTypedRemainder, FramesFit, ThreadFits, CallFits}
 use Rattle.wasm_step.specs.inside.Standing.{AfterFits}
 use Rattle.wasm_step.specs.Reduce as Reduce
 use Rattle.wasm_types.specs.Functions.{imported_type, own_type, type_of, same_types, same_type, own_func}
@@ -68,7 +68,7 @@ types_of_zeros (d ∷ ds) e =
 
 -- the body of a function of a valid module leaves its result, and its locals start as values of their types
 pub record BodyFits (m : Module) (func : Func) (type : FuncType) : Type 0 where
-  pub body : CodeLeaves (context_of m (type.params ++ expand_locals func.locals) (result_of type)) (result_of type ∷ []) (result_of type) func.body []
+  pub body : IsTypedRemainder (context_of m (type.params ++ expand_locals func.locals) (result_of type)) (result_of type ∷ []) (result_of type) func.body []
   pub zeros : types_of_values (zeros func.locals) ≡ expand_locals func.locals
 
 pub body_fits : (m : Module) (f : ℕ) (func : Func) (type : FuncType) → IsValid m → own_func m f ≡ Some func → slice_get m.types func.type_index ≡ Some type → BodyFits m func type
@@ -145,7 +145,7 @@ module _ (m : Module) where
           locals = locals;
           returns = refl;
           around = (refl, refl, refl);
-          todo = subst (λ l. CodeLeaves c' (l ∷ []) (result_of type) func.body []) (sym (label_true (result_of type))) b.body;
+          todo = subst (λ l. IsTypedRemainder c' (l ∷ []) (result_of type) func.body []) (sym (label_true (result_of type))) b.body;
         },
         frames,
       )

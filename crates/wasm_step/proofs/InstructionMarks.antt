@@ -8,7 +8,7 @@ use Rattle.wasm_types.specs.declared.code.Value.TheVariants.{I32, I64}
 use Rattle.wasm_types.specs.Code.{Tree, GlobalSet, Store as StoreIn, MemoryGrow}
 use Rattle.wasm_values.specs.Access.{store_width}
 use Rattle.wasm_values.specs.Values.{bits_of}
-use Rattle.wasm_store.specs.Marks.{GrowthMarks, MarkedStore, MarksFollow, NothingMarks, SetMarks, WritesMark}
+use Rattle.wasm_store.specs.Marks.{MarkedByGrowth, MarkedStore, MarkedTransitive, MarkedReflexive, SetMarks, WritesMark}
 use Rattle.wasm_store.specs.Store.{Store}
 use Rattle.wasm_step.specs.Burst.{BurstResult, SettledThread, At, Done, after_step, burst, one_step, one_step_at, settle}
 use Rattle.wasm_stack.specs.After.{AfterStep, Goes, Stops}
@@ -19,7 +19,7 @@ choice : (g : Store) (b : Bool) (p q : ThreadAndStore) → MarkedStore g p.store
 choice g true p q hp hq = hp
 choice g false p q hp hq = hq
 
-module _ (set : SetMarks) (grown : GrowthMarks) (written : WritesMark) (same : NothingMarks) (follow : MarksFollow) where
+module _ (set : SetMarks) (grown : MarkedByGrowth) (written : WritesMark) (same : MarkedReflexive) (follow : MarkedTransitive) where
   set_marks : (x : ℕ) (g : Store) (stack : List Value) (t : Thread) → MarkedStore g (set_global x g stack t).store
   set_marks x g [] t = same g
   set_marks x g (v ∷ rest) t = choice g (nat_lt x (length g.globals)) _ _ (set g x v) (same g)

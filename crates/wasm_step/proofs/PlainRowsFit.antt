@@ -17,7 +17,7 @@ use Rattle.wasm_types.specs.Numeric.{Operator, operator_of}
 use Rattle.wasm_types.specs.Stack.{BlockStack, is_exactly, pop_type, push_result, operate, push_operand}
 use Rattle.wasm_types.specs.Typing.{typed_instrs}
 use Rattle.wasm_values.specs.Values.{type_of_value, types_of_values}
-use Rattle.wasm_step.specs.Fits.{known_operands, CodeLeaves}
+use Rattle.wasm_step.specs.Fits.{known_operands, IsTypedRemainder}
 use Rattle.wasm_step.specs.inside.Standing.{AfterFits}
 use Rattle.wasm_values.specs.Numeric.{Computed, Gives, Fails, IsNone, is_unary, unary, binary}
 use Rattle.wasm_stack.specs.Rows as Rows
@@ -81,7 +81,7 @@ module _ (m : Module) (c : Context) where
   End' t = is_exactly t.gives
 
   abbrev pub Before : Tree → Thread → List ValType → Type 0
-  Before i t ks = CodeLeaves c (labels_at m t) t.gives (Then i t.todo) ks
+  Before i t ks = IsTypedRemainder c (labels_at m t) t.gives (Then i t.todo) ks
 
   pub on_top_fits : (t : Thread) (go : Value → Thread → AfterStep) (stack : List Value) (k : ValType) (ks : List ValType) → types_of_values stack ≡ k ∷ ks → ((v : Value) (rest : List Value) → type_of_value v ≡ k → types_of_values rest ≡ ks → AfterFits m (go v (record t { stack = rest }))) → AfterFits m (on_top stack t go)
   on_top_fits t go [] k ks e next = cc

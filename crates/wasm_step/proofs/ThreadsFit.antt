@@ -13,7 +13,7 @@ use Rattle.wasm_types.specs.Maybe.{◌>>=◌}
 use Rattle.wasm_types.specs.Modules.{Module}
 use Rattle.wasm_types.specs.Stack.{BlockStack, is_same, is_exactly, pop_type, pop_result}
 use Rattle.wasm_values.specs.Values.{type_of_value, types_of_values}
-use Rattle.wasm_step.specs.Fits.{TargetFits, known_operands, put_type, label_of_level, labels_of, CodeLeaves, LevelsFit, IsContext, FramesFit, ThreadFits}
+use Rattle.wasm_step.specs.Fits.{TargetFits, known_operands, put_type, label_of_level, labels_of, IsTypedRemainder, LevelsFit, IsContext, FramesFit, ThreadFits}
 use Rattle.wasm_step.specs.inside.Standing.{AfterFits}
 use Rattle.wasm_stack.specs.Control.{jump_by, carried_operand, carry_top, with_carried, with_result, resumed_caller, leave_frame, landed_branch, jump, branch, at_end_of_level, ended_level}
 use Rattle.wasm_stack.specs.After.{AfterStep}
@@ -119,7 +119,7 @@ module _ (m : Module) where
 
   -- what is left in the thread's innermost level is typed from these operands
   abbrev pub LeavesAt : Context → Thread → List ValType → Type 0
-  LeavesAt c t ks = CodeLeaves c (labels_at t) t.gives t.todo ks
+  LeavesAt c t ks = IsTypedRemainder c (labels_at t) t.gives t.todo ks
 
   pub goes : (c : Context) (t : Thread) → RestOf c t → LeavesAt c t (types_of_values t.stack) → ThreadFits m t
   goes c t r h = (record { context = c; function = r.0; locals = r.1; returns = r.2; around = r.3; todo = h }, r.4)
@@ -214,7 +214,7 @@ module _ (m : Module) where
       let stack = map-append type_of_value t.stack l.stack ∙ ap (λ ks. ks ++ types_of_values l.stack) es ∙ put_type-append t.gives [] (types_of_values l.stack) in
       goes c (record t { gives = l.gives; todo = l.todo; stack = t.stack ++ l.stack; target = l.target; carries = l.carries; loops = l.loops; outer = ls })
       (r.0, r.1, r.2, r.3.3, r.4)
-      (subst (λ ks. CodeLeaves c (labels_of (l ∷ ls)) l.gives l.todo ks) (sym stack) r.3.2)
+      (subst (λ ks. IsTypedRemainder c (labels_of (l ∷ ls)) l.gives l.todo ks) (sym stack) r.3.2)
 
   pub rest_of : (t : Thread) (h : ThreadFits m t) → RestOf h.0.context t
   rest_of t h = (h.0.function, h.0.locals, h.0.returns, h.0.around, h.1)
@@ -222,5 +222,5 @@ module _ (m : Module) where
   -- the end of a level or of a frame fits
   pub ended_fits : (t : Thread) → t.todo ≡ End → ThreadFits m t → AfterFits m (ended_level t)
   ended_fits t none h =
-      let left = subst (λ x. CodeLeaves h.0.context (labels_at t) t.gives x (types_of_values t.stack)) none h.0.todo in
+      let left = subst (λ x. IsTypedRemainder h.0.context (labels_at t) t.gives x (types_of_values t.stack)) none h.0.todo in
       end_fits h.0.context t.outer t (rest_of t h) (exactly t.gives (types_of_values t.stack) left.typed)

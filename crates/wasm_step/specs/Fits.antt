@@ -39,15 +39,15 @@ labels_of [] = []
 labels_of (l ∷ ls) = label_of_level l.gives l.carries ∷ labels_of ls
 
 -- the code, from operands of these types, is typed to exactly this result, and has no floats
-pub record CodeLeaves (c : Context) (labels : Labels) (gives : Option ValType) (code : Trees) (ks : List ValType) : Type 0 where
+pub record IsTypedRemainder (c : Context) (labels : Labels) (gives : Option ValType) (code : Trees) (ks : List ValType) : Type 0 where
   pub typed : IsSome (typed_instrs c code labels (known_operands ks) >>= is_exactly gives)
   pub no_float : have_float code ≡ false
 
 -- Where a branch to a level goes on, in the level around it or at the level's own start, is typed from what
 -- the branch carries.
 abbrev pub TargetFits : Bool → Context → OpenedLevel → Level → List Level → Type 0
-TargetFits false c o l ls = CodeLeaves c (labels_of (l ∷ ls)) l.gives o.target (put_type (label_of_level o.gives o.carries) (types_of_values l.stack))
-TargetFits true c o l ls = CodeLeaves c (label_of_level o.gives o.carries ∷ labels_of (l ∷ ls)) o.gives o.target []
+TargetFits false c o l ls = IsTypedRemainder c (labels_of (l ∷ ls)) l.gives o.target (put_type (label_of_level o.gives o.carries) (types_of_values l.stack))
+TargetFits true c o l ls = IsTypedRemainder c (label_of_level o.gives o.carries ∷ labels_of (l ∷ ls)) o.gives o.target []
 
 -- The levels around one that was opened so: what is left in each is typed from its operands, after the end
 -- of the level in it and after a branch to that. The outermost leaves the function's result.
@@ -56,7 +56,7 @@ LevelsFit c o [] = (o.gives ≡ c.gives) × (o.carries ≡ is_some c.gives) × (
 LevelsFit c o (l ∷ ls) =
     (o.carries ≡ is_some (label_of_level o.gives o.carries))
     × TargetFits o.loops c o l ls
-    × CodeLeaves c (labels_of (l ∷ ls)) l.gives l.todo (put_type o.gives (types_of_values l.stack))
+    × IsTypedRemainder c (labels_of (l ∷ ls)) l.gives l.todo (put_type o.gives (types_of_values l.stack))
     × LevelsFit c (as_opened l) ls
 
 -- the code of the module's own function f may name this
@@ -74,7 +74,7 @@ pub record FrameFits (m : Module) (waits : Option ValType) (f : Frame) : Type 0 
   pub locals : types_of_values f.locals ≡ context.locals
   pub returns : f.returns ≡ is_some context.gives
   pub around : LevelsFit context (as_opened f.here) f.outer
-  pub todo : CodeLeaves context (labels_of (f.here ∷ f.outer)) f.here.gives f.here.todo (put_type waits (types_of_values f.here.stack))
+  pub todo : IsTypedRemainder context (labels_of (f.here ∷ f.outer)) f.here.gives f.here.todo (put_type waits (types_of_values f.here.stack))
 
 abbrev pub FramesFit : Module → Option ValType → List Frame → Type 0
 FramesFit m waits [] = Unit {0}

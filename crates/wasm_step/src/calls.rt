@@ -7,7 +7,7 @@ ghost use Rattle.wasm_types.specs.Modules.{func_type, module_of};
 ghost use Rattle.wasm_stack.specs.Answer.{after_of};
 ghost use Rattle.wasm_stack.specs.Limits.{ThreadWithin};
 ghost use Rattle.wasm_stack.specs.After.{Goes, frame_goes_on, limited_thread};
-ghost use Rattle.wasm_step.specs.inside.Wanted.{CallsAsWanted};
+ghost use Rattle.wasm_step.specs.inside.Wanted.{MatchesCallType};
 ghost use Rattle.wasm_step.specs.Reduce.{call, call_element, call_indirect, call_library, call_own, reduce_instruction, store_stays};
 ghost use Rattle.wasm_step.specs.Strand.{started_above};
 ghost use Rattle.wasm_store.specs.Store.{Store};
@@ -303,7 +303,7 @@ fn own_typed<'m>(module: &'m ValidModule, index: u32) -> Option<(Callee<'m>, &'m
 #[inline(always)]
 fn has_type(module: &Module, callee: &Callee<'_>, typing: &FuncType, type_index: u32) -> bool
     requires { slice_get (module_of «module».now).types callee.now.type_index ≡ Some (func_type typing.now) }
-    ensures { IsTrue result → CallsAsWanted (module_of «module».now) (func_type typing.now) (slice_get (module_of «module».now).types type_index) }
+    ensures { IsTrue result → MatchesCallType (module_of «module».now) (func_type typing.now) (slice_get (module_of «module».now).types type_index) }
 {
     if callee.type_index() == type_index {
         return true;

@@ -7,7 +7,7 @@ use Rattle.guest_memory.specs.Laws.{KeepsPages, NoLaterWhenGrown, NoLaterWhenWri
 use Rattle.guest_memory.specs.Memory.{Memory, can_grow, no_stamps, zero_bytes}
 use Rattle.guest_memory.specs.Stamps.{AreWithin}
 use Rattle.wasm_types.specs.declared.code.Value.{Value}
-use Rattle.wasm_store.specs.Marks.{GrowthMarks, MarksFollow, StoreMarksTell, MarksWithin, NothingMarks, SetMarks, WritesMark}
+use Rattle.wasm_store.specs.Marks.{MarkedByGrowth, MarkedTransitive, StoreMarksTell, MarksWithin, MarkedReflexive, SetMarks, WritesMark}
 use Rattle.wasm_store.specs.Store.{Store}
 
 -- ---- nothing, and one thing after the other
@@ -15,7 +15,7 @@ use Rattle.wasm_store.specs.Store.{Store}
 same_told : (number : ℕ) (memory : Memory) → StampsTell number memory memory
 same_told number memory = record { grows = omega arith; longer = omega arith; pages = λ page h. record { stamp = refl; bytes = λ some inside. refl } }
 
-pub same : NothingMarks
+pub same : MarkedReflexive
 same g = record {
   later = record { number = refl; within = λ w. w };
   told = record { memory = same_told g.memory.number g.memory; places = refl; globals = λ n h. record { stamp = refl; value = λ some. refl }; size = λ h. (refl, refl) };
@@ -48,7 +48,7 @@ then_tell number a b c first later = record {
       (last.0 ∙ before.0, last.1 ∙ before.1);
 }
 
-pub follow : MarksFollow
+pub follow : MarkedTransitive
 follow a b c first later = record {
   later = record {
     number = later.later.number ∙ first.later.number;
@@ -133,7 +133,7 @@ either_within : (b : Bool) (number s : ℕ) → s ≤ number → cond b number s
 either_within true number s h = omega arith
 either_within false number s h = h
 
-pub grown : NoLaterWhenGrown → TellsWhenGrown → GrowthMarks
+pub grown : NoLaterWhenGrown → TellsWhenGrown → MarkedByGrowth
 grown later tells g pages =
     let no_later = later g.memory pages in
     record {

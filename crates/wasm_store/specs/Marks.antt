@@ -41,15 +41,15 @@ pub record MarkedStore (old new : Store) : Type 0 where
 abbrev pub SetMarks : Type 0
 SetMarks = (g : Store) (n : ℕ) (v : Value) → MarkedStore g (with_global g n v)
 
-abbrev pub GrowthMarks : Type 0
-GrowthMarks = (g : Store) (pages : ℕ) → MarkedStore g (with_growth g pages)
+abbrev pub MarkedByGrowth : Type 0
+MarkedByGrowth = (g : Store) (pages : ℕ) → MarkedStore g (with_growth g pages)
 
 abbrev pub WritesMark : Type 0
 WritesMark = (g : Store) (addr : ℕ) (piece : List ℕ) → MarkedStore g (record g { memory = with_bytes g.memory addr piece })
 
-abbrev pub NothingMarks : Type 0
-NothingMarks = (g : Store) → MarkedStore g g
+abbrev pub MarkedReflexive : Type 0
+MarkedReflexive = (g : Store) → MarkedStore g g
 
 -- one thing after the other
-abbrev pub MarksFollow : Type 0
-MarksFollow = (a b c : Store) → MarkedStore a b → MarkedStore b c → MarkedStore a c
+abbrev pub MarkedTransitive : Type 0
+MarkedTransitive = (a b c : Store) → MarkedStore a b → MarkedStore b c → MarkedStore a c

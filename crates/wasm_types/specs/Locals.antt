@@ -19,6 +19,6 @@ zeros [] = []
 zeros (d ∷ ds) = replicate d.0 (zero_of d.1) ++ zeros ds
 
 -- how many locals these are, where a thread may have as many, and nothing where they are more
-abbrev pub CountsTo : List (ℕ × ValType) → Option ℕ → Type 0
-CountsTo ds (Some n) = (n ≡ length (zeros ds)) × (n ≤ most_thread_size)
-CountsTo ds None = most_thread_size < length (zeros ds)
+abbrev pub HasLocalCount : List (ℕ × ValType) → Option ℕ → Type 0
+HasLocalCount ds (Some n) = (n ≡ length (zeros ds)) × (n ≤ most_thread_size)
+HasLocalCount ds None = most_thread_size < length (zeros ds)

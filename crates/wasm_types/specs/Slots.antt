@@ -13,18 +13,18 @@ abbrev pub value_of_inside : Inside → Value
 value_of_inside s = value_by s.wide s.bits
 
 -- the first word is 0 with 32 bits, and 1 with 64
-abbrev pub IsBeside : ℕ → ℕ → Type 0
-IsBeside zero bits = bits < 2 ^ 32
-IsBeside (suc n) bits = n ≡ zero
+abbrev pub IsTypeWord : ℕ → ℕ → Type 0
+IsTypeWord zero bits = bits < 2 ^ 32
+IsTypeWord (suc n) bits = n ≡ zero
 
 abbrev pub IsSlot : Inside → Type 0
-IsSlot s = IsBeside s.wide s.bits
+IsSlot s = IsTypeWord s.wide s.bits
 
 abbrev pub slot_of : Value → Inside
 slot_of (I32 x) = record { wide = 0; bits = x }
 slot_of (I64 x) = record { wide = 1; bits = x }
 
-words_of : (wide bits : ℕ) → IsBeside wide bits → slot_of (value_by wide bits) ≡ record { wide = wide; bits = bits }
+words_of : (wide bits : ℕ) → IsTypeWord wide bits → slot_of (value_by wide bits) ≡ record { wide = wide; bits = bits }
 words_of zero bits h = refl
 words_of (suc n) bits h = ap (λ (k : ℕ). record { wide = suc k; bits = bits }) (sym h)
 

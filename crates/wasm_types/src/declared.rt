@@ -1,7 +1,7 @@
 // The locals that a function declares, and what they start as.
 ghost use Rattle.std.specs.Prelude.{◌≡◌, ◌++◌, IfOk, IfSome, OnOk, length, take};
 ghost use Rattle.wasm_types.specs.Context.{filled_runs};
-ghost use Rattle.wasm_types.specs.Locals.{CountsTo, zero_of, zeros};
+ghost use Rattle.wasm_types.specs.Locals.{HasLocalCount, zero_of, zeros};
 
 use crate::code::{ValType, Value};
 use crate::slot::Slot;
@@ -28,11 +28,11 @@ impl Model for Declared {
 
     ghost Value = { List (ℕ × ValType) };
 
-    ghost use Rattle.wasm_types.specs.Locals.{CountsTo, zeros};
+    ghost use Rattle.wasm_types.specs.Locals.{HasLocalCount, zeros};
 
     ghost view = { λ d. d.runs.items };
 
-    ghost invariant = { λ d. CountsTo d.runs.items d.count × IfSome d.starts (λ starts. starts.items ≡ zeros d.runs.items) };
+    ghost invariant = { λ d. HasLocalCount d.runs.items d.count × IfSome d.starts (λ starts. starts.items ≡ zeros d.runs.items) };
 }
 
 impl Declared {
@@ -60,7 +60,7 @@ impl Declared {
     /// How many locals there are. `None` comes where a thread may not have as many.
     #[inline(always)]
     pub fn count(&self) -> Option<usize>
-        ensures { CountsTo self.now result }
+        ensures { HasLocalCount self.now result }
     {
         self.count
     }
@@ -113,7 +113,7 @@ fn filled_runs(alloc: Global, locals: &[(u32, ValType)]) -> Result<Vec<(u32, Val
 
 // How many locals these runs have, if a thread may have as many.
 fn count_of(runs: &[(u32, ValType)]) -> Option<usize>
-    ensures { CountsTo runs.now result }
+    ensures { HasLocalCount runs.now result }
 {
     let mut count = 0;
     for run in runs {

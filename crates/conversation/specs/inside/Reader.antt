@@ -60,21 +60,21 @@ abbrev pub PrintsPart : {S : Type 0} → (S → List ℕ → Answered S) → S �
 PrintsPart answer state lines printed printed_after = (n : ℕ) × (printed_after ≡ append_known printed (take n (answers_of_lines answer state lines)))
 
 -- a session in this state was told these lines: it goes on, or ends, or could not say all
-abbrev pub SpokeLines : {X S : Type 0} → (X → S → Type 0) → (S → List ℕ → Answered S) → S → List (List ℕ) → Option (List ℕ) → Option (List ℕ) → Result X Ended → Type 0
-SpokeLines stands answer state lines printed printed_after (Ok session) =
+abbrev pub AnsweredLines : {X S : Type 0} → (X → S → Type 0) → (S → List ℕ → Answered S) → S → List (List ℕ) → Option (List ℕ) → Option (List ℕ) → Result X Ended → Type 0
+AnsweredLines stands answer state lines printed printed_after (Ok session) =
     (printed_after ≡ append_known printed (answers_of_lines answer state lines))
     × ((ends_in_lines answer state lines ≡ false) × stands session (state_after_lines answer state lines))
-SpokeLines stands answer state lines printed printed_after (Err cause.Done) =
+AnsweredLines stands answer state lines printed printed_after (Err cause.Done) =
     (printed_after ≡ append_known printed (answers_of_lines answer state lines)) × (ends_in_lines answer state lines ≡ true)
-SpokeLines stands answer state lines printed printed_after (Err cause.TooLarge) = ⊥
-SpokeLines stands answer state lines printed printed_after (Err cause.ReadFault) = ⊥
-SpokeLines stands answer state lines printed printed_after (Err cause.WriteFault) = PrintsPart answer state lines printed printed_after
-SpokeLines stands answer state lines printed printed_after (Err cause.NoMemory) = PrintsPart answer state lines printed printed_after
+AnsweredLines stands answer state lines printed printed_after (Err cause.TooLarge) = ⊥
+AnsweredLines stands answer state lines printed printed_after (Err cause.ReadFault) = ⊥
+AnsweredLines stands answer state lines printed printed_after (Err cause.WriteFault) = PrintsPart answer state lines printed printed_after
+AnsweredLines stands answer state lines printed printed_after (Err cause.NoMemory) = PrintsPart answer state lines printed printed_after
 
 -- this session was told them, in whatever state it stood
 unfoldable pub WasTold : {X S : Type 0} → (X → S → Type 0) → (S → List ℕ → Answered S) → X → List (List ℕ) → Option (List ℕ) → Option (List ℕ) → Result X Ended → Type 0
 WasTold {X} {S} stands answer session lines printed printed_after result =
-    (state : S) → stands session state → SpokeLines stands answer state lines printed printed_after result
+    (state : S) → stands session state → AnsweredLines stands answer state lines printed printed_after result
 
 -- a session that began so took these bytes, and answered each whole line of them; none of them ends it
 pub record SessionStands {X S : Type 0} (stands : X → S → Type 0) (talker : Talker S) (printed now : Option (List ℕ)) (reader : SessionReader X) (taken : List ℕ) : Type 0 where
@@ -217,16 +217,16 @@ abbrev pub SaysSome : {S : Type 0} → Talker S → Option (List ℕ) → Option
 SaysSome talker printed now input = (n : ℕ) × (now ≡ append_known printed (take n (outcome_text (conversation_outcome talker input))))
 
 -- what was said of an input of which these bytes were taken: what had been printed before, and what then was
-abbrev pub SaidOfInput : {S : Type 0} → Talker S → Option (List ℕ) × Option (List ℕ) → List ℕ → List ℕ → Ended → Type 0
-SaidOfInput talker printed taken input cause.Done = SessionConcludes talker printed.0 printed.1 taken input
-SaidOfInput talker printed taken input cause.TooLarge =
+abbrev pub SessionEndedAs : {S : Type 0} → Talker S → Option (List ℕ) × Option (List ℕ) → List ℕ → List ℕ → Ended → Type 0
+SessionEndedAs talker printed taken input cause.Done = SessionConcludes talker printed.0 printed.1 taken input
+SessionEndedAs talker printed taken input cause.TooLarge =
     (is_large_input talker input ≡ true) × (printed.1 ≡ append_known printed.0 (spoken_text talker (early_lines input)))
-SaidOfInput talker printed taken input cause.ReadFault = SessionPauses talker printed.0 printed.1 taken
-SaidOfInput talker printed taken input cause.WriteFault = SaysSome talker printed.0 printed.1 input
-SaidOfInput talker printed taken input cause.NoMemory = SaysSome talker printed.0 printed.1 input
+SessionEndedAs talker printed taken input cause.ReadFault = SessionPauses talker printed.0 printed.1 taken
+SessionEndedAs talker printed taken input cause.WriteFault = SaysSome talker printed.0 printed.1 input
+SessionEndedAs talker printed taken input cause.NoMemory = SaysSome talker printed.0 printed.1 input
 
 -- these bytes came in turn, each piece once all whole lines before it were answered
-pub record CameInTurn {S : Type 0} (talker : Talker S) (printed : Option (List ℕ)) (taken : List ℕ) (earlier : List Asking) (asked_after : Option (List Asking)) : Type 0 where
+pub record ReadLineByLine {S : Type 0} (talker : Talker S) (printed : Option (List ℕ)) (taken : List ℕ) (earlier : List Asking) (asked_after : Option (List Asking)) : Type 0 where
   pub askings : List Asking
   pub noted : asked_after ≡ Some (earlier ++ askings)
   pub in_turn : AreAskedInTurn talker printed [] askings
@@ -237,8 +237,8 @@ pub record SessionHolds {S : Type 0} (talker : Talker S) (old new : TerminalStat
   pub taken : List ℕ
   pub asks : AsksAtTerminal talker taken
   pub read : WhenTold old.hearing.left (λ input. TakesOfInput input new.hearing.left taken)
-  pub turns : WhenTold old.hearing.asked (λ earlier. CameInTurn talker old.taken taken earlier new.hearing.asked)
-  pub said : WhenTold old.hearing.left (λ input. SaidOfInput talker (old.taken, new.taken) taken input why)
+  pub turns : WhenTold old.hearing.asked (λ earlier. ReadLineByLine talker old.taken taken earlier new.hearing.asked)
+  pub said : WhenTold old.hearing.left (λ input. SessionEndedAs talker (old.taken, new.taken) taken input why)
   pub large : why ≡ cause.TooLarge → (earlier : List ℕ) × (new.taken ≡ append_known old.taken earlier)
 
 -- from its opening on, a session is held so

@@ -2,7 +2,7 @@
 use Rattle.std.specs.Prelude.{◌≡◌, ℕ, suc, ◌++◌, Bool, true, false, List, Some, slice_get}
 use Rattle.group_order.specs.Order.{NodeEvent}
 use Rattle.group_state.specs.Place.{GroupPlace, events_of_replays}
-use Rattle.group_texts.specs.Texts.{event_line}
+use Rattle.group_text.specs.Texts.{event_line}
 use Rattle.lib_calls.specs.declared.entry.Entry.{Entry}
 use Rattle.friday_shell.specs.declared.state.PointsAndVariables.{PointsAndVariables}
 use Rattle.friday_shell.specs.declared.state.State.{State as Stands}

@@ -10,7 +10,7 @@ use Rattle.schedule_text.specs.declared.process.ProcessLine.{ProcessLine}
 use Rattle.guest_process.specs.Live.{Env, Event, live}
 use Rattle.guest_process.specs.OneEvent.{AgreesWithEvent as IsTold}
 use Rattle.guest_process.specs.State.{State}
-use Rattle.group_world.specs.Laws.{CanBe}
+use Rattle.group_world.specs.Laws.{IsPossibleHistory}
 use Rattle.group_world.specs.World.{World, after_event, surroundings_of, with_act, world_after}
 use Rattle.group_world.specs.History.{Deliver, Inject, Clock, Random, Signal, Kill}
 use Rattle.lossy_net.specs.Network.{nth_of, sent_by}
@@ -120,7 +120,7 @@ pub record KeepsUpWithRun (group : GroupStart) (done : RunProgress) (recorder : 
   pub apart : AllPairs (λ name other. name ≢ other) group.names
   pub count : length recorder.members.items ≡ processes_in_group group
   pub members : (p : ℕ) (m : Member) → slice_get recorder.members.items p ≡ Some m → IsMember group done.steps p m
-  pub can_be : CanBe (processes_in_group group) (history_of_steps done.steps)
+  pub can_be : IsPossibleHistory (processes_in_group group) (history_of_steps done.steps)
   pub world : recorder.world ≡ world_after (processes_in_group group) (history_of_steps done.steps)
   pub prints : (p : ℕ) (bytes : List ℕ) → slice_get recorder.prints p ≡ Some bytes → bytes ≡ prints (entries_of_steps done.steps p)
   pub acted : recorder.acted ≡ length done.steps
@@ -139,18 +139,18 @@ pub record RecordingUnderWay (recorder : Recorder) (told : Option Folder) : Type
   pub files : FilesOf group done before told
 
 -- a recorder that was to come as far as this has done so, or why not
-abbrev pub RecorderComes : GroupStart → RunProgress → Result ⊤ RecordError → Recorder → FolderChange → Type 0
-RecorderComes group next (Ok _) recorder folder = KeepsUpWithRun group next recorder × FilesOf group next folder.before folder.after
-RecorderComes group next (Err (errors.BadSegment p)) recorder folder = ⊥
-RecorderComes group next (Err (errors.LogFull item)) recorder folder = (next.full ≡ Some item) × FilesOf group next folder.before folder.after
-RecorderComes group next (Err errors.WriteFault) recorder folder = IsStoppedRecording group next.steps [] folder.before folder.after
-RecorderComes group next (Err errors.NoMemory) recorder folder = IsStoppedRecording group next.steps [] folder.before folder.after
+abbrev pub RecorderReaches : GroupStart → RunProgress → Result ⊤ RecordError → Recorder → FolderChange → Type 0
+RecorderReaches group next (Ok _) recorder folder = KeepsUpWithRun group next recorder × FilesOf group next folder.before folder.after
+RecorderReaches group next (Err (errors.BadSegment p)) recorder folder = ⊥
+RecorderReaches group next (Err (errors.LogFull item)) recorder folder = (next.full ≡ Some item) × FilesOf group next folder.before folder.after
+RecorderReaches group next (Err errors.WriteFault) recorder folder = IsStoppedRecording group next.steps [] folder.before folder.after
+RecorderReaches group next (Err errors.NoMemory) recorder folder = IsStoppedRecording group next.steps [] folder.before folder.after
 
 -- wherever the recorder stood, it is to come as far as what comes next there
-abbrev pub RecorderDoes : (GroupStart → RunProgress → RunProgress) → Recorder → Result ⊤ RecordError → Recorder → FolderChange → Type 0
-RecorderDoes next old result new folder =
+abbrev pub AdvancesRecorder : (GroupStart → RunProgress → RunProgress) → Recorder → Result ⊤ RecordError → Recorder → FolderChange → Type 0
+AdvancesRecorder next old result new folder =
     (group : GroupStart) (done : RunProgress) (first : Option Folder) → KeepsUpWithRun group done old → FilesOf group done first folder.before
-    → RecorderComes group (next group done) result new (change first folder.after)
+    → RecorderReaches group (next group done) result new (change first folder.after)
 
 -- for how many of so many processes it keeps what they print: for all where images are asked for, else for none
 abbrev pub prints_kept_for : Bool → ℕ → ℕ
@@ -179,6 +179,6 @@ abbrev pub summary_line_of : List ℕ → Bool → State → SummaryLine
 summary_line_of name killed S = record { name = name; events = S.events; end = S.end; killed = killed }
 
 -- it is what is to be said of the run up to where the recorder is
-abbrev pub SumsUpRun : List ProcessLine → Recorder → Summary → Type 0
-SumsUpRun lines recorder summary =
+abbrev pub IsSummaryOfRun : List ProcessLine → Recorder → Summary → Type 0
+IsSummaryOfRun lines recorder summary =
     (group : GroupStart) (done : RunProgress) → KeepsUpWithRun group done recorder → group.names ≡ map (λ line. line.name) lines → IsSummary group done summary

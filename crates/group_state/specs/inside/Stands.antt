@@ -36,8 +36,8 @@ pub record SameStand (stand copy : Stand) : Type 0 where
   pub last : copy.last ≡ stand.last
 
 -- the new ones are where a group is, if the old are
-abbrev pub StillStandGroups : List Stand → List Stand → Type 0
-StillStandGroups old new = (start : List Replaying) → AreStands start old → AreStands start new
+abbrev pub KeepsCheckpoints : List Stand → List Stand → Type 0
+KeepsCheckpoints old new = (start : List Replaying) → AreStands start old → AreStands start new
 
 -- if the old are and this one is
 abbrev pub KeepsStands : List Stand → Stand → List Stand → Type 0

@@ -22,7 +22,7 @@ state_of p = record {
 }
 
 -- what holds of each process of a valid module
-pub record IsOfModule (p : Body) : Type 0 where
+pub record BodyInvariant (p : Body) : Type 0 where
   pub same_module : module_of p.«module».now ≡ p.store.«module»
   pub suits : SuitsModule p.store
   pub fits : StateFits (state_of p)

@@ -9,7 +9,7 @@ use Rattle.guest_process.specs.State.{State}
 use Rattle.group_record.specs.Answer.{first_states, group_of}
 use Rattle.group_record.specs.Live.{IsLiveAfter, LiveParts, live_count, live_states}
 use Rattle.group_record.specs.Run.{GroupStart, RunProgress, RunStep, run}
-use Rattle.group_texts.specs.Texts.{named_event_text}
+use Rattle.group_text.specs.Texts.{named_event_text}
 use Rattle.play_command.specs.Play.{step_lines}
 use Rattle.play_command.specs.declared.told.Told.{Told}
 

@@ -7,6 +7,6 @@ use Rattle.proc_replay.specs.Replaying.{Replaying}
 use Rattle.schedule_command.specs.Schedule.{prints_text, unless_incomplete}
 
 -- the schedule of these logs was made, and nothing diverged
-abbrev pub IsMade : List Pair → List Loaded → List Replaying → WorkText → Type 0
-IsMade pairs ls start (answered.Done text) = unless_incomplete pairs ls start ≡ Ok (prints_text text)
-IsMade pairs ls start (answered.Diverged text) = ⊥
+abbrev pub IsScheduleText : List Pair → List Loaded → List Replaying → WorkText → Type 0
+IsScheduleText pairs ls start (answered.Done text) = unless_incomplete pairs ls start ≡ Ok (prints_text text)
+IsScheduleText pairs ls start (answered.Diverged text) = ⊥

@@ -1,10 +1,10 @@
 -- The points, the run of their programs and the ends of walks that values of the code stand for.
 use Rattle.std.specs.Prelude.{◌≡◌, ℕ, List, Option, option_map}
 use Rattle.group_state.specs.Place.{GroupPlace}
-use Rattle.embed_cmds.specs.Variables.{Variable}
-use Rattle.embed_cmds.specs.Tree.{program_body}
+use Rattle.point_programs.specs.Variables.{Variable}
+use Rattle.point_programs.specs.Tree.{program_body}
 use Rattle.shell_points.specs.declared.point.Point.{Point as Held}
-use Rattle.embed_cmds.specs.Running.{ProgramState}
+use Rattle.point_programs.specs.Running.{ProgramState}
 use Rattle.shell_points.specs.declared.points_run.PointsRun.{PointsRun}
 use Rattle.shell_points.specs.declared.back.Return.{Return as Ended}
 use Rattle.shell_points.specs.Points.{Point}

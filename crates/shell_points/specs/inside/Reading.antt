@@ -3,7 +3,7 @@ use Rattle.std.specs.Prelude.{◌≡◌, ℕ, ◌-◌, ◌&&◌, Bool, false, Li
 use Rattle.group_state.specs.Moves.{last_event_of}
 use Rattle.group_state.specs.Place.{GroupPlace}
 use Rattle.proc_replay.specs.Replaying.{Replaying}
-use Rattle.embed_cmds.specs.Running.{ProgramState}
+use Rattle.point_programs.specs.Running.{ProgramState}
 use Rattle.shell_points.specs.Firing.{firing_lines, has_due_point, is_due_by, firing_line_by, meets_condition, reading}
 use Rattle.shell_points.specs.Points.{Point}
 use Rattle.shell_points.specs.declared.back.Said.{Said}

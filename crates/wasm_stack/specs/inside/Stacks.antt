@@ -63,14 +63,14 @@ abbrev pub thread_of : Inside → Thread
 thread_of s = thread_in s.here s.labels.items s.locals.items s.operands.items s.callers.items
 
 -- each label's operands begin at or below those of the next, and at or above the frame's
-abbrev pub AreCut : ℕ → List StackLevel → ℕ → Type 0
-AreCut bottom [] top = bottom ≡ top
-AreCut bottom (l ∷ ls) top = (l.floor ≤ top) × AreCut bottom ls l.floor
+abbrev pub FloorsAscend : ℕ → List StackLevel → ℕ → Type 0
+FloorsAscend bottom [] top = bottom ≡ top
+FloorsAscend bottom (l ∷ ls) top = (l.floor ≤ top) × FloorsAscend bottom ls l.floor
 
 -- each frame has its part of the labels, the locals and the operands
 pub record IsFramePart (f : StackFrame) (labels : List StackLevel) (locals ops : List Value) : Type 0 where
   pub top : f.floor ≤ length ops
-  pub cut : AreCut f.bottom (reverse (drop f.labels_from labels)) f.floor
+  pub cut : FloorsAscend f.bottom (reverse (drop f.labels_from labels)) f.floor
   pub labels_in : f.labels_from ≤ length labels
   pub locals_in : f.locals_from ≤ length locals
 

@@ -4,7 +4,7 @@ use Rattle.command_run.specs.declared.refusal.WorkText.TheVariants as answered
 use Rattle.command_run.specs.CountLaws.{counts_still}
 use Rattle.command_run.specs.FileLaws.{some_files_made}
 use Rattle.command_run.specs.OutcomeLaws.{refused_makes_whole, refused_tells}
-use Rattle.log_pairs.specs.Meanings.{WereLoaded, pair_of}
+use Rattle.log_pairs.specs.Meanings.{LoadsFiles, pair_of}
 use Rattle.cut_command.specs.Cut.{cut_outcome}
 use Rattle.cut_command.proofs.CutOutcome.{files_made, found_past, opening_stops, work_cuts, work_makes, work_tells}
 use Rattle.cut_command.proofs.cutting.cut.Goals as goal
@@ -23,7 +23,7 @@ returns-in_err-replayers-clause-tells g c =
     let pairs = map pair_of c.args.pairs.now in
     let told = g.F.Files.told c.args.files.now in
     let stops = opening_stops c.args.process c.args.event pairs told c.in_err-replayers.field-0.0
-    (c.in_err-replayers.ensures.answer pairs told (subst (WereLoaded pairs told) (sym c.deref.ensures.value) c.in_ok-all.ensures.answer)) in
+    (c.in_err-replayers.ensures.answer pairs told (subst (LoadsFiles pairs told) (sym c.deref.ensures.value) c.in_ok-all.ensures.answer)) in
     rw (p.1, p.2) (refused_tells (cut_outcome c.args.process c.args.event pairs) told c.in_err-replayers.field-0.0 stops)
 
 pub returns-in_err-replayers-clause-makes : goal.returns-in_err-replayers-clause-makes
@@ -32,7 +32,7 @@ returns-in_err-replayers-clause-makes g c =
     let pairs = map pair_of c.args.pairs.now in
     let told = g.F.Files.told c.args.files.now in
     let stops = opening_stops c.args.process c.args.event pairs told c.in_err-replayers.field-0.0
-    (c.in_err-replayers.ensures.answer pairs told (subst (WereLoaded pairs told) (sym c.deref.ensures.value) c.in_ok-all.ensures.answer)) in
+    (c.in_err-replayers.ensures.answer pairs told (subst (LoadsFiles pairs told) (sym c.deref.ensures.value) c.in_ok-all.ensures.answer)) in
     rw (p.1, p.2) (refused_makes_whole (cut_outcome c.args.process c.args.event pairs) told (g.F.Files.told c.load_all.new.files) c.in_err-replayers.field-0.0 stops c.load_all.ensures.same)
 
 pub returns-in_err-replayers-clause-counts : goal.returns-in_err-replayers-clause-counts
@@ -50,8 +50,8 @@ returns-in_err-past-clause-tells g c =
     let p = err_from_is_err_and c.from_residual-in_err-past.result c.from_residual-in_err-past.ensures.1 in
     let pairs = map pair_of c.args.pairs.now in
     let told = g.F.Files.told c.args.files.now in
-    let loaded = subst (WereLoaded pairs told) (sym c.deref-2.ensures.value) c.in_ok-all.ensures.answer in
-    let begun = c.in_ok-replayers.ensures.answer pairs told (subst (WereLoaded pairs told) (sym c.deref.ensures.value) c.in_ok-all.ensures.answer) in
+    let loaded = subst (LoadsFiles pairs told) (sym c.deref-2.ensures.value) c.in_ok-all.ensures.answer in
+    let begun = c.in_ok-replayers.ensures.answer pairs told (subst (LoadsFiles pairs told) (sym c.deref.ensures.value) c.in_ok-all.ensures.answer) in
     let stops = found_past c.args.process c.args.event pairs told c.deref-2.result.now c.in_ok-replayers.replayers.items (Err c.in_err-past.field-0.0) loaded begun c.in_err-past.ensures.answer in
     rw (p.1, p.2) (refused_tells (cut_outcome c.args.process c.args.event pairs) told c.in_err-past.field-0.0 stops)
 
@@ -60,8 +60,8 @@ returns-in_err-past-clause-makes g c =
     let p = err_from_is_err_and c.from_residual-in_err-past.result c.from_residual-in_err-past.ensures.1 in
     let pairs = map pair_of c.args.pairs.now in
     let told = g.F.Files.told c.args.files.now in
-    let loaded = subst (WereLoaded pairs told) (sym c.deref-2.ensures.value) c.in_ok-all.ensures.answer in
-    let begun = c.in_ok-replayers.ensures.answer pairs told (subst (WereLoaded pairs told) (sym c.deref.ensures.value) c.in_ok-all.ensures.answer) in
+    let loaded = subst (LoadsFiles pairs told) (sym c.deref-2.ensures.value) c.in_ok-all.ensures.answer in
+    let begun = c.in_ok-replayers.ensures.answer pairs told (subst (LoadsFiles pairs told) (sym c.deref.ensures.value) c.in_ok-all.ensures.answer) in
     let stops = found_past c.args.process c.args.event pairs told c.deref-2.result.now c.in_ok-replayers.replayers.items (Err c.in_err-past.field-0.0) loaded begun c.in_err-past.ensures.answer in
     rw (p.1, p.2) (refused_makes_whole (cut_outcome c.args.process c.args.event pairs) told (g.F.Files.told c.load_all.new.files) c.in_err-past.field-0.0 stops c.load_all.ensures.same)
 
@@ -80,8 +80,8 @@ returns-in_err-write_cuts-clause-makes g c =
     let p = err_from_is_err_and c.from_residual-in_err-write_cuts.result c.from_residual-in_err-write_cuts.ensures.1 in
     let pairs = map pair_of c.args.pairs.now in
     let told = g.F.Files.told c.args.files.now in
-    let loaded = subst (WereLoaded pairs told) (sym c.deref-2.ensures.value) c.in_ok-all.ensures.answer in
-    let begun = c.in_ok-replayers.ensures.answer pairs told (subst (WereLoaded pairs told) (sym c.deref.ensures.value) c.in_ok-all.ensures.answer) in
+    let loaded = subst (LoadsFiles pairs told) (sym c.deref-2.ensures.value) c.in_ok-all.ensures.answer in
+    let begun = c.in_ok-replayers.ensures.answer pairs told (subst (LoadsFiles pairs told) (sym c.deref.ensures.value) c.in_ok-all.ensures.answer) in
     let works = found_past c.args.process c.args.event pairs told c.deref-2.result.now c.in_ok-replayers.replayers.items (Ok c.in_ok-past.past) loaded begun c.in_ok-past.ensures.answer in
     let e = c.in_err-write_cuts.field-0.0 in
     rw (p.1, p.2)
@@ -92,8 +92,8 @@ pub returns-clause-tells : goal.returns-clause-tells
 returns-clause-tells g c =
     let pairs = map pair_of c.args.pairs.now in
     let told = g.F.Files.told c.args.files.now in
-    let loaded = subst (WereLoaded pairs told) (sym c.deref-2.ensures.value) c.in_ok-all.ensures.answer in
-    let begun = c.in_ok-replayers.ensures.answer pairs told (subst (WereLoaded pairs told) (sym c.deref.ensures.value) c.in_ok-all.ensures.answer) in
+    let loaded = subst (LoadsFiles pairs told) (sym c.deref-2.ensures.value) c.in_ok-all.ensures.answer in
+    let begun = c.in_ok-replayers.ensures.answer pairs told (subst (LoadsFiles pairs told) (sym c.deref.ensures.value) c.in_ok-all.ensures.answer) in
     let works = found_past c.args.process c.args.event pairs told c.deref-2.result.now c.in_ok-replayers.replayers.items (Ok c.in_ok-past.past) loaded begun c.in_ok-past.ensures.answer in
     work_tells c.args.process c.args.event pairs told c.in_ok-past.past works
 
@@ -101,8 +101,8 @@ pub returns-clause-makes : goal.returns-clause-makes
 returns-clause-makes g c =
     let pairs = map pair_of c.args.pairs.now in
     let told = g.F.Files.told c.args.files.now in
-    let loaded = subst (WereLoaded pairs told) (sym c.deref-2.ensures.value) c.in_ok-all.ensures.answer in
-    let begun = c.in_ok-replayers.ensures.answer pairs told (subst (WereLoaded pairs told) (sym c.deref.ensures.value) c.in_ok-all.ensures.answer) in
+    let loaded = subst (LoadsFiles pairs told) (sym c.deref-2.ensures.value) c.in_ok-all.ensures.answer in
+    let begun = c.in_ok-replayers.ensures.answer pairs told (subst (LoadsFiles pairs told) (sym c.deref.ensures.value) c.in_ok-all.ensures.answer) in
     let works = found_past c.args.process c.args.event pairs told c.deref-2.result.now c.in_ok-replayers.replayers.items (Ok c.in_ok-past.past) loaded begun c.in_ok-past.ensures.answer in
     work_makes c.args.process c.args.event pairs told c.in_ok-past.past works (g.F.Files.told c.write_cuts.new.files) (Ok (answered.Done c.in_ok-past.past.text))
     (files_made (Ok tt) c.deref-3.result.now c.in_ok-past.past.fronts.items (g.F.Files.told c.load_all.new.files) told (g.F.Files.told c.write_cuts.new.files) c.deref-3.ensures.value c.load_all.ensures.same c.in_ok-write_cuts.ensures.made)
@@ -111,7 +111,7 @@ pub returns-clause-least : goal.returns-clause-least
 returns-clause-least g c =
     let pairs = map pair_of c.args.pairs.now in
     let told = g.F.Files.told c.args.files.now in
-    let loaded = subst (WereLoaded pairs told) (sym c.deref-2.ensures.value) c.in_ok-all.ensures.answer in
-    let begun = c.in_ok-replayers.ensures.answer pairs told (subst (WereLoaded pairs told) (sym c.deref.ensures.value) c.in_ok-all.ensures.answer) in
+    let loaded = subst (LoadsFiles pairs told) (sym c.deref-2.ensures.value) c.in_ok-all.ensures.answer in
+    let begun = c.in_ok-replayers.ensures.answer pairs told (subst (LoadsFiles pairs told) (sym c.deref.ensures.value) c.in_ok-all.ensures.answer) in
     let works = found_past c.args.process c.args.event pairs told c.deref-2.result.now c.in_ok-replayers.replayers.items (Ok c.in_ok-past.past) loaded begun c.in_ok-past.ensures.answer in
     work_cuts c.args.process c.args.event pairs told c.in_ok-past.past works c.in_ok-replayers.replayers.items begun c.in_ok-past.ensures.least

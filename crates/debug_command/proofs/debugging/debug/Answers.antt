@@ -2,7 +2,7 @@ use Rattle.std.proofs.Common.{List, map, subst, sym}
 use Rattle.command_run.specs.CountLaws.{counts_none, counts_of_part, counts_still}
 use Rattle.command_run.specs.Run.{Outside, outside}
 use Rattle.log_pairs.specs.declared.pairs.Loaded.{Loaded}
-use Rattle.log_pairs.specs.Meanings.{WereLoaded, pair_of}
+use Rattle.log_pairs.specs.Meanings.{LoadsFiles, pair_of}
 use Rattle.conversation.specs.OpeningLaws.{opening_performed, run_conversed, run_unopened}
 use Rattle.debug_command.specs.Debug.{debug_opener}
 use Rattle.debug_command.proofs.debugging.debug.Goals as goal
@@ -21,7 +21,7 @@ returns-in-Ok-begin_all g c =
     let pairs = map pair_of c.args.pairs.now in
     let told = g.F.Files.told c.args.files.now in
     run_conversed (debug_opener pairs) c.in-Ok-begin_all.replayers.items c.debug_lines.result _ _
-    (c.in-Ok-begin_all.ensures.answer pairs told (subst (λ (all : List Loaded). WereLoaded pairs told all) (sym c.deref.ensures.value) c.in-Ok.ensures.answer))
+    (c.in-Ok-begin_all.ensures.answer pairs told (subst (λ (all : List Loaded). LoadsFiles pairs told all) (sym c.deref.ensures.value) c.in-Ok.ensures.answer))
     c.debug_lines.ensures c.load_all.ensures.same (counts_none _ _ _ c.in-Ok.ensures.counts)
 
 pub returns : goal.returns
@@ -33,7 +33,7 @@ returns g c =
     run_unopened (debug_opener pairs) c.in-Err-begin_all.refusal c.finish-in-Err-begin_all.result old new
     (c.finish-in-Err-begin_all.ensures _ _ _
     (opening_performed (debug_opener pairs) c.in-Err-begin_all.refusal old new
-    (c.in-Err-begin_all.ensures.answer pairs told (subst (λ (all : List Loaded). WereLoaded pairs told all) (sym c.deref.ensures.value) c.in-Ok.ensures.answer))
+    (c.in-Err-begin_all.ensures.answer pairs told (subst (λ (all : List Loaded). LoadsFiles pairs told all) (sym c.deref.ensures.value) c.in-Ok.ensures.answer))
     (c.in-Err-begin_all.ensures.cause _ _)
     (counts_still _ _ _ _ c.in-Err-begin_all.ensures.still c.in-Ok.ensures.counts)
     c.load_all.ensures.same))

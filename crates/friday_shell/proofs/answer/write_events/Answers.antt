@@ -1,7 +1,7 @@
 use Rattle.std.proofs.Common.{◌≡◌, ◌∙◌, ◌+◌, ◌++◌, Some, suc, ap, sym, arith}
 use Rattle.std.specs.Prelude.{slice_get}
 use Rattle.group_state.specs.Place.{GroupPlace, events_of_replays}
-use Rattle.group_texts.specs.Texts.{event_line}
+use Rattle.group_text.specs.Texts.{event_line}
 use Rattle.friday_shell.proofs.EventLines.{events_more}
 use Rattle.friday_shell.proofs.answer.write_events.Goals as goal
 

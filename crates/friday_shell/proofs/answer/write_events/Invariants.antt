@@ -1,6 +1,6 @@
 use Rattle.std.proofs.Common.{◌≡◌, ◌++◌, suc, drop, take}
 use Rattle.group_state.specs.Place.{events_of_replays}
-use Rattle.group_texts.specs.Texts.{event_lines}
+use Rattle.group_text.specs.Texts.{event_lines}
 use Rattle.friday_shell.proofs.answer.write_events.Given as goal
 
 -- what is written, with the lines of the events still to come, is the whole

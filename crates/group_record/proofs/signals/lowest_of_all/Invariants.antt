@@ -1,6 +1,6 @@
 use Rattle.std.proofs.Common.{◌≡◌, ◌+◌, ◌-◌}
 use Rattle.lib_calls.specs.Answer.{Answer}
-use Rattle.signal_points.specs.Signals.{most_signal}
+use Rattle.guest_signals.specs.Signals.{most_signal}
 use Rattle.guest_process.specs.Live.{is_ready_signal, lowest_signal}
 use Rattle.group_world.specs.World.{has_pending}
 use Rattle.group_record.specs.inside.Around.{handlers_at}

@@ -5,7 +5,7 @@ use Rattle.guest_module.specs.Valid.{IsValid}
 use Rattle.wasm_step.specs.Strand.{Strand}
 use Rattle.guest_process.specs.declared.body.Body.{Body}
 use Rattle.guest_process.specs.declared.end.End.TheVariants.{Running}
-use Rattle.guest_process.specs.inside.Meanings.{IsOfModule}
+use Rattle.guest_process.specs.inside.Meanings.{BodyInvariant}
 use Rattle.guest_process.specs.Start.{waits_at_begin}
 use Rattle.guest_process.proofs.FirstState.{is_process}
 use Rattle.guest_process.proofs.process.begin.Goals as goal
@@ -34,4 +34,4 @@ invariant_of-result c =
       end = Running;
       trap_frames = c.new-3.result;
     } in
-    subst IsOfModule (sym c.in_ok-body.ensures.ok) (is_process c.stamps_no_later.ensures.written c.stamps_no_later.ensures.fresh p c.args.store s.thread c.requires.who c.requires.count c.requires.store valid c.requires.suits (rw (c.begin_event.ensures, crew, c.new.ensures, frames) refl))
+    subst BodyInvariant (sym c.in_ok-body.ensures.ok) (is_process c.stamps_no_later.ensures.written c.stamps_no_later.ensures.fresh p c.args.store s.thread c.requires.who c.requires.count c.requires.store valid c.requires.suits (rw (c.begin_event.ensures, crew, c.new.ensures, frames) refl))

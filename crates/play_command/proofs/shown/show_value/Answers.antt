@@ -1,6 +1,6 @@
 use Rattle.std.proofs.Common.{◌∙◌, ◌++◌, List, ℕ, ap}
 use Rattle.std.specs.Prelude.{codes}
-use Rattle.embed_cmds.specs.Running.{value_word}
+use Rattle.point_programs.specs.Running.{value_word}
 use Rattle.expression_text.specs.Expression.{expression_of}
 use Rattle.play_command.proofs.ShownTexts.{value_answer}
 use Rattle.play_command.proofs.shown.show_value.Goals as goal

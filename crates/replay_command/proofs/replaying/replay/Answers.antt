@@ -5,7 +5,7 @@ use Rattle.command_run.specs.CountLaws.{counts_still}
 use Rattle.command_run.specs.FileLaws.{all_first_made, some_files_made}
 use Rattle.command_run.specs.OutcomeLaws.{refused_makes_whole, refused_tells}
 use Rattle.log_pairs.specs.declared.pairs.Loaded.{Loaded}
-use Rattle.log_pairs.specs.Meanings.{WereLoaded, pair_of}
+use Rattle.log_pairs.specs.Meanings.{LoadsFiles, pair_of}
 use Rattle.replay_command.specs.Report.{replay_outcome}
 use Rattle.replay_command.proofs.ReplayOutcome.{can_work, clash_refused, images_begun, images_made, opening_stops, replay_makes, report_tells}
 use Rattle.replay_command.proofs.replaying.replay.Goals as goal
@@ -24,13 +24,13 @@ returns-in_err-all-clause-makes g c =
 pub returns-in_err-replayers-clause-tells : goal.returns-in_err-replayers-clause-tells
 returns-in_err-replayers-clause-tells g c =
     let p = err_from_is_err_and c.from_residual-in_err-replayers.result c.from_residual-in_err-replayers.ensures.1 in
-    rw (p.1, p.2) (refused_tells (replay_outcome c.args.images (map pair_of c.args.pairs.now)) (g.F.Files.told c.args.files.now) c.in_err-replayers.field-0.0 (opening_stops c.args.images (map pair_of c.args.pairs.now) (g.F.Files.told c.args.files.now) c.in_err-replayers.field-0.0 (c.in_err-replayers.ensures.answer (map pair_of c.args.pairs.now) (g.F.Files.told c.args.files.now) (subst (λ (all : List Loaded). WereLoaded (map pair_of c.args.pairs.now) (g.F.Files.told c.args.files.now) all) (sym c.deref.ensures.value) c.in_ok-all.ensures.answer))))
+    rw (p.1, p.2) (refused_tells (replay_outcome c.args.images (map pair_of c.args.pairs.now)) (g.F.Files.told c.args.files.now) c.in_err-replayers.field-0.0 (opening_stops c.args.images (map pair_of c.args.pairs.now) (g.F.Files.told c.args.files.now) c.in_err-replayers.field-0.0 (c.in_err-replayers.ensures.answer (map pair_of c.args.pairs.now) (g.F.Files.told c.args.files.now) (subst (λ (all : List Loaded). LoadsFiles (map pair_of c.args.pairs.now) (g.F.Files.told c.args.files.now) all) (sym c.deref.ensures.value) c.in_ok-all.ensures.answer))))
 
 pub returns-in_err-replayers-clause-makes : goal.returns-in_err-replayers-clause-makes
 returns-in_err-replayers-clause-makes g c =
     let p = err_from_is_err_and c.from_residual-in_err-replayers.result c.from_residual-in_err-replayers.ensures.1 in
     rw (p.1, p.2)
-    (refused_makes_whole (replay_outcome c.args.images (map pair_of c.args.pairs.now)) (g.F.Files.told c.args.files.now) (g.F.Files.told c.load_all.new.files) c.in_err-replayers.field-0.0 (opening_stops c.args.images (map pair_of c.args.pairs.now) (g.F.Files.told c.args.files.now) c.in_err-replayers.field-0.0 (c.in_err-replayers.ensures.answer (map pair_of c.args.pairs.now) (g.F.Files.told c.args.files.now) (subst (λ (all : List Loaded). WereLoaded (map pair_of c.args.pairs.now) (g.F.Files.told c.args.files.now) all) (sym c.deref.ensures.value) c.in_ok-all.ensures.answer))) c.load_all.ensures.same)
+    (refused_makes_whole (replay_outcome c.args.images (map pair_of c.args.pairs.now)) (g.F.Files.told c.args.files.now) (g.F.Files.told c.load_all.new.files) c.in_err-replayers.field-0.0 (opening_stops c.args.images (map pair_of c.args.pairs.now) (g.F.Files.told c.args.files.now) c.in_err-replayers.field-0.0 (c.in_err-replayers.ensures.answer (map pair_of c.args.pairs.now) (g.F.Files.told c.args.files.now) (subst (λ (all : List Loaded). LoadsFiles (map pair_of c.args.pairs.now) (g.F.Files.told c.args.files.now) all) (sym c.deref.ensures.value) c.in_ok-all.ensures.answer))) c.load_all.ensures.same)
 
 pub returns-in_err-replayers-clause-cause : goal.returns-in_err-replayers-clause-cause
 returns-in_err-replayers-clause-cause g c =
@@ -47,14 +47,14 @@ returns-in_err-keep_pairs-clause-tells g c =
     let p = err_from_is_err_and c.from_residual-in_err-keep_pairs.result c.from_residual-in_err-keep_pairs.ensures.1 in
     rw (p.1, p.2) (refused_tells (replay_outcome c.args.images (map pair_of c.args.pairs.now)) (g.F.Files.told c.args.files.now) c.in_err-keep_pairs.field-0.0
     (clash_refused c.args.images (map pair_of c.args.pairs.now) (g.F.Files.told c.args.files.now) c.in_ok-replayers.replayers.items
-    (c.in_ok-replayers.ensures.answer (map pair_of c.args.pairs.now) (g.F.Files.told c.args.files.now) (subst (λ (all : List Loaded). WereLoaded (map pair_of c.args.pairs.now) (g.F.Files.told c.args.files.now) all) (sym c.deref.ensures.value) c.in_ok-all.ensures.answer)) c.deref-2.result.now c.in_err-keep_pairs.field-0.0 c.deref-2.ensures.value c.in_err-keep_pairs.ensures.answer))
+    (c.in_ok-replayers.ensures.answer (map pair_of c.args.pairs.now) (g.F.Files.told c.args.files.now) (subst (λ (all : List Loaded). LoadsFiles (map pair_of c.args.pairs.now) (g.F.Files.told c.args.files.now) all) (sym c.deref.ensures.value) c.in_ok-all.ensures.answer)) c.deref-2.result.now c.in_err-keep_pairs.field-0.0 c.deref-2.ensures.value c.in_err-keep_pairs.ensures.answer))
 
 pub returns-in_err-keep_pairs-clause-makes : goal.returns-in_err-keep_pairs-clause-makes
 returns-in_err-keep_pairs-clause-makes g c =
     let p = err_from_is_err_and c.from_residual-in_err-keep_pairs.result c.from_residual-in_err-keep_pairs.ensures.1 in
     rw (p.1, p.2) (refused_makes_whole (replay_outcome c.args.images (map pair_of c.args.pairs.now)) (g.F.Files.told c.args.files.now) (g.F.Files.told c.load_all.new.files) c.in_err-keep_pairs.field-0.0
     (clash_refused c.args.images (map pair_of c.args.pairs.now) (g.F.Files.told c.args.files.now) c.in_ok-replayers.replayers.items
-    (c.in_ok-replayers.ensures.answer (map pair_of c.args.pairs.now) (g.F.Files.told c.args.files.now) (subst (λ (all : List Loaded). WereLoaded (map pair_of c.args.pairs.now) (g.F.Files.told c.args.files.now) all) (sym c.deref.ensures.value) c.in_ok-all.ensures.answer)) c.deref-2.result.now c.in_err-keep_pairs.field-0.0 c.deref-2.ensures.value c.in_err-keep_pairs.ensures.answer) c.load_all.ensures.same)
+    (c.in_ok-replayers.ensures.answer (map pair_of c.args.pairs.now) (g.F.Files.told c.args.files.now) (subst (λ (all : List Loaded). LoadsFiles (map pair_of c.args.pairs.now) (g.F.Files.told c.args.files.now) all) (sym c.deref.ensures.value) c.in_ok-all.ensures.answer)) c.deref-2.result.now c.in_err-keep_pairs.field-0.0 c.deref-2.ensures.value c.in_err-keep_pairs.ensures.answer) c.load_all.ensures.same)
 
 pub returns-in_err-keep_pairs-clause-cause : goal.returns-in_err-keep_pairs-clause-cause
 returns-in_err-keep_pairs-clause-cause g c =
@@ -72,7 +72,7 @@ returns-in_err-write_asked-clause-makes g c =
     rw (p.1, p.2)
     (replay_makes c.args.images (map pair_of c.args.pairs.now) (g.F.Files.told c.args.files.now) (g.F.Files.told c.write_asked.new.files) c.in_ok-replayers.replayers.items (Err c.in_err-write_asked.field-0.0)
     (can_work c.args.images (map pair_of c.args.pairs.now) (g.F.Files.told c.args.files.now) c.deref-2.result.now c.in_ok-replayers.replayers.items c.deref-2.ensures.value
-    (c.in_ok-replayers.ensures.answer (map pair_of c.args.pairs.now) (g.F.Files.told c.args.files.now) (subst (λ (all : List Loaded). WereLoaded (map pair_of c.args.pairs.now) (g.F.Files.told c.args.files.now) all) (sym c.deref.ensures.value) c.in_ok-all.ensures.answer)) c.in_ok-keep_pairs.ensures.answer)
+    (c.in_ok-replayers.ensures.answer (map pair_of c.args.pairs.now) (g.F.Files.told c.args.files.now) (subst (λ (all : List Loaded). LoadsFiles (map pair_of c.args.pairs.now) (g.F.Files.told c.args.files.now) all) (sym c.deref.ensures.value) c.in_ok-all.ensures.answer)) c.in_ok-keep_pairs.ensures.answer)
     (some_files_made c.in_err-write_asked.field-0.0 _ _ _ (images_begun c.args.images _ _ _ _ _ c.in_err-write_asked.field-0.0 c.deref-3.ensures.value c.load_all.ensures.same c.in_err-write_asked.ensures.made)))
 
 pub returns-in_err-report-clause-makes : goal.returns-in_err-report-clause-makes
@@ -81,7 +81,7 @@ returns-in_err-report-clause-makes g c =
     rw (p.1, p.2)
     (replay_makes c.args.images (map pair_of c.args.pairs.now) (g.F.Files.told c.args.files.now) (g.F.Files.told c.write_asked.new.files) c.in_ok-replayers.replayers.items (Err refusal.NoMemory)
     (can_work c.args.images (map pair_of c.args.pairs.now) (g.F.Files.told c.args.files.now) c.deref-2.result.now c.in_ok-replayers.replayers.items c.deref-2.ensures.value
-    (c.in_ok-replayers.ensures.answer (map pair_of c.args.pairs.now) (g.F.Files.told c.args.files.now) (subst (λ (all : List Loaded). WereLoaded (map pair_of c.args.pairs.now) (g.F.Files.told c.args.files.now) all) (sym c.deref.ensures.value) c.in_ok-all.ensures.answer)) c.in_ok-keep_pairs.ensures.answer)
+    (c.in_ok-replayers.ensures.answer (map pair_of c.args.pairs.now) (g.F.Files.told c.args.files.now) (subst (λ (all : List Loaded). LoadsFiles (map pair_of c.args.pairs.now) (g.F.Files.told c.args.files.now) all) (sym c.deref.ensures.value) c.in_ok-all.ensures.answer)) c.in_ok-keep_pairs.ensures.answer)
     (all_first_made _ _ _ (images_made c.args.images _ _ _ _ _ c.deref-3.ensures.value c.load_all.ensures.same c.in_ok-write_asked.ensures.made)))
 
 pub returns-in_err-print_report-clause-makes : goal.returns-in_err-print_report-clause-makes
@@ -90,19 +90,19 @@ returns-in_err-print_report-clause-makes g c =
     rw (p.1, p.2)
     (replay_makes c.args.images (map pair_of c.args.pairs.now) (g.F.Files.told c.args.files.now) (g.F.Files.told c.write_asked.new.files) c.in_ok-replayers.replayers.items (Err refusal.NoMemory)
     (can_work c.args.images (map pair_of c.args.pairs.now) (g.F.Files.told c.args.files.now) c.deref-2.result.now c.in_ok-replayers.replayers.items c.deref-2.ensures.value
-    (c.in_ok-replayers.ensures.answer (map pair_of c.args.pairs.now) (g.F.Files.told c.args.files.now) (subst (λ (all : List Loaded). WereLoaded (map pair_of c.args.pairs.now) (g.F.Files.told c.args.files.now) all) (sym c.deref.ensures.value) c.in_ok-all.ensures.answer)) c.in_ok-keep_pairs.ensures.answer)
+    (c.in_ok-replayers.ensures.answer (map pair_of c.args.pairs.now) (g.F.Files.told c.args.files.now) (subst (λ (all : List Loaded). LoadsFiles (map pair_of c.args.pairs.now) (g.F.Files.told c.args.files.now) all) (sym c.deref.ensures.value) c.in_ok-all.ensures.answer)) c.in_ok-keep_pairs.ensures.answer)
     (all_first_made _ _ _ (images_made c.args.images _ _ _ _ _ c.deref-3.ensures.value c.load_all.ensures.same c.in_ok-write_asked.ensures.made)))
 
 pub returns-clause-tells : goal.returns-clause-tells
 returns-clause-tells g c =
     report_tells c.args.images (map pair_of c.args.pairs.now) (g.F.Files.told c.args.files.now) c.in_ok-replayers.replayers.items c.in_ok-report.report c.in_ok-print_report.field-0
     (can_work c.args.images (map pair_of c.args.pairs.now) (g.F.Files.told c.args.files.now) c.deref-2.result.now c.in_ok-replayers.replayers.items c.deref-2.ensures.value
-    (c.in_ok-replayers.ensures.answer (map pair_of c.args.pairs.now) (g.F.Files.told c.args.files.now) (subst (λ (all : List Loaded). WereLoaded (map pair_of c.args.pairs.now) (g.F.Files.told c.args.files.now) all) (sym c.deref.ensures.value) c.in_ok-all.ensures.answer)) c.in_ok-keep_pairs.ensures.answer)
+    (c.in_ok-replayers.ensures.answer (map pair_of c.args.pairs.now) (g.F.Files.told c.args.files.now) (subst (λ (all : List Loaded). LoadsFiles (map pair_of c.args.pairs.now) (g.F.Files.told c.args.files.now) all) (sym c.deref.ensures.value) c.in_ok-all.ensures.answer)) c.in_ok-keep_pairs.ensures.answer)
     c.in_ok-report.ensures c.in_ok-print_report.ensures
 
 pub returns-clause-makes : goal.returns-clause-makes
 returns-clause-makes g c =
     replay_makes c.args.images (map pair_of c.args.pairs.now) (g.F.Files.told c.args.files.now) (g.F.Files.told c.write_asked.new.files) c.in_ok-replayers.replayers.items (Ok c.in_ok-print_report.field-0)
     (can_work c.args.images (map pair_of c.args.pairs.now) (g.F.Files.told c.args.files.now) c.deref-2.result.now c.in_ok-replayers.replayers.items c.deref-2.ensures.value
-    (c.in_ok-replayers.ensures.answer (map pair_of c.args.pairs.now) (g.F.Files.told c.args.files.now) (subst (λ (all : List Loaded). WereLoaded (map pair_of c.args.pairs.now) (g.F.Files.told c.args.files.now) all) (sym c.deref.ensures.value) c.in_ok-all.ensures.answer)) c.in_ok-keep_pairs.ensures.answer)
+    (c.in_ok-replayers.ensures.answer (map pair_of c.args.pairs.now) (g.F.Files.told c.args.files.now) (subst (λ (all : List Loaded). LoadsFiles (map pair_of c.args.pairs.now) (g.F.Files.told c.args.files.now) all) (sym c.deref.ensures.value) c.in_ok-all.ensures.answer)) c.in_ok-keep_pairs.ensures.answer)
     (images_made c.args.images _ _ _ _ _ c.deref-3.ensures.value c.load_all.ensures.same c.in_ok-write_asked.ensures.made)

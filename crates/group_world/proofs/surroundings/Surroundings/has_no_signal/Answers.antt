@@ -1,6 +1,6 @@
 use Rattle.std.proofs.Common.{◌≡◌, ◌↔◌, ℕ, false, subst}
 use Rattle.std.specs.Prelude.{IsTrue}
-use Rattle.signal_points.specs.Signals.{is_pending_in}
+use Rattle.guest_signals.specs.Signals.{is_pending_in}
 use Rattle.group_world.specs.World.{Surroundings}
 use Rattle.group_world.proofs.surroundings.Surroundings.has_no_signal.Goals as goal
 

@@ -1,7 +1,7 @@
 use Rattle.std.proofs.Common.{◌≡◌, ◌↔◌, ℕ, ◌<◌, Bool, false, length, get_or, subst, rules}
 use Rattle.std.specs.Prelude.{IsTrue}
 use Rattle.std.proofs.lemmas.List.{get_or_read}
-use Rattle.signal_points.specs.Signals.{is_pending_in}
+use Rattle.guest_signals.specs.Signals.{is_pending_in}
 use Rattle.group_world.specs.World.{Surroundings, World, has_pending, no_surroundings}
 use Rattle.group_world.proofs.world.World.has_no_signal.Goals as goal
 

@@ -3,7 +3,7 @@ use Rattle.lib_calls.specs.Entry.{entry_of}
 use Rattle.call_log.specs.Log.{Log}
 use Rattle.guest_process.specs.State.{State}
 use Rattle.proc_replay.specs.declared.replayer.Ahead.{Ahead}
-use Rattle.proc_replay.specs.inside.Ahead.{IsAhead, replaying}
+use Rattle.proc_replay.specs.inside.Ahead.{IsLookahead, replaying}
 use Rattle.proc_replay.specs.Meanings.{move_of}
 use Rattle.proc_replay.proofs.NextEntry.{made}
 use Rattle.proc_replay.proofs.replayer.Replayer.next_event.Goals as goal
@@ -37,5 +37,5 @@ invariant_of-result-2 c =
     let left = ap (λ (log : Log). length log.left.bytes) c.go_on.ensures.log ∙ following in
     record {
       room = record { room = omega (arith, c.self.invariant.room.room, m.shorter, left, count) };
-      ahead = subst (λ (log : Log). IsAhead (replaying c.in_ok-process.process log) c.go_on.new.self.turn c.go_on.new.self.following) (sym c.go_on.ensures.log) c.go_on.ensures.ahead;
+      ahead = subst (λ (log : Log). IsLookahead (replaying c.in_ok-process.process log) c.go_on.new.self.turn c.go_on.new.self.following) (sym c.go_on.ensures.log) c.go_on.ensures.ahead;
     }
