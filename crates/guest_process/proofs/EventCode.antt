@@ -27,7 +27,8 @@ use Rattle.guest_process.specs.declared.waiting.Waiting.{Waiting}
 use Rattle.lib_calls.specs.Answer.{Answer, answer_of}
 use Rattle.guest_process.specs.inside.Advancing.{acted_on_answer}
 use Rattle.guest_process.specs.Answers.{effects_of_answer, exited_process, narrow}
-use Rattle.guest_process.specs.Fits.{Each, StateFits, live_has}
+use Rattle.guest_process.specs.Fits.{Each, StateFits}
+use Rattle.guest_process.proofs.LiveThreads.{live_has}
 use Rattle.guest_process.specs.GoesOn.{after_running, instruction_budget, with_event_counted, finished_if_all_over, handler, runs_handled, thread_runs_on, stands, stopped_thread, stopped_at_call, with_handler_frame}
 use Rattle.guest_process.specs.Kinds.{ends_process, reply_value}
 use Rattle.guest_process.specs.Legal.{reason, reason_at}

@@ -11,7 +11,8 @@ use Rattle.lib_calls.specs.declared.entry.Entry.{Entry}
 use Rattle.lib_calls.specs.Answer.{answer_of}
 use Rattle.lib_calls.specs.Effects.{is_answer}
 use Rattle.guest_process.specs.declared.waiting.Waiting.{Waiting}
-use Rattle.guest_process.specs.Fits.{StateFits, WaitingFits, live_has}
+use Rattle.guest_process.specs.Fits.{StateFits, WaitingFits}
+use Rattle.guest_process.proofs.LiveThreads.{live_has}
 use Rattle.guest_process.specs.Legal.{entry_checks, reason, reason_at}
 use Rattle.guest_process.specs.State.{State, is_running, thread_at}
 use Rattle.guest_process.proofs.FirstFailure.{Hold, all_hold, unless_none}

@@ -1,3 +1,4 @@
+pub mod LiveThreads
 pub mod FirstFailure
 pub mod CrewViews
 pub mod CallEffects

@@ -16,7 +16,8 @@ use Rattle.call_table.specs.declared.kind.Kind.{Kind}
 use Rattle.guest_signals.specs.Signals.{most_signal}
 use Rattle.guest_process.specs.declared.waiting.Waiting.{Waiting}
 use Rattle.guest_process.specs.Answers.{Need, Fixed, Blocked, World, need, is_possible, with_answer, after_need, effects_of_answer}
-use Rattle.guest_process.specs.Fits.{EnvFits, StateFits, WaitingFits, live_has}
+use Rattle.guest_process.specs.Fits.{EnvFits, StateFits, WaitingFits}
+use Rattle.guest_process.proofs.LiveThreads.{live_has}
 use Rattle.guest_process.specs.GoesOn.{thread_goes_on, handler}
 use Rattle.guest_process.specs.Kinds.{ends_process}
 use Rattle.guest_process.specs.Legal.{entry_checks, need_gives_answer, is_handled, reason_at}

@@ -1,9 +1,7 @@
 -- What holds of each state that a process of a valid module can have.
-use Rattle.std.proofs.Common.{subst}
-use Rattle.std.proofs.lemmas.Option.{same_Some}
-use Rattle.std.specs.Prelude.{◌≡◌, ℕ, zero, suc, ◌+◌, ◌^◌, ◌<◌, ◌≤◌, List, [], ◌∷◌, length, slice_get, option_and_then, Some}
+use Rattle.std.specs.Prelude.{◌≡◌, ◌+◌, ◌^◌, ◌<◌, ◌≤◌, List, [], ◌∷◌, length}
 use Rattle.guest_memory.specs.Stamps.{AreWithin}
-use Rattle.coop_threads.specs.Crew.{most_threads, value_of}
+use Rattle.coop_threads.specs.Crew.{most_threads}
 use Rattle.coop_threads.specs.declared.slot.Slot.{Slot}
 use Rattle.coop_threads.specs.declared.slot.Slot.TheVariants.{Kept, Lent, Over}
 use Rattle.lib_calls.specs.Entry.{HasArguments}
@@ -25,15 +23,6 @@ HoldsOfSlot P Over = Unit {0}
 abbrev pub Each : (Waiting → Type 0) → List (Slot Waiting) → Type 0
 Each P [] = Unit {0}
 Each P (slot ∷ slots) = HoldsOfSlot P slot × Each P slots
-
--- what holds of each live thread holds of one
-pub live_has : (P : Waiting → Type 0) (slots : List (Slot Waiting)) (t : ℕ) → Each P slots
-    → (w : Waiting) → option_and_then value_of (slice_get slots t) ≡ Some w → P w
-live_has P [] t f w h = cc
-live_has P (Kept v ∷ slots) zero f w h = subst P (same_Some _ _ h) f.0
-live_has P (Lent ∷ slots) zero f w h = cc
-live_has P (Over ∷ slots) zero f w h = cc
-live_has P (slot ∷ slots) (suc t) f w h = live_has P slots t f.1 w h
 
 -- no tag bears a clock past 2 ^ 62, so a process's clock passes that only by its own events; the event after
 -- these is what writes next, and no page, no global and not the memory's size bears the mark of a later one than
