@@ -9,7 +9,7 @@ use Rattle.wasm_types.specs.declared.code.Value.TheVariants.{I32, I64}
 use Rattle.wasm_types.specs.Code.{DropTop, LocalGet}
 use Rattle.wasm_store.specs.Store.{Store}
 use Rattle.wasm_stack.specs.After.{Goes, Sticks, Stops, on_i32, on_top}
-use Rattle.wasm_stack.specs.Rows.{drop_top, got, local_put, local_set, local_tee}
+use Rattle.wasm_stack.specs.Rows.{got, local_put, local_set, local_tee}
 use Rattle.wasm_stack.specs.Thread.{Thread, with_operand, without_operands}
 use Rattle.wasm_step.specs.Reduce.{load, load_at}
 use Rattle.wasm_step.specs.inside.Rules.{HasI32, HasRule}
@@ -31,13 +31,6 @@ has_operand t g rule = by_stack t.stack refl
     by_stack : (s : List Value) → t.stack ≡ s → 1 ≤ length t.stack
     by_stack [] e = absurd (rule (ap (λ s. on_top s t (λ v u. Goes u)) e))
     by_stack (v ∷ rest) e = omega (arith, ap length e)
-
-pub dropped : (t : Thread) → 1 ≤ length t.stack → drop_top t ≡ Goes (without_operands 1 t)
-dropped t some = by_stack t.stack refl some
-  where
-    by_stack : (s : List Value) → t.stack ≡ s → 1 ≤ length s → on_top s t (λ v u. Goes u) ≡ Goes (record t { stack = drop 1 s })
-    by_stack [] e some = absurd (omega (arith, some))
-    by_stack (v ∷ rest) e some = refl
 
 pub has_address : (op offset : ℕ) (t : Thread) (memory : Memory) → (load op offset memory t ≡ Stops Sticks → ⊥) → HasI32 t
 has_address op offset t memory rule = by_stack t.stack refl
