@@ -83,6 +83,11 @@ some_operand s t view some =
     let stack = ap (λ (t : Thread). length t.stack) view in
     omega (arith, stack, some, length-reverse (drop s.here.floor s.operands.items), length-drop s.here.floor s.operands.items)
 
+pub two_operands : (s : Inside) (t : Thread) → thread_of s ≡ t → 2 ≤ length t.stack → s.here.floor + 2 ≤ length s.operands.items
+two_operands s t view some =
+    let stack = ap (λ (t : Thread). length t.stack) view in
+    omega (arith, stack, some, length-reverse (drop s.here.floor s.operands.items), length-drop s.here.floor s.operands.items)
+
 -- what lies below the last item
 pub below_last : {A : Type 0} (xs w : List A) (x : A) → xs ≡ w ++ x ∷ [] → w ≡ take (length xs - 1) xs
 below_last xs w x e =

@@ -252,13 +252,21 @@ impl<'m> Stack<'m> {
         ensures enough { 1 ≤ length self.old.stack → result ≡ true }
         ensures same { result ≡ false → self.new ≡ self.old }
     {
-        let height = self.operands.len();
-        if height <= self.here.floor {
+        if !self.has_operand() {
             return false;
         }
+        self.replace_one(v);
+        true
+    }
+
+    /// The value in place of the topmost operand of a level that has one.
+    #[inline(always)]
+    pub fn replace_one(&mut self, v: Slot)
+        requires { 1 ≤ length self.old.stack }
+        ensures { self.new ≡ record self.old { stack = v ∷ drop 1 self.old.stack } }
+    {
         let _x = self.operands.take_last();
         self.operands.push_reserved(v);
-        true
     }
 
     /// The value in place of the two topmost operands, if there are as many.
@@ -268,14 +276,22 @@ impl<'m> Stack<'m> {
         ensures enough { 2 ≤ length self.old.stack → result ≡ true }
         ensures same { result ≡ false → self.new ≡ self.old }
     {
-        let height = self.operands.len();
-        if height < self.here.floor + 2 {
+        if self.operands.len() < self.here.floor + 2 {
             return false;
         }
+        self.replace_two(v);
+        true
+    }
+
+    /// The value in place of the two topmost operands of a level that has as many.
+    #[inline(always)]
+    pub fn replace_two(&mut self, v: Slot)
+        requires { 2 ≤ length self.old.stack }
+        ensures { self.new ≡ record self.old { stack = v ∷ drop 2 self.old.stack } }
+    {
         let _y = self.operands.take_last();
         let _x = self.operands.take_last();
         self.operands.push_reserved(v);
-        true
     }
 
     /// Without the n topmost operands.
@@ -324,6 +340,16 @@ impl<'m> Stack<'m> {
         self.operands[self.operands.len() - 1]
     }
 
+    /// The two topmost operands of a level that has as many.
+    #[inline(always)]
+    pub fn last_two(&self) -> (Slot, Slot)
+        requires { 2 ≤ length self.now.stack }
+        ensures { self.now.stack ≡ result.1 ∷ (result.0 ∷ drop 2 self.now.stack) }
+    {
+        let height = self.operands.len();
+        (self.operands[height - 2], self.operands[height - 1])
+    }
+
     /// Whether the innermost frame has a local of this number.
     #[inline(always)]
     pub fn has_local(&self, x: usize) -> bool
@@ -370,11 +396,20 @@ impl<'m> Stack<'m> {
         ensures value { result ≡ nat_lt x (length self.old.locals) }
         ensures set { IsTrue result → self.new ≡ record self.old { locals = slice_set self.old.locals x v } }
     {
-        if x >= self.locals.len() - self.here.locals_from {
+        if !self.has_local(x) {
             return false;
         }
-        self.locals[self.here.locals_from + x] = v;
+        self.put_local(x, v);
         true
+    }
+
+    /// A new value of a local that the innermost frame has.
+    #[inline(always)]
+    pub fn put_local(&mut self, x: usize, v: Slot)
+        requires { x < length self.old.locals }
+        ensures { self.new ≡ record self.old { locals = slice_set self.old.locals x v } }
+    {
+        self.locals[self.here.locals_from + x] = v;
     }
 
     /// A new innermost level, which this instruction opens.
