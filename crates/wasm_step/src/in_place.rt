@@ -151,8 +151,7 @@ fn local_tee(thread: &mut Stack<'_>, x: usize)
     ensures stack { thread.new.stack ≡ thread.old.stack }
 {
     let v = thread.last();
-    let is_set = thread.set_local(x, v);
-    prove!(is_set);
+    thread.put_local(x, v);
 }
 
 // Going, where it was done in place.

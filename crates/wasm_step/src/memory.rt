@@ -77,10 +77,11 @@ pub(crate) fn load_in_place(thread: &mut Stack<'_>, store: &Store<'_>, op: u8, o
     ensures same { result ≡ false → thread.new ≡ thread.old }
 {
     let base = narrow(thread.last().value());
-    match loaded(store.memory(), op, address(base, offset)) {
-        Some(v) => thread.put_one(v),
-        None => false,
-    }
+    let Some(v) = loaded(store.memory(), op, address(base, offset)) else {
+        return false;
+    };
+    thread.replace_one(v);
+    true
 }
 
 // The operand that a load reads. The width stands in each arm, so that the opcode is looked at once.
@@ -131,10 +132,9 @@ pub(crate) fn write_in_place(
     ensures same { IfOk result (λ went. went ≡ false → thread.new ≡ thread.old) }
     ensures store { IfOk result (λ went. went ≡ false → store.new ≡ store.old) }
 {
-    let Some((base, v)) = thread.two() else {
-        unreachable!()
-    };
-    if !stored(store, op, address(narrow(base), offset), v)? {
+    let (base, v) = thread.last_two();
+    let base = narrow(base.value());
+    if !stored(store, op, address(base, offset), v.value())? {
         return Ok(false);
     }
     thread.drop_last(2);

@@ -154,10 +154,11 @@ fn one_i32(thread: &mut Stack<'_>, op: u8, k: u8) -> bool
     ensures same { result ≡ false → thread.new ≡ thread.old }
 {
     let x = narrow(thread.last().value());
-    match changed(k, Value::I32(x)) {
-        Some(v) => thread.put_one(v),
-        None => false,
-    }
+    let Some(v) = changed(k, Value::I32(x)) else {
+        return false;
+    };
+    thread.replace_one(v);
+    true
 }
 
 // The same on two.
@@ -173,13 +174,13 @@ fn two_i32(thread: &mut Stack<'_>, op: u8, k: u8) -> bool
     ensures within { ThreadWithin thread.new }
     ensures same { result ≡ false → thread.new ≡ thread.old }
 {
-    let Some((x, y)) = thread.two() else {
-        unreachable!()
+    let (x, y) = thread.last_two();
+    let (x, y) = (narrow(x.value()), narrow(y.value()));
+    let Some(v) = combined(k, Value::I32(x), Value::I32(y)) else {
+        return false;
     };
-    match combined(k, Value::I32(narrow(x)), Value::I32(narrow(y))) {
-        Some(v) => thread.put_two(v),
-        None => false,
-    }
+    thread.replace_two(v);
+    true
 }
 
 // The same on one of 64 bits.
@@ -196,10 +197,11 @@ fn one_i64(thread: &mut Stack<'_>, op: u8, k: u8) -> bool
     ensures same { result ≡ false → thread.new ≡ thread.old }
 {
     let x = long(thread.last().value());
-    match changed(k, Value::I64(x)) {
-        Some(v) => thread.put_one(v),
-        None => false,
-    }
+    let Some(v) = changed(k, Value::I64(x)) else {
+        return false;
+    };
+    thread.replace_one(v);
+    true
 }
 
 // The same on two.
@@ -215,13 +217,13 @@ fn two_i64(thread: &mut Stack<'_>, op: u8, k: u8) -> bool
     ensures within { ThreadWithin thread.new }
     ensures same { result ≡ false → thread.new ≡ thread.old }
 {
-    let Some((x, y)) = thread.two() else {
-        unreachable!()
+    let (x, y) = thread.last_two();
+    let (x, y) = (long(x.value()), long(y.value()));
+    let Some(v) = combined(k, Value::I64(x), Value::I64(y)) else {
+        return false;
     };
-    match combined(k, Value::I64(long(x)), Value::I64(long(y))) {
-        Some(v) => thread.put_two(v),
-        None => false,
-    }
+    thread.replace_two(v);
+    true
 }
 
 /// The number that a value of 32 bits is.

@@ -1,18 +1,18 @@
 use Rattle.wasm_step.proofs.RuledNumbers.{two_i64}
 use Rattle.wasm_step.proofs.numbers.two_i64.Goals as goal
 
-pub long-requires : goal.long-requires
-long-requires c =
+pub long-x-requires : goal.long-x-requires
+long-x-requires c =
     let two = two_i64 c.args.op c.args.k c.args.thread.now c.requires.same c.requires.rule c.requires.takes c.requires.only in
-    let at = c.in-Some.ensures.some in
+    let at = c.last_two-x.ensures in
     let are = two.1.1 in
-    let is = c.in-Some.x-is in
+    let is = c.value.ensures in
     (two.0, cc)
 
-pub long-requires-2 : goal.long-requires-2
-long-requires-2 c =
+pub long-y-requires : goal.long-y-requires
+long-y-requires c =
     let two = two_i64 c.args.op c.args.k c.args.thread.now c.requires.same c.requires.rule c.requires.takes c.requires.only in
-    let at = c.in-Some.ensures.some in
+    let at = c.last_two-x.ensures in
     let are = two.1.1 in
-    let is = c.in-Some.y-is in
+    let is = c.value-2.ensures in
     (two.1.0, cc)
