@@ -15,12 +15,6 @@ within_is t h =
 pub within_pushed : (t : Thread) (v : Value) → ThreadWithin t → size_of_thread t < 16384 → ThreadWithin (with_operand t v)
 within_pushed t v h lt = record { frames = h.frames; size = omega (arith, lt) }
 
-pub within_two : (t : Thread) (x y v : Value) → t.stack ≡ y ∷ (x ∷ drop 2 t.stack) → ThreadWithin t → ThreadWithin (record t { stack = v ∷ drop 2 t.stack })
-within_two t x y v st h = let two = ap length st in record { frames = h.frames; size = omega (arith, h.size, two) }
-
-pub within_one : (t : Thread) (x v : Value) → t.stack ≡ x ∷ drop 1 t.stack → ThreadWithin t → ThreadWithin (record t { stack = v ∷ drop 1 t.stack })
-within_one t x v st h = let one = ap length st in record { frames = h.frames; size = omega (arith, h.size, one) }
-
 pub within_without : (n : ℕ) (t : Thread) → ThreadWithin t → ThreadWithin (without_operands n t)
 within_without n t h = record { frames = h.frames; size = omega (arith, h.size, Rattle.std.proofs.Common.length-drop n t.stack) }
 

@@ -137,7 +137,8 @@ pub(crate) fn write_in_place(
     if !stored(store, op, address(base, offset), v.value())? {
         return Ok(false);
     }
-    thread.drop_last(2);
+    thread.drop_one();
+    thread.drop_one();
     Ok(true)
 }
 
