@@ -1,11 +1,12 @@
 //! What all commands share: how a call ends, the outcome of a command, and the files of modules.
 //!
-//! A command reads its files by `take_file` and `take_module`, which answer with what stands in them or with a `StopCause`, and
-//! those of its modules by `ModuleFiles`, which reads each once and keeps it. Before it makes files, `keep_apart` refuses a name that was
-//! read (`specs/Apart`). It comes to a `WorkText` or a `StopCause`; `finish` prints that and gives the `Status` (`FinishedCommand` of `specs/Run`).
-//! Contracts see a command's outcome (`specs/Outcome`: its work, or the stop at which it ends) as far as the folder tells
-//! its files, and say of a call's end what `CallEnds` says. `specs/OutcomeLaws`, `ApartLaws`, `FileLaws`, `LineLaws` and `CountLaws` are what
-//! follows from these definitions by computing, for the proofs of the commands.
+//! A command reads its files by `take_file` and `take_module`, which answer with what stands in them or with a `StopCause`,
+//! and those of its modules by `ModuleFiles`, which reads each once and keeps it. Before it makes files, `keep_apart`
+//! refuses a name that was read (`specs/Apart`). It comes to a `WorkText` or a `StopCause`; `finish` prints that and gives
+//! the `Status` (`FinishedCommand` of `specs/Run`). Contracts see a command's outcome (`specs/Outcome`: its work, or the
+//! stop at which it ends) as far as the folder tells its files, and say of a call's end what `CallEnds` says.
+//! `specs/OutcomeLaws`, `ApartLaws`, `FileLaws`, `LineLaws` and `CountLaws` are what follows from these definitions by
+//! computing, for the proofs of the commands.
 //!
 //! A command's outcome is one definition of its crate (`record_outcome`, `replay_outcome`, `debug_outcome`), over the files
 //! and the input: the work (`CommandWork`: the text, the files that it writes, whether a log diverged) or the stop
@@ -16,10 +17,10 @@
 //! answers with its text or its refusal (`PerformedCommand`), which `finish` prints. `debug` and `play` print as they go and
 //! read an input.
 //!
-//! record_command asks `ModuleFiles` for the module of each process, and log_pairs for that of each pair. It reads a file of
-//! a new name, and hands out a further owner (`SharedModule`) of the module that it kept for an equal name. The definitions speak of a folder, in which equal names have equal modules, and know nothing of that. Its
-//! clause `once` says that no file is read again.
-//! `take_log` and `begin_log` find the log that a file holds (`specs/Logs`, `specs/LogValid`).
+//! record_command asks `ModuleFiles` for the module of each process, and log_pairs for that of each pair. It reads a file
+//! of a new name, and hands out a further owner (`SharedModule`) of the module that it kept for an equal name. The
+//! definitions speak of a folder, in which equal names have equal modules, and know nothing of that. Its clause `once` says
+//! that no file is read again. `take_log` and `begin_log` find the log that a file holds (`specs/Logs`, `specs/LogValid`).
 #![tactic(auto)]
 
 mod apart;

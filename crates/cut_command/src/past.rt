@@ -100,7 +100,8 @@ fn keep_pairs(alloc: Global, pairs: &[Pair<'_>], fronts: &[Front<'_>]) -> Result
     keep_apart(alloc, &read, &made)
 }
 
-/// How much of these logs the event of this number of a process needs, if no file of these pairs would be made. No file has changed.
+/// How much of these logs the event of this number of a process needs, if no file of these pairs would be made. No file has
+/// changed.
 pub(crate) fn take_past<'m>(
     alloc: Global,
     process: u32,

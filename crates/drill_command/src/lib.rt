@@ -2,8 +2,9 @@
 //!
 //! The module of the group is made here (`specs/Ring`), and its schedule by `schedule_text`. The group is recorded into
 //! files in memory, its logs are replayed, and all positions are walked with a watchpoint. Contracts see what comes of it
-//! (`drill_outcome` of `specs/Drill`): five numbers over the run of the schedule, the order of its events, and the firings of
-//! the watchpoint. The files and the input of the caller are not touched. Inside are the results of its parts (`specs/inside/Results`).
+//! (`drill_outcome` of `specs/Drill`): five numbers over the run of the schedule, the order of its events, and the firings
+//! of the watchpoint. The files and the input of the caller are not touched. Inside are the results of its parts
+//! (`specs/inside/Results`).
 #![tactic(auto)]
 
 mod command;

@@ -2,11 +2,12 @@
 //!
 //! `lex` cuts a line into tokens, the longest at each place (`specs/Lexing`), `parse` reads an expression from them
 //! (`specs/Grammar`, over the words and signs of `specs/Spelling`), and `find_faults` says what may be wrong with it
-//! (`specs/Faulty`). Clauses speak of an `Expr` as a tree (`expression_of` of `specs/Expression`), and `specs/Coding` has a code for trees. The laws say that the tokens of a line
-//! and the expression of tokens are the only ones and are computed (`exact_cut`, `exact_reading`; `specs/Computed`), and what no
-//! expression has in it (`none_apart`). `specs/Front` computes the token at a place. Expressions are read by a machine with a
-//! stack, which `specs/Machine` computes, so that brackets in brackets take no stack of the program's. Inside is what the
-//! parser holds of that machine (`specs/inside/Frames`). What an expression is worth is no matter of this crate.
+//! (`specs/Faulty`). Clauses speak of an `Expr` as a tree (`expression_of` of `specs/Expression`), and `specs/Coding` has a
+//! code for trees. The laws say that the tokens of a line and the expression of tokens are the only ones and are computed
+//! (`exact_cut`, `exact_reading`; `specs/Computed`), and what no expression has in it (`none_apart`). `specs/Front`
+//! computes the token at a place. Expressions are read by a machine with a stack, which `specs/Machine` computes, so that
+//! brackets in brackets take no stack of the program's. Inside is what the parser holds of that machine
+//! (`specs/inside/Frames`). What an expression is worth is no matter of this crate.
 #![tactic(auto)]
 
 mod error;

@@ -2,8 +2,8 @@
 //! the words, what the call printed, its status, and the files that it made.
 //!
 //! Its stored run is how the adapters of `fri_outside` over the runtime are tested: a recording that lies on a disk, files
-//! that are absent, too large or no files, files that are replaced, and a device that takes no byte. They tell nothing of what they hold, so no clause
-//! here says what is printed.
+//! that are absent, too large or no files, files that are replaced, and a device that takes no byte. They tell nothing of
+//! what they hold, so no clause here says what is printed.
 #![tactic(auto)]
 
 use fri_outside::{Console, ReaderSource, RealFiles, WriterSink};

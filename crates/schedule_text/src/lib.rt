@@ -11,7 +11,8 @@
 //! digits, with any zeros in front; a negative V has one minus. HEX is two hexadecimal digits of either case for each byte, or
 //! `-` for no bytes. `ProcessLine` says what NAME and MODULE may be.
 //!
-//! `read_item_line` reads a single line as an item, whatever stands before it. One schedule is made and not read: that of a group of four processes that hand a number round (`drill`).
+//! `read_item_line` reads a single line as an item, whatever stands before it. One schedule is made and not read: that of a
+//! group of four processes that hand a number round (`drill`).
 #![tactic(auto)]
 
 mod draft;
