@@ -1,6 +1,6 @@
 -- What a recording leaves: its files, and the modules as they stood.
 use lib.Pointwise.{pointwise}
-use Rattle.std.proofs.Common.{◌≡◌, ◌≢◌, ◌⊎◌, eqb, ◌∙◌, ◌<◌, ◌-◌, ℕ, zero, suc, Bool, true, false, cond, not, List, [], ◌∷◌, ◌++◌, length, drop, map, Option, Some, None, Result, Ok, Err, inl, inr, ap, arith, refl, subst}
+use Rattle.std.proofs.Common.{◌≡◌, ◌≢◌, ◌⊎◌, eqb, ◌∙◌, ◌<◌, ◌-◌, ℕ, zero, suc, Bool, true, false, cond, not, List, [], ◌∷◌, ◌++◌, length, drop, map, Option, Some, None, Result, Ok, Err, inl, inr, ap, arith, refl, subst, sym}
 use Rattle.std.specs.Prelude.{Contains, IsTrue, ◌&&◌, codes, is_none, nat_eq, nat_le, slice_index_or}
 use Rattle.std.specs.List.{AllByRecursion, ends_with, list_all}
 use Rattle.std.proofs.Math.Seq.{drop-append_seam}

@@ -4,3 +4,4 @@ pub mod WordTests
 pub mod RecordedStreams
 pub mod LeftByRecording
 pub mod SecondCall
+pub mod ImagesApart
