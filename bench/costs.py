@@ -66,6 +66,21 @@ def build(folder, name, text):
     subprocess.run(["wat2wasm", name + ".wat", "-o", name + ".wasm"], cwd=folder, check=True)
 
 
+def compile_guest(folder, name, sources, *words):
+    """Makes NAME.wasm of sources in C of this folder, by clang at -O2."""
+    flags = "--target=wasm32 -mcpu=mvp -std=c11 -O2 -ffreestanding -fno-builtin -Wall -Wextra -Werror -nostdlib -Wl,--no-entry -Wl,--export=_start -Wl,--strip-all"
+    paths = [os.path.join(TOP, "bench", source) for source in sources]
+    subprocess.run([os.environ.get("CLANG", "clang"), *flags.split(), "-I", TOP + "/guests", *words, "-o", name + ".wasm", *paths], cwd=folder, check=True)
+
+
+def traced(folder):
+    """The instructions of a.wasm that wasm-interp traces, where blocks and their ends count nothing."""
+    child = subprocess.Popen(["wasm-interp", "--trace", "--dummy-import-func", "--run-all-exports", "a.wasm"], cwd=folder, stdout=subprocess.PIPE)
+    count = sum(line.startswith(b"#") for line in child.stdout)
+    child.wait()
+    return count
+
+
 def events_in(text):
     """How many events the lines of a report have, all together."""
     return sum(int(n) for n in re.findall(r": (\d+) events", text))

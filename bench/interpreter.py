@@ -11,10 +11,9 @@ trace of a small run, where blocks and their ends count nothing. The time of a s
 
 import os
 import statistics
-import subprocess
 import tempfile
 
-from costs import TOP, build, instructions, play, program_of
+from costs import build, compile_guest, instructions, play, program_of, traced
 
 PROGRAM = program_of(__doc__)
 BURSTS = 4
@@ -123,9 +122,7 @@ NOTES = """(module (import "liblog" "note" (func $note (param i64)))
 
 
 def compile(folder, name, size):
-    flags = "--target=wasm32 -mcpu=mvp -std=c11 -O2 -ffreestanding -fno-builtin -Wall -Wextra -Werror -nostdlib -Wl,--no-entry -Wl,--export=_start -Wl,--strip-all"
-    words = [os.environ.get("CLANG", "clang")] + flags.split() + ["-I", TOP + "/guests", "-DCOUNT=%d" % size]
-    subprocess.run(words + ["-o", "a.wasm", "%s/bench/%s.c" % (TOP, name)], cwd=folder, check=True)
+    compile_guest(folder, "a", [name + ".c"], "-DCOUNT=%d" % size)
 
 
 # How many of the machine's instructions one of the guest takes, from two runs of different lengths.
@@ -139,14 +136,6 @@ def counted(words, folder, make, lengths):
 
 def per_instruction(counts, guest):
     return "-" if None in counts else "%.1f" % ((counts[1] - counts[0]) / guest)
-
-
-# The instructions that wasm-interp traces.
-def traced(folder):
-    child = subprocess.Popen(["wasm-interp", "--trace", "--dummy-import-func", "--run-all-exports", "a.wasm"], cwd=folder, stdout=subprocess.PIPE)
-    count = sum(line.startswith(b"#") for line in child.stdout)
-    child.wait()
-    return count
 
 
 def schedule(folder, tries):
