@@ -1,8 +1,9 @@
 """One program of 100,000 events with some 1,100 instructions of WebAssembly between two, and what friday takes to record, replay and debug
 it beside others that run it: natively, by V8, by wasm-interp, and natively under gdb. The source is peers.c for all of them, and each has
-to tell of the same notes. Where a way takes long it has fewer events. Prints for each way the processor's seconds and those of the clock,
-the median of three, its start included; the processor's time for an event without the start, which is what a run of one event takes; and
-how many times the native program's that is. A way whose tool is not installed is left out, and a run is stopped after 60 seconds.
+to tell of the same notes. A way that takes long has fewer events, and V8 has more. Prints for each way the processor's seconds and those
+of the clock, the median of three, its start included; the processor's time for an event without the start, which is what a run of one
+event takes; and how many times the native program's that is. A way whose tool is not installed is left out, and a run is stopped after 60
+seconds.
 """
 
 import os
@@ -19,8 +20,9 @@ from costs import TOP, compile_guest, play, program_of, traced
 
 PROGRAM = program_of(__doc__)
 TRIES, PATIENCE = 3, 60
-# The events of a whole run, of one with a stop at each event, and of one in which each machine instruction is kept.
-ALL, SOME, FEW = 100_000, 10_000, 50
+# The events of a whole run, of V8, whose start wavers by as much as these take, of a run with a stop at each event, and of one in which
+# each machine instruction is kept.
+ALL, MANY, SOME, FEW = 100_000, 900_000, 10_000, 50
 DEBUG = [PROGRAM, "debug", "a.wasm", "a.log"]
 GDB = ["gdb", "-nx", "-q", "-batch", "-x", "lines", "native"]
 
@@ -59,7 +61,7 @@ AT_END = "at {all}: {all} a 0 note {last}\n"
 WAYS = (
     Way("native", ["./native"], (COUNTED,)),
     Way("native, a write of each note", ["./writes"], (COUNTED,)),
-    Way("V8, a call in JavaScript", ["node", "script.js"], (COUNTED,)),
+    Way("V8, a call in JavaScript", ["node", "script.js"], (COUNTED,), MANY),
     Way("wasm-interp, a call in the module", ["wasm-interp", "--run-all-exports", "inside.wasm"], ("last() => i64:{last}\n",)),
     Way("wasm-interp, each call printed", ["wasm-interp", "--dummy-import-func", "--run-all-exports", "a.wasm"], ("note(i64:{last}) =>\n_start",)),
     Way("friday record", [PROGRAM, "record", "again"], ("again: {all} events, finished\n",)),
@@ -153,7 +155,7 @@ def table(calls):
 def main():
     with tempfile.TemporaryDirectory() as top:
         places = {}
-        for events in (1, FEW, SOME, ALL):
+        for events in (1, FEW, SOME, ALL, MANY):
             folder = os.path.join(top, str(events))
             os.mkdir(folder)
             places[events] = folder, prepare(folder, events)
