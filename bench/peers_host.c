@@ -33,8 +33,9 @@ void liblog_note(int64_t value) {
     count++;
     last = value;
 #ifdef WRITES
-    if (write(file, &value, sizeof value) != sizeof value)
+    if (write(file, &value, sizeof value) != sizeof value) {
         exit(1);
+    }
 #endif
 }
 
