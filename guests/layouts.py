@@ -171,7 +171,9 @@ class Layouts:
 
     def enum(self, entry, width):
         """An enumeration, which each unit that includes a header describes again."""
-        numbers = {child.name(): child.number("const_value") for child in entry.children if re.fullmatch("[0-9A-Za-z_]+", child.name())}
+        # Methods stand among the enumerators of Rust.
+        named = [child for child in entry.children if child.tag == "enumerator" and re.fullmatch("[0-9A-Za-z_]+", child.name())]
+        numbers = {child.name(): child.number("const_value") for child in named}
         known = next((enum for enum in self.table.enums.values() if (enum.width, enum.numbers) == (width, numbers)), None)
         if known or not numbers:
             return known.name if known else width
