@@ -8,7 +8,7 @@ use Rattle.std.specs.BTreeMap.{is_at}
 use Rattle.std.specs.FinMap as map
 use Rattle.std.specs.FinMap.{IsAntisymmetric, find, nat_cmp-IsAntisymmetric}
 use Rattle.std.proofs.lemmas.Map.Lookups.{exact_pairs}
-use Rattle.group_order.specs.Sends.{FindsOneMoreSend, SendReceivers, by_sender}
+use Rattle.group_order.specs.Sends.{FindsOneMoreSend, by_sender}
 
 pub by_sender_total : IsTotalOrder by_sender
 by_sender_total = then_total (on_total (λ (x : ℕ × ℕ). x.0) nat_cmp_total) (on_total (λ (x : ℕ × ℕ). x.1) nat_cmp_total)

@@ -54,6 +54,17 @@ module _ (sends : Sends) (ordered : AreInOrder sends) (k : ℕ × ℕ) where
     };
   }
 
+-- what is above the last send goes behind it
+pub after_last : (sends : Sends) (k : ℕ × ℕ) → AreInOrder sends → 0 < length sends → by_sender (sender_at sends (length sends - 1)) k ≡ Less → IsGapFor sends k (length sends)
+after_last sends k ordered some high = record {
+  within = omega arith;
+  below = λ j less. elim (cases_lt j (length sends - 1)) [
+    | inl before ↦ by_sender_total.trans (sender_at sends j) (sender_at sends (length sends - 1)) k (ordered j (length sends - 1) before (omega (arith, some))) high
+    | inr last ↦ subst (λ n. by_sender (sender_at sends n) k ≡ Less) {x = length sends - 1} (omega (arith, last, less)) high
+  ];
+  above = λ j most less. absurd (omega (arith, most, less));
+}
+
 -- ---- what is found
 
 -- no send before place i is of the sender

@@ -4,13 +4,14 @@ ghost use Rattle.std.specs.FinMap as map;
 ghost use Rattle.group_order.specs.inside.SortedSends.{AreInOrder, IsAt, IsGapFor};
 
 use std::alloc::{AllocError, Global};
+use std::cmp::Ordering;
 use std::marker::Model;
 
 /// The sends of a group's processes. Contracts see a map from the number and the clock of a sender to the
 /// receiver.
 #[derive(Drop)]
 pub struct SendIndex {
-    // A sender's number and clock, and the receiver, in order. Most often they come in order too, so each is put last.
+    // A sender's number and clock, and the receiver, in order.
     sends: Vec<((u32, u64), u32)>,
 }
 
@@ -68,5 +69,12 @@ fn search(sends: &[((u32, u64), u32)], sender: (u32, u64)) -> Result<usize, usiz
     ensures found { IfOk result (IsAt sends.now sender) }
     ensures absent { IfErr result (IsGapFor sends.now sender) }
 {
-    sends.binary_search_by_key(&sender, |send| send.0)
+    let Some(last) = sends.last() else {
+        return Err(0);
+    };
+    // Most often the sends come in order too, so that each goes to the end.
+    match last.0.cmp(&sender) {
+        Ordering::Less => Err(sends.len()),
+        _ => sends.binary_search_by_key(&sender, |send| send.0),
+    }
 }
