@@ -52,6 +52,13 @@ impl Bytes {
         self.vec.as_slice()
     }
 
+    /// Takes all bytes out. Their room is kept.
+    pub fn clear(&mut self)
+        ensures { self.new ≡ [] }
+    {
+        self.vec.clear();
+    }
+
     /// Adds the piece at the end. Without the memory for it nothing is added.
     pub fn push_all(&mut self, piece: &[u8]) -> Result<(), AllocError>
         ensures ok { OnOk result (self.new ≡ self.old ++ piece.now) }

@@ -5,6 +5,7 @@ ghost use Rattle.std.specs.Int.{w16, w32, w64, to_le_bytes};
 use std::alloc::AllocError;
 
 /// Adds one byte.
+#[inline(always)]
 pub fn put_byte(out: &mut Vec<u8>, v: u8) -> Result<(), AllocError>
     ensures ok { OnOk result (out.new.items ≡ out.old.items ++ v ∷ []) }
     ensures err { OnErr result (out.new.items ≡ out.old.items) }
@@ -40,6 +41,7 @@ pub fn put_u64(out: &mut Vec<u8>, v: u64) -> Result<(), AllocError>
 }
 
 /// Adds the piece.
+#[inline(always)]
 pub fn put_bytes(out: &mut Vec<u8>, piece: &[u8]) -> Result<(), AllocError>
     ensures ok { OnOk result (out.new.items ≡ out.old.items ++ piece.now) }
     ensures err { OnErr result (out.new.items ≡ out.old.items) }

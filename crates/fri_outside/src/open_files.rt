@@ -1,5 +1,5 @@
 // Files that stay open.
-ghost use Rattle.std.specs.Prelude.{◌≡◌};
+ghost use Rattle.std.specs.Prelude.{◌≡◌, ◌<◌, IfSome, length, vec_len};
 
 use crate::WriteError;
 use std::alloc::{AllocError, Global};
@@ -13,26 +13,38 @@ struct NamedFile<F: Drop> {
     file: F,
 }
 
-/// Files that stay open, each under a name of its own.
+/// Files that stay open, each under a name of its own. Most often a file is asked for that was found last, or
+/// the one behind it, so names are compared from there on.
 #[derive(Drop)]
 pub(crate) struct OpenFiles<F: Drop> {
     files: Vec<NamedFile<F>>,
+    last: usize,
 }
 
 impl<F: OpenFile + Drop> OpenFiles<F> {
     pub(crate) fn new(alloc: Global) -> Self {
         OpenFiles {
             files: Vec::new(alloc),
+            last: 0,
         }
     }
 
     /// The file of this name, where it is open.
     pub(crate) fn get_mut(&mut self, name: &str) -> Option<&mut F> {
-        let open = self
-            .files
-            .iter_mut()
-            .find(|open| open.name.as_str() == name)?;
-        Some(&mut open.file)
+        let index = self.index_of(name)?;
+        self.last = index;
+        Some(&mut self.files[index].file)
+    }
+
+    /// Where the file of this name is among those that are open.
+    fn index_of(&self, name: &str) -> Option<usize>
+        ensures { IfSome result (λ index. index < vec_len self.now.files) }
+    {
+        let (front, behind) = self.files.split_at(self.last.min(self.files.len()));
+        match index_in(behind, name) {
+            Some(index) => Some(front.len() + index),
+            None => index_in(front, name),
+        }
     }
 
     /// Makes room for one more file.
@@ -48,12 +60,8 @@ impl<F: OpenFile + Drop> OpenFiles<F> {
 
     /// Closes the file of this name, where it is open.
     pub(crate) fn close(&mut self, name: &str) -> Result<(), WriteError> {
-        match self
-            .files
-            .iter()
-            .position(|open| open.name.as_str() == name)
-        {
-            Some(place) => close(self.files.swap_remove(place).file),
+        match self.index_of(name) {
+            Some(index) => close(self.files.swap_remove(index).file),
             None => Ok(()),
         }
     }
@@ -66,6 +74,13 @@ impl<F: OpenFile + Drop> OpenFiles<F> {
         }
         closed
     }
+}
+
+/// Where the file of this name is among these.
+fn index_in<F: Drop>(files: &[NamedFile<F>], name: &str) -> Option<usize>
+    ensures { IfSome result (λ index. index < length files.now) }
+{
+    files.iter().position(|open| open.name.as_str() == name)
 }
 
 /// Closes a file, and says whether the system has all its bytes. A pipe or a terminal has no disk behind

@@ -1,12 +1,11 @@
 // Numbers and names that are written in one word.
-ghost use Rattle.std.specs.Prelude.{◌≡◌};
+ghost use Rattle.std.specs.Prelude.{◌≡◌, ◌+◌, ◌*◌, nat_le, Some, None, if◌then◌else◌};
 ghost use Rattle.std.specs.Char.{is_ascii_digit};
 ghost use Rattle.std.specs.List.{list_all};
 ghost use Rattle.fri_text.specs.Name.{is_name as is_name_word, is_name_byte};
 ghost use Rattle.fri_text.specs.Decimal.{decimal_of, signed_of, up_to, within_i64};
 
 use crate::error::TextError;
-use std::str;
 
 /// The number that the word writes in decimal digits, of which there may be any count, with zeros in
 /// front. `NotNumber` comes where the word is empty or has another byte than a digit, and `TooGreat`
@@ -17,16 +16,20 @@ pub fn read_decimal(word: &[u8], max: u64) -> Result<u64, TextError>
     if word.is_empty() || !are_digits(word) {
         return Err(TextError::NotNumber);
     }
-    let Ok(digits) = str::from_utf8(word) else {
-        return Err(TextError::NotNumber);
-    };
-    let Ok(number) = digits.parse::<u64>() else {
-        return Err(TextError::TooGreat);
-    };
-    if number > max {
-        return Err(TextError::TooGreat);
+    let mut number = 0;
+    for byte in word {
+        let digit = u64::from(*byte - b'0');
+        number = with_digit(number, digit, max).ok_or(TextError::TooGreat)?;
     }
     Ok(number)
+}
+
+// The number with one more digit behind it, if it is at most `max`.
+fn with_digit(number: u64, digit: u64, max: u64) -> Option<u64>
+    ensures { result ≡ (if nat_le (10 * number + digit) max then Some (10 * number + digit) else None) }
+{
+    let longer = number.checked_mul(10)?.checked_add(digit)?;
+    (longer <= max).then_some(longer)
 }
 
 fn are_digits(bytes: &[u8]) -> bool

@@ -2,3 +2,4 @@ pub mod FirstHead
 pub mod LeastEvent
 pub mod MergedOrder
 pub mod SendReceivers
+pub mod SortedSends

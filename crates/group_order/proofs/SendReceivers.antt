@@ -8,9 +8,9 @@ use Rattle.std.specs.BTreeMap.{is_at}
 use Rattle.std.specs.FinMap as map
 use Rattle.std.specs.FinMap.{IsAntisymmetric, find, nat_cmp-IsAntisymmetric}
 use Rattle.std.proofs.lemmas.Map.Lookups.{exact_pairs}
-use Rattle.group_order.specs.Sends.{FindsOneMoreSend, SendReceivers, by_sender}
+use Rattle.group_order.specs.Sends.{FindsOneMoreSend, by_sender}
 
-by_sender_total : IsTotalOrder by_sender
+pub by_sender_total : IsTotalOrder by_sender
 by_sender_total = then_total (on_total (λ (x : ℕ × ℕ). x.0) nat_cmp_total) (on_total (λ (x : ℕ × ℕ). x.1) nat_cmp_total)
 
 same_number : (a b : ℕ) → is_eq (nat_cmp b a) ≡ (a == b)
@@ -24,7 +24,7 @@ finds_one_more sends p clock to q at =
     map.get-insert by_sender_total sends (p, clock) to (q, at)
     ∙ ap (λ (b : Bool). if b then Some to else map.get sends (q, at)) (same_sender p clock q at)
 
-antisymmetric : IsAntisymmetric by_sender
+pub antisymmetric : IsAntisymmetric by_sender
 antisymmetric = exact_pairs nat_cmp nat_cmp nat_cmp-IsAntisymmetric nat_cmp-IsAntisymmetric
 
 -- what the tree with these entries has of a sender

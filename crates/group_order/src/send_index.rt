@@ -1,28 +1,33 @@
 // The sends of a group.
-ghost use Rattle.std.specs.Prelude.{◌≡◌, None, OnOk, OnErr};
+ghost use Rattle.std.specs.Prelude.{◌≡◌, None, OnOk, OnErr, IfOk, IfErr};
 ghost use Rattle.std.specs.FinMap as map;
+ghost use Rattle.group_order.specs.inside.SortedSends.{AreInOrder, IsAt, IsGapFor};
 
 use std::alloc::{AllocError, Global};
-use std::collections::BTreeMap;
+use std::cmp::Ordering;
 use std::marker::Model;
 
 /// The sends of a group's processes. Contracts see a map from the number and the clock of a sender to the
 /// receiver.
 #[derive(Drop)]
 pub struct SendIndex {
-    receivers: BTreeMap<(u32, u64), u32>,
+    // A sender's number and clock, and the receiver, in order.
+    sends: Vec<((u32, u64), u32)>,
 }
 
 impl Model for SendIndex {
     ghost use Rattle.std.specs.Coded.{coded_ℕ, coded×};
     ghost use Rattle.std.specs.FinMap as map;
     ghost use Rattle.group_order.specs.Sends.{SendReceivers};
+    ghost use Rattle.group_order.specs.inside.SortedSends.{AreInOrder};
 
     ghost Value = { SendReceivers };
 
     ghost coded = { map.code (coded× coded_ℕ coded_ℕ) coded_ℕ };
 
-    ghost view = { λ index. map.from_entries index.receivers.entries };
+    ghost view = { λ index. map.from_entries index.sends.items };
+
+    ghost invariant = { λ index. AreInOrder index.sends.items };
 }
 
 impl SendIndex {
@@ -31,7 +36,7 @@ impl SendIndex {
         ensures { result ≡ map.empty }
     {
         SendIndex {
-            receivers: BTreeMap::new(alloc),
+            sends: Vec::new(alloc),
         }
     }
 
@@ -41,14 +46,35 @@ impl SendIndex {
         ensures ok { OnOk result (self.new ≡ map.insert self.old (p, clock) to) }
         ensures err { OnErr result (self.new ≡ self.old) }
     {
-        self.receivers.insert((p, clock), to)?;
-        Ok(())
+        match search(&self.sends, (p, clock)) {
+            Ok(_) => unreachable!(),
+            Err(place) => Ok(self.sends.insert(place, ((p, clock), to))?),
+        }
     }
 
     /// The receiver of the send that process p made at this clock. None comes exactly where none was added.
     pub fn find_send(&self, p: u32, clock: u64) -> Option<u32>
         ensures { result ≡ map.get self.now (p, clock) }
     {
-        self.receivers.get(&(p, clock)).copied()
+        match search(&self.sends, (p, clock)) {
+            Ok(place) => Some(self.sends[place].1),
+            Err(_) => None,
+        }
+    }
+}
+
+// Where the send of this sender is, or where it would go.
+fn search(sends: &[((u32, u64), u32)], sender: (u32, u64)) -> Result<usize, usize>
+    requires { AreInOrder sends.now }
+    ensures found { IfOk result (IsAt sends.now sender) }
+    ensures absent { IfErr result (IsGapFor sends.now sender) }
+{
+    let Some(last) = sends.last() else {
+        return Err(0);
+    };
+    // Most often the sends come in order too, so that each goes to the end.
+    match last.0.cmp(&sender) {
+        Ordering::Less => Err(sends.len()),
+        _ => sends.binary_search_by_key(&sender, |send| send.0),
     }
 }

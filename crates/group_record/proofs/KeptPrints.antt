@@ -1,8 +1,9 @@
 -- What is kept of the prints is what the events printed.
 use Rattle.std.proofs.Common.{◌≡◌, ◌≢◌, ℕ, zero, suc, ◌<◌, ◌++◌, true, false, eqb, List, [], ◌∷◌, length, slice_get, slice_index_or, Some, refl, ap, sym, ◌∙◌, append_assoc, append-nil, arith}
-use Rattle.std.specs.Prelude.{replicate}
-use Rattle.std.proofs.lemmas.Bool.{eq-eqb}
+use Rattle.std.specs.Prelude.{replicate, slice_set}
+use Rattle.std.proofs.lemmas.Bool.{eq-eqb, eqb-true}
 use Rattle.std.proofs.lemmas.Bool.Decides.{nat_tests}
+use Rattle.std.proofs.lemmas.List.{set-get_or}
 use Rattle.std.proofs.lemmas.Option.{slice_get-get_or}
 use Rattle.lib_calls.specs.declared.entry.Entry.{Entry}
 use Rattle.lib_calls.specs.Traffic.{printed, prints}
@@ -11,6 +12,11 @@ use Rattle.group_world.specs.History.{put_last_if}
 use Rattle.group_record.specs.inside.Recorded.{with_print}
 use Rattle.group_record.specs.Run.{RunStep, Had, entries_of_steps}
 use Rattle.group_record.proofs.SharedLemmas.{set_each}
+
+-- where nothing is printed, what is kept stays
+pub nothing_printed : (kept : List (List ℕ)) (p : ℕ) (piece : List ℕ) → eqb (length piece) 0 ≡ true → kept ≡ with_print kept p piece
+nothing_printed kept p [] none = sym (ap (λ t. slice_set kept p t) (append-nil (slice_index_or kept p [])) ∙ set-get_or kept p [])
+nothing_printed kept p (b ∷ piece) none = absurd (omega (arith, eqb-true (length (b ∷ piece)) 0 none))
 
 -- what is printed with one event more
 prints_more : (es : List Entry) (e : Entry) → prints (es ++ e ∷ []) ≡ prints es ++ printed e

@@ -11,7 +11,7 @@ ghost use Rattle.group_record.specs.Live.{IsNoRun, LiveActs, LiveTries, TellsKil
 ghost use Rattle.group_record.specs.inside.Members.{CanKeepEntry};
 ghost use Rattle.group_record.specs.inside.Parts.{AreNewParts, AreSoundParts, CanMakeEvent, CountsEvent, MadeEvent, TakesEntry, live_parts};
 
-use crate::event::live_entry;
+use crate::event::{live_entry, new_entry};
 use crate::items::act;
 use crate::member::Member;
 use crate::prints::Prints;
@@ -62,10 +62,12 @@ impl<'m> Parts<'m> {
         let Some(process) = &self.members[p as usize].process else {
             unreachable!();
         };
-        match live_entry(self.alloc, process, thread, &self.world, p)? {
-            None => Ok(Tried::Idle),
-            Some(entry) => self.take_entry(p, entry),
+        let mut entry = new_entry(self.alloc);
+        let has_event = live_entry(&mut entry, process, thread, &self.world, p)?;
+        if !has_event {
+            return Ok(Tried::Idle);
         }
+        self.take_entry(p, entry)
     }
 
     // Makes the event of this entry, where the log of its process has room.

@@ -42,9 +42,13 @@ impl Prints {
     pub(crate) fn add(&mut self, p: u32, entry: &EntryView<'_>) -> Result<(), AllocError>
         ensures { OnOk result (self.new ≡ with_print self.old p (printed_of (entry_of entry.now))) }
     {
+        let piece = printed(entry);
+        if piece.is_empty() {
+            return Ok(());
+        }
         let index = p as usize;
         if index < self.processes.len() {
-            self.processes[index].push_all(printed(entry))?;
+            self.processes[index].push_all(piece)?;
         }
         Ok(())
     }

@@ -13,7 +13,7 @@ ghost use Rattle.group_record.specs.Answer.{after_writes};
 ghost use Rattle.group_record.specs.Files.{change};
 
 use crate::error::RecordError;
-use crate::event::live_entry;
+use crate::event::{live_entry, new_entry};
 use crate::items::act;
 use crate::member::Member;
 use crate::prints::Prints;
@@ -50,19 +50,21 @@ impl<'m> Recorder<'m> {
         ensures prints { OnOk result (length self.new.prints ≡ length self.old.prints) }
         ensures counted { F.counts files.new ≡ after_writes (F.counts files.old) result }
     {
+        let mut entry = new_entry(self.alloc);
         let mut number = 0;
         for item in items {
             number += 1;
-            self.perform(number, item, files)?;
+            self.perform(number, item, &mut entry, files)?;
         }
         Ok(())
     }
 
-    // Does the item with this number, from 1.
+    // Does the item with this number, from 1. Its events are told by `entry`, one after the other.
     fn perform<F: Files>(
         &mut self,
         number: u64,
         item: &Item,
+        entry: &mut Entry,
         files: &mut F,
     ) -> Result<(), RecordError>
         requires under_way { RecordingUnderWay self.old (F.told files.old) }
@@ -79,7 +81,7 @@ impl<'m> Recorder<'m> {
                 process,
                 thread,
                 times,
-            } => self.run(number, *process, *thread, *times, files),
+            } => self.run(number, *process, *thread, *times, entry, files),
             _ => Ok(self.act(item)?),
         }
     }
@@ -91,6 +93,7 @@ impl<'m> Recorder<'m> {
         p: u32,
         thread: u16,
         times: u32,
+        entry: &mut Entry,
         files: &mut F,
     ) -> Result<(), RecordError>
         requires under_way { RecordingUnderWay self.old (F.told files.old) }
@@ -102,7 +105,7 @@ impl<'m> Recorder<'m> {
         ensures counted { F.counts files.new ≡ after_writes (F.counts files.old) result }
     {
         for _ in 0..times {
-            self.attempt(number, p, thread, files)?;
+            self.attempt(number, p, thread, entry, files)?;
         }
         Ok(())
     }
@@ -113,6 +116,7 @@ impl<'m> Recorder<'m> {
         number: u64,
         p: u32,
         thread: u16,
+        entry: &mut Entry,
         files: &mut F,
     ) -> Result<(), RecordError>
         requires under_way { RecordingUnderWay self.old (F.told files.old) }
@@ -128,13 +132,12 @@ impl<'m> Recorder<'m> {
         let Some(process) = &self.members[p as usize].process else {
             unreachable!();
         };
-        match live_entry(self.alloc, process, thread, &self.world, p)? {
-            None => {
-                self.idle += 1;
-                Ok(())
-            }
-            Some(entry) => self.log_event(number, p, &entry, files),
+        let has_event = live_entry(entry, process, thread, &self.world, p)?;
+        if !has_event {
+            self.idle += 1;
+            return Ok(());
         }
+        self.log_event(number, p, entry, files)
     }
 
     // Writes the entry of an event to the log of its process, and makes the event.

@@ -1,5 +1,5 @@
 // The bytes of the guest's memory that a call names.
-ghost use Rattle.std.specs.Prelude.{◌≡◌, ◌+◌, ◌^◌, ◌≤◌, bytes_eq, length, IfOk, IsTrue, []};
+ghost use Rattle.std.specs.Prelude.{◌≡◌, ◌+◌, ◌^◌, ◌≤◌, bytes_eq, length, OnOk, IsTrue, []};
 ghost use Rattle.guest_memory.specs.Memory.{bytes_from, is_inside as is_inside_of};
 ghost use Rattle.lib_calls.specs.Effects.{is_good, is_range as is_range_of, named, outgoing_of};
 
@@ -7,7 +7,7 @@ use crate::entry::Call;
 use call_table::Kind;
 use fri_bytes::Bytes;
 use guest_memory::Memory;
-use std::alloc::{AllocError, Global};
+use std::alloc::AllocError;
 
 // How many bytes a call may name.
 const MOST_CALL_BYTES: u64 = 60_000;
@@ -50,37 +50,46 @@ pub(crate) fn is_inside(memory: &Memory, addr: u64, len: u64) -> bool
     addr <= count && len <= count - addr
 }
 
-/// A copy of the bytes that the call sends out of the memory as it is now: those that print and send
-/// name, where their arguments are good, and none else.
+/// Copies the bytes that the call sends out of the memory as it is now, in place of those that were there: those that
+/// print and send name, where their arguments are good, and none else.
 #[tactic(auto, unfolding(crate::specs::Effects::outgoing_of))]
 #[inline(always)]
-pub fn outgoing(alloc: Global, call: &Call, memory: &Memory) -> Result<Bytes, AllocError>
-    ensures { IfOk result (λ bytes. bytes ≡ outgoing_of call.now memory.now) }
+pub fn copy_outgoing(bytes: &mut Bytes, call: &Call, memory: &Memory) -> Result<(), AllocError>
+    ensures { OnOk result (bytes.new ≡ outgoing_of call.now memory.now) }
 {
     match call.kind {
-        Kind::Print => named(alloc, memory, call.a0, call.a1),
-        Kind::Send => named(alloc, memory, call.a1, call.a2),
-        _ => Ok(Bytes::new(alloc)),
+        Kind::Print => copy_named(bytes, memory, call.a0, call.a1),
+        Kind::Send => copy_named(bytes, memory, call.a1, call.a2),
+        _ => {
+            bytes.clear();
+            Ok(())
+        }
     }
 }
 
-// A copy of a range that a call may name, and of nothing where it may not.
-fn named(alloc: Global, memory: &Memory, addr: u64, len: u64) -> Result<Bytes, AllocError>
-    ensures { IfOk result (λ bytes. bytes ≡ named memory.now addr len) }
+// Copies a range that a call may name, and nothing where it may not.
+fn copy_named(bytes: &mut Bytes, memory: &Memory, addr: u64, len: u64) -> Result<(), AllocError>
+    ensures { OnOk result (bytes.new ≡ named memory.now addr len) }
 {
     if !is_range(memory, addr, len) {
-        return Ok(Bytes::new(alloc));
+        bytes.clear();
+        return Ok(());
     }
-    read(alloc, memory, addr, len)
+    copy_range(bytes, memory, addr, len)
 }
 
-// A copy of a range of the memory, which lends it in parts.
-pub(crate) fn read(alloc: Global, memory: &Memory, addr: u64, len: u64) -> Result<Bytes, AllocError>
+// Copies a range of the memory, which lends it in parts, in place of the bytes that were there.
+pub(crate) fn copy_range(
+    bytes: &mut Bytes,
+    memory: &Memory,
+    addr: u64,
+    len: u64,
+) -> Result<(), AllocError>
     requires inside { addr + len ≤ length memory.now.bytes }
     requires small { addr + len ≤ 2 ^ 24 }
-    ensures { IfOk result (λ bytes. bytes ≡ bytes_from memory.now addr len) }
+    ensures { OnOk result (bytes.new ≡ bytes_from memory.now addr len) }
 {
-    let mut bytes = Bytes::new(alloc);
+    bytes.clear();
     let mut count = 0;
     while count < len {
         let Some(part) = memory.lent(addr + count, len - count) else {
@@ -89,7 +98,7 @@ pub(crate) fn read(alloc: Global, memory: &Memory, addr: u64, len: u64) -> Resul
         bytes.push_all(part)?;
         count += part.len() as u64;
     }
-    Ok(bytes)
+    Ok(())
 }
 
 /// Whether these are the bytes that the call sends out of the memory as it is now. It takes no memory.

@@ -1,8 +1,8 @@
 // Copies of a guest's memory.
-ghost use Rattle.std.specs.Prelude.{◌≡◌, IfOk, Some, None, if◌then◌else◌};
+ghost use Rattle.std.specs.Prelude.{◌≡◌, ◌+◌, ◌≤◌, ◌^◌, length, IfOk, Some, None, if◌then◌else◌};
 ghost use Rattle.guest_memory.specs.Memory.{bytes_from, is_inside as is_inside_of};
 
-use crate::arguments::{MEMORY_PAGE, is_inside, read};
+use crate::arguments::{MEMORY_PAGE, copy_range, is_inside};
 use fri_bytes::Bytes;
 use guest_memory::Memory;
 use std::alloc::{AllocError, Global};
@@ -28,4 +28,15 @@ pub fn memory_bytes(alloc: Global, memory: &Memory) -> Result<Bytes, AllocError>
 {
     let count = MEMORY_PAGE * u64::from(memory.size());
     read(alloc, memory, 0, count)
+}
+
+// A copy of a range that lies in the memory.
+fn read(alloc: Global, memory: &Memory, addr: u64, len: u64) -> Result<Bytes, AllocError>
+    requires inside { addr + len ≤ length memory.now.bytes }
+    requires small { addr + len ≤ 2 ^ 24 }
+    ensures { IfOk result (λ bytes. bytes ≡ bytes_from memory.now addr len) }
+{
+    let mut bytes = Bytes::new(alloc);
+    copy_range(&mut bytes, memory, addr, len)?;
+    Ok(bytes)
 }

@@ -1,9 +1,10 @@
 // What calls are, which bytes they name, and what an answer writes.
 ghost use Rattle.std.specs.Prelude.{◌≡◌};
 
+use fri_bytes::Bytes;
 use guest_memory::Memory;
 use lamport_tag::Tag;
-use lib_calls::{Call, EntryView, Kind, Signature, good_arguments, outgoing, write_back};
+use lib_calls::{Call, EntryView, Kind, Signature, copy_outgoing, good_arguments, write_back};
 use std::alloc::AllocError;
 use std::test::Fail;
 
@@ -66,7 +67,8 @@ fn calls_name_bytes_and_are_answered(rt: HostRuntime) -> Result<(), Fail> {
     assert!(rt; !good_arguments(&call(Kind::Send, 9, 65_536, 1), &memory));
     // The bytes are in two pages of 4,096 bytes.
     assert!(rt; memory.write(4094, b"print")?);
-    let printed = outgoing(rt.alloc(), &call(Kind::Print, 4094, 5, 0), &memory)?;
+    let mut printed = Bytes::from_slice(rt.alloc(), b"before")?;
+    copy_outgoing(&mut printed, &call(Kind::Print, 4094, 5, 0), &memory)?;
     assert_eq!(rt; printed.as_slice(), b"print".as_slice());
     // The sender stands over the payload.
     assert!(rt; receive(&mut memory, 2, 0, b"abc", 0x0102_0304)?);

@@ -1,6 +1,6 @@
 use Rattle.std.proofs.Common.{arith}
 use Rattle.lib_calls.proofs.MemoryRanges.{read_more}
-use Rattle.lib_calls.proofs.arguments.read.Goals as goal
+use Rattle.lib_calls.proofs.arguments.copy_range.Goals as goal
 
 pub loop-count-preserved : goal.loop-count-preserved
 loop-count-preserved c =
