@@ -1,5 +1,5 @@
 -- Pieces that are written over bytes, and parts that are read of them.
-use Rattle.std.proofs.Common.{◌≡◌, ◌≤◌, ℕ, ◌+◌, ◌-◌, ◌%◌, zero, suc, List, [], ◌∷◌, ◌++◌, length, take, drop, min, length-append, length-take, length-drop, zero-add, add-zero, refl, ap, sym, ◌∙◌, arith}
+use Rattle.std.proofs.Common.{◌≡◌, ◌≤◌, ℕ, ◌+◌, zero, suc, List, [], ◌∷◌, ◌++◌, length, take, drop, length-append, length-take, length-drop, zero-add, add-zero, refl, ap, sym, ◌∙◌, arith}
 use Rattle.std.proofs.lemmas.List.{take-append-drop}
 use Rattle.std.proofs.lemmas.Grind.{common_steps}
 use Rattle.guest_memory.specs.Memory.{put_piece}
@@ -67,7 +67,7 @@ take-front : (xs ys : List ℕ) (n : ℕ) → n ≡ length xs → take n (xs ++ 
 take-front xs ys n e = grind (arith, common_steps)
 
 -- two parts in a row, written to the front of some bytes
-joined : (xs buffer : List ℕ) (a n m w : ℕ) → w ≡ n + m → a + w ≤ length xs → w ≤ length buffer
+pub joined : (xs buffer : List ℕ) (a n m w : ℕ) → w ≡ n + m → a + w ≤ length xs → w ≤ length buffer
     → take w (drop 0 (put_piece (put_piece buffer 0 (take n (drop a xs))) (length (take n (drop a xs))) (take m (drop (a + n) xs)))) ≡ take w (drop a xs)
 joined xs buffer a n m w e inside fits =
     let front : length (take n (drop a xs)) ≡ n = simp (length-take, length-drop) (omega arith) in
@@ -76,20 +76,3 @@ joined xs buffer a n m w e inside fits =
     let size : length (take w (drop a xs)) ≡ w = simp (length-take, length-drop) (omega arith) in
     rw (put-more buffer 0 (length (take n (drop a xs))) (take n (drop a xs)) (take m (drop (a + n) xs)) (omega arith) (omega (arith, front, back)), both)
     (take-front (take w (drop a xs)) (drop (0 + length (take w (drop a xs))) buffer) w (sym size))
-
--- the parts of two pages, which are what is over their edge
-pub across : (xs buffer front back once both : List ℕ) (a w : ℕ) → a + w ≤ length xs → w ≤ 8 → length buffer ≡ 8
-    → front ≡ take (min w (4096 - a % 4096)) (drop a xs)
-    → back ≡ take (min (w - length front) (4096 - (a + length front) % 4096)) (drop (a + length front) xs)
-    → once ≡ put_piece buffer 0 front → both ≡ put_piece once (length front) back
-    → take w (drop 0 both) ≡ take w (drop a xs)
-across xs buffer front back once both a w inside few size at-front at-back at-once at-both =
-    let n : length front ≡ min w (4096 - a % 4096) = rw at-front (simp (length-take, length-drop) (omega arith)) in
-    let m : min (w - length front) (4096 - (a + length front) % 4096) ≡ w - length front = omega (arith, n) in
-    let sum : w ≡ length front + (w - length front) = omega (arith, n) in
-    let is-front : front ≡ take (length front) (drop a xs) = at-front ∙ ap (λ k. take k (drop a xs)) (sym n) in
-    let is-back : back ≡ take (w - length front) (drop (a + length front) xs) = at-back ∙ ap (λ k. take k (drop (a + length front) xs)) m in
-    let so : both ≡ put_piece (put_piece buffer 0 (take (length front) (drop a xs))) (length (take (length front) (drop a xs))) (take (w - length front) (drop (a + length front) xs)) =
-    at-both ∙ ap (λ b. put_piece b (length front) back) at-once ∙ ap (λ f. put_piece (put_piece buffer 0 f) (length f) back) is-front
-    ∙ ap (λ b. put_piece (put_piece buffer 0 (take (length front) (drop a xs))) (length (take (length front) (drop a xs))) b) is-back in
-    rw so (joined xs buffer a (length front) (w - length front) w sum inside (omega (arith, size)))

@@ -1,5 +1,5 @@
 // A linear memory.
-ghost use Rattle.std.specs.Prelude.{◌≡◌, ◌↔◌, ◌+◌, ◌≤◌, length, IsSome, IfSome, IfOk, OnOk, OnErr, Ok, None};
+ghost use Rattle.std.specs.Prelude.{◌≡◌, ◌↔◌, ◌+◌, ◌%◌, ◌<◌, ◌≤◌, length, IsSome, IfSome, IfOk, OnOk, OnErr, Ok, None};
 ghost use Rattle.guest_memory.specs.Limits.{most_pages};
 ghost use Rattle.guest_memory.specs.LittleEndian.{low_bytes, IsWidth};
 ghost use Rattle.guest_memory.specs.Memory.{IsMemory, WritesPrefix, after_store, after_write_at, bytes_from, fresh_memory, growth_size, after_grow, is_inside, loaded_number, size_of, stamp_of, stretch_in_page};
@@ -131,7 +131,8 @@ impl Memory {
     // The same, where the bytes are in two watch pages.
     #[inline(never)]
     fn load_across(&self, addr: u64, width: u32) -> Option<u64>
-        requires { IsWidth width }
+        requires width { IsWidth width }
+        requires two { 4096 < addr % 4096 + width }
         ensures { result ≡ loaded_number self.now addr width }
     {
         if !self.contains(addr, u64::from(width)) {
@@ -162,7 +163,8 @@ impl Memory {
     // The same, where the bytes are in two watch pages.
     #[inline(never)]
     fn store_across(&mut self, addr: u64, width: u32, value: u64) -> Result<bool, AllocError>
-        requires { IsWidth width }
+        requires width { IsWidth width }
+        requires two { 4096 < addr % 4096 + width }
         ensures answer { IfOk result (λ stands. stands ≡ is_inside self.old addr width) }
         ensures ok { OnOk result (self.new ≡ after_store self.old addr width value) }
         ensures err { OnErr result (WritesPrefix self.old self.new addr (low_bytes width value)) }

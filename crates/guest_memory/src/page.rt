@@ -129,6 +129,7 @@ impl SharedPage {
     }
 
     // Writes the piece, by the event of this number.
+    #[inline(always)]
     pub fn put(&mut self, at: usize, piece: &[u8], number: u64) -> Result<(), AllocError>
         requires { at + length piece.now ≤ 4096 }
         ensures { self.new ≡ (if is_ok result then put_in_page self.old at piece.now number else self.old) }

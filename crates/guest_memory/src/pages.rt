@@ -6,7 +6,7 @@ ghost use Rattle.guest_memory.specs.Memory.{no_stamps, put_piece, zero_bytes};
 ghost use Rattle.guest_memory.specs.inside.Pages.{AreWhole, PutsPrefix, bytes_of_pages, stamps_of};
 ghost use Rattle.guest_memory.specs.Stamps.{stamped_pages};
 
-use crate::little_endian::{number_at, put_piece};
+use crate::little_endian::{number_at, put_number, put_piece};
 use crate::page::{SharedPage, WATCH_PAGE};
 use std::alloc::{AllocError, Global};
 
@@ -22,20 +22,32 @@ pub(crate) fn number_in(pages: &[SharedPage], addr: usize, width: u32) -> u64
     number_at(pages[addr / WATCH_PAGE].bytes(), addr % WATCH_PAGE, width)
 }
 
+// Where the bytes begin that are over the edge of a page: its last 8, in front of the first 8 of the next page.
+const EDGE: usize = WATCH_PAGE - 8;
+
+// The 16 bytes over the edge of this page. Each copy is of 8 bytes, so that it is one instruction.
+#[inline(always)]
+fn bytes_over_edge(pages: &[SharedPage], index: usize) -> [u8; 16]
+    requires whole { AreWhole pages.now }
+    requires next { index + 1 < length pages.now }
+    ensures { result ≡ take 16 (drop (4096 * index + 4088) (bytes_of_pages pages.now)) }
+{
+    let mut bytes = [0; 16];
+    put_piece(&mut bytes, 0, &pages[index].bytes()[EDGE..WATCH_PAGE]);
+    put_piece(&mut bytes, 8, &pages[index + 1].bytes()[0..8]);
+    bytes
+}
+
 // The number of so many bytes that stands in two pages.
 pub(crate) fn number_across(pages: &[SharedPage], addr: usize, width: u32) -> u64
     requires width { IsWidth width }
     requires whole { AreWhole pages.now }
     requires inside { addr + width ≤ length (bytes_of_pages pages.now) }
-    requires few { length (bytes_of_pages pages.now) ≤ 16777216 }
+    requires two { 4096 < addr % 4096 + width }
     ensures { result ≡ little_endian (take width (drop addr (bytes_of_pages pages.now))) }
 {
-    let front = part_in(pages, addr, width as usize);
-    let back = part_in(pages, addr + front.len(), width as usize - front.len());
-    let mut bytes = [0; 8];
-    put_piece(&mut bytes, 0, front);
-    put_piece(&mut bytes, front.len(), back);
-    number_at(&bytes, 0, width)
+    let bytes = bytes_over_edge(pages, addr / WATCH_PAGE);
+    number_at(&bytes, addr % WATCH_PAGE - EDGE, width)
 }
 
 // The longest first part of the range that stays in one page.
@@ -86,8 +98,8 @@ pub(crate) fn put_number_in(
     Ok(())
 }
 
-// Writes so many bytes of the value over the pages, by the event of this number.
-#[inline(never)]
+// Writes so many bytes of the value into two pages, by the event of this number: 8 into each, of which the others are as
+// they were.
 pub(crate) fn put_number_across(
     pages: &mut [SharedPage],
     addr: usize,
@@ -98,15 +110,19 @@ pub(crate) fn put_number_across(
     requires width { IsWidth width }
     requires whole { AreWhole pages.old }
     requires within { addr + width ≤ length (bytes_of_pages pages.old) }
-    requires few { length (bytes_of_pages pages.old) ≤ 16777216 }
+    requires two { 4096 < addr % 4096 + width }
     ensures whole { AreWhole pages.new }
     ensures len { length pages.new ≡ length pages.old }
     ensures bytes { OnOk result (bytes_of_pages pages.new ≡ put_piece (bytes_of_pages pages.old) addr (low_bytes width value)) }
     ensures stamps { OnOk result (stamps_of pages.new ≡ stamped_pages (stamps_of pages.old) addr (length (low_bytes width value)) number) }
     ensures err { OnErr result (PutsPrefix pages.old pages.new addr (low_bytes width value) number) }
 {
-    let all = value.to_le_bytes();
-    put_all(pages, addr, &all[..width as usize], number)
+    let index = addr / WATCH_PAGE;
+    let mut bytes = bytes_over_edge(pages, index);
+    put_number(&mut bytes, addr % WATCH_PAGE - EDGE, width, value);
+    pages[index].put(EDGE, &bytes[0..8], number)?;
+    pages[index + 1].put(0, &bytes[8..16], number)?;
+    Ok(())
 }
 
 // Writes the piece over the pages, by the event of this number.

@@ -63,8 +63,8 @@ pub fn callee_at<'m>(module: &'m ValidModule, place: usize) -> Option<Callee<'m>
     let Some(func) = module.module().funcs.get(place) else {
         return None;
     };
-    let Some(declared) = module.declared(place) else {
-        return None;
-    };
-    Some(Callee { func, declared })
+    match module.declared(place) {
+        Some(declared) => Some(Callee { func, declared }),
+        None => unreachable!(),
+    }
 }

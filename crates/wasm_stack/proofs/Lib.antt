@@ -4,3 +4,4 @@ pub mod LevelEnds
 pub mod FrameFunctions
 pub mod StackViews
 pub mod WithinLimits
+pub mod Ruled

@@ -1,7 +1,8 @@
 -- A thread: the innermost level of its innermost frame, the levels around it, and the frames that wait
 -- for that frame to return (WebAssembly 1.0, section 4.2.12).
-use Rattle.std.specs.Prelude.{ℕ, ◌+◌, Bool, true, false, nat_lt, nat_le, is_some, ◌&&◌, if◌then◌else◌, reverse, take, drop, List, [], ◌∷◌, ◌++◌, length, Option, Some, None, map}
+use Rattle.std.specs.Prelude.{◌≡◌, ℕ, ◌+◌, Bool, true, false, nat_lt, nat_le, is_some, ◌&&◌, if◌then◌else◌, reverse, take, drop, List, [], ◌∷◌, ◌++◌, length, Option, Some, None, map}
 use Rattle.wasm_types.specs.declared.code.Value.{Value}
+use Rattle.wasm_types.specs.declared.code.Value.TheVariants.{I32}
 use Rattle.wasm_types.specs.declared.code.ValType.{ValType}
 use Rattle.wasm_types.specs.Calls.{result_of}
 use Rattle.wasm_types.specs.Code.{Trees, End, Then}
@@ -69,6 +70,10 @@ with_todo t todo = record t { todo = todo }
 
 abbrev pub with_operand : Thread → Value → Thread
 with_operand t v = record t { stack = v ∷ t.stack }
+
+-- the topmost operand has 32 bits
+abbrev pub HasI32 : Thread → Type 0
+HasI32 t = (x : ℕ) × (t.stack ≡ I32 x ∷ drop 1 t.stack)
 
 abbrev pub innermost_level_of : Thread → Level
 innermost_level_of t = record { gives = t.gives; todo = t.todo; stack = t.stack; target = t.target; carries = t.carries; loops = t.loops }

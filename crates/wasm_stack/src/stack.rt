@@ -1,7 +1,8 @@
 // A thread as an owned value: one stack each of operands, labels, locals and frames.
 ghost use Rattle.std.specs.Prelude.{◌∷◌, OnErr, ◌≡◌, ◌+◌, ◌-◌, ◌<◌, ◌≤◌, [], ◌++◌, drop, length, IfOk, OnOk, Some, None, if◌then◌else◌, IfSome, IfNone, IsTrue, nat_lt, nat_le, ◌&&◌, false, is_some, map, reverse, slice_get, slice_set, take, true};
-ghost use Rattle.wasm_types.specs.Code.{End, Then, tree, trees};
-ghost use Rattle.wasm_stack.specs.Thread.{arguments, closed_level, with_operand, without_operands, has_frame_room, has_room, is_end, fits_limits, functions_of, most_frames};
+ghost use Rattle.wasm_types.specs.Code.{End, Then, Trees, tree, trees};
+ghost use Rattle.wasm_types.specs.declared.code.Value.TheVariants.{I32};
+ghost use Rattle.wasm_stack.specs.Thread.{HasI32, arguments, closed_level, with_operand, with_todo, without_operands, has_frame_room, has_room, is_end, fits_limits, functions_of, most_frames};
 ghost use Rattle.std.specs.Vec.{vec_capacity};
 ghost use Rattle.wasm_types.specs.Limits.{most_thread_size};
 ghost use Rattle.wasm_stack.specs.Call.{call_sited};
@@ -340,6 +341,18 @@ impl<'m> Stack<'m> {
         self.operands[self.operands.len() - 1]
     }
 
+    /// The number that the topmost operand is, which has 32 bits.
+    #[inline(always)]
+    pub fn last_i32(&self) -> u32
+        requires { HasI32 self.now }
+        ensures { self.now.stack ≡ I32 result ∷ drop 1 self.now.stack }
+    {
+        match self.last().value() {
+            Value::I32(x) => x,
+            Value::I64(_) => unreachable!(),
+        }
+    }
+
     /// The two topmost operands of a level that has as many.
     #[inline(always)]
     pub fn last_two(&self) -> (Slot, Slot)
@@ -428,11 +441,12 @@ impl<'m> Stack<'m> {
         Ok(())
     }
 
-    /// The same where there is room for it, in a level that is left these.
+    /// The same where there is room for it, in a level that is left these. What the thread itself is left stays, so that a
+    /// burst can keep at hand what the new level is.
     #[inline(always)]
-    pub fn open_within(&mut self, opener: &'m Instr, body: &'m [Instr], todo: &'m [Instr]) -> bool
+    pub fn open_within(&mut self, opener: &'m Instr, todo: &'m [Instr]) -> bool
         requires { ThreadWithin self.old }
-        ensures opened { IsTrue result → self.new ≡ entered_by (tree opener.now) (trees body.now) (record self.old { todo = trees todo.now }) }
+        ensures opened { IsTrue result → (body : Trees) → with_todo self.new body ≡ entered_by (tree opener.now) body (with_todo self.old (trees todo.now)) }
         ensures within { ThreadWithin self.new }
         ensures same { result ≡ false → self.new ≡ self.old }
     {
@@ -445,22 +459,16 @@ impl<'m> Stack<'m> {
             todo,
             floor: self.here.floor,
         });
-        self.here.todo = body;
         self.here.floor = self.operands.len();
         true
     }
 
     /// The same without the topmost operand of the level, which has one.
     #[inline(always)]
-    pub fn open_without_top(
-        &mut self,
-        opener: &'m Instr,
-        body: &'m [Instr],
-        todo: &'m [Instr],
-    ) -> bool
+    pub fn open_without_top(&mut self, opener: &'m Instr, todo: &'m [Instr]) -> bool
         requires within { ThreadWithin self.old }
         requires some { 1 ≤ length self.old.stack }
-        ensures opened { IsTrue result → self.new ≡ entered_by (tree opener.now) (trees body.now) (without_operands 1 (record self.old { todo = trees todo.now })) }
+        ensures opened { IsTrue result → (body : Trees) → with_todo self.new body ≡ entered_by (tree opener.now) body (without_operands 1 (with_todo self.old (trees todo.now))) }
         ensures within { ThreadWithin self.new }
         ensures same { result ≡ false → self.new ≡ self.old }
     {
@@ -475,7 +483,6 @@ impl<'m> Stack<'m> {
             todo,
             floor: self.here.floor,
         });
-        self.here.todo = body;
         self.here.floor = height - 1;
         true
     }

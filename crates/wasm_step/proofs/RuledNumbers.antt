@@ -8,8 +8,8 @@ use Rattle.wasm_values.specs.Numeric.{Computed, Gives, Fails, IsNone, binary, is
 use Rattle.wasm_stack.specs.After.{AfterStep, Goes, Sticks, Stops, on_top, with_top}
 use Rattle.wasm_stack.specs.Limits.{ThreadWithin}
 use Rattle.wasm_stack.specs.Rows.{numeric, put_computed}
-use Rattle.wasm_stack.specs.Thread.{Thread, with_operand}
-use Rattle.wasm_step.specs.inside.Rules.{HasI32, HasI64, HasTwoI32, HasTwoI64, OneIsI32, OneIsI64, TwoAreI32, TwoAreI64}
+use Rattle.wasm_stack.specs.Thread.{HasI32, Thread, with_operand}
+use Rattle.wasm_step.specs.inside.Rules.{HasI64, HasTwoI32, HasTwoI64, OneIsI32, OneIsI64, TwoAreI32, TwoAreI64}
 
 pub one_i32 : (op k : ℕ) (t : Thread) → op ≡ k → (numeric op t ≡ Stops Sticks → ⊥) → is_unary k ≡ true → OneIsI32 k → HasI32 t
 one_i32 op k t same rule takes only = by_stack t.stack refl

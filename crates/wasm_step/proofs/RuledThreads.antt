@@ -1,18 +1,22 @@
 -- What a thread has whose next instruction has a rule.
-use Rattle.std.proofs.Common.{◌≡◌, ℕ, ◌+◌, ◌<◌, ◌≤◌, Bool, true, false, List, [], ◌∷◌, Option, Some, None, length, drop, refl, sym, ap, ◌∙◌, arith, rules, tests}
-use Rattle.std.specs.Prelude.{if◌then◌else◌, nat_lt, slice_get, slice_set}
-use Rattle.std.proofs.lemmas.Bool.{ltb-true}
+use Rattle.std.proofs.Common.{◌≡◌, ℕ, ◌+◌, ◌<◌, ◌≤◌, Bool, true, false, List, [], ◌∷◌, Option, Some, None, length, drop, length-drop, refl, sym, ap, ◌∙◌, arith, rules, tests}
+use Rattle.std.specs.Prelude.{if◌then◌else◌, nat_lt, reverse, slice_get, slice_set, take}
+use Rattle.std.proofs.lemmas.Bool.{ltb-false, ltb-true}
 use Rattle.std.proofs.lemmas.Option.{slice_get_within}
 use Rattle.guest_memory.specs.Memory.{Memory}
 use Rattle.wasm_types.specs.declared.code.Value.{Value}
 use Rattle.wasm_types.specs.declared.code.Value.TheVariants.{I32, I64}
+use Rattle.wasm_types.specs.Calls.{result_of}
 use Rattle.wasm_types.specs.Code.{DropTop, LocalGet}
+use Rattle.wasm_types.specs.Functions.{type_of}
+use Rattle.wasm_types.specs.Modules.{Func, FuncType, Module}
 use Rattle.wasm_store.specs.Store.{Store}
-use Rattle.wasm_stack.specs.After.{Goes, Sticks, Stops, on_i32, on_top}
+use Rattle.wasm_stack.specs.After.{Goes, Sticks, Stops, frame_goes_on, on_i32, on_top}
 use Rattle.wasm_stack.specs.Rows.{got, local_put, local_set, local_tee}
-use Rattle.wasm_stack.specs.Thread.{Thread, with_operand, without_operands}
-use Rattle.wasm_step.specs.Reduce.{load, load_at}
-use Rattle.wasm_step.specs.inside.Rules.{HasI32, HasRule}
+use Rattle.wasm_stack.specs.Thread.{HasI32, Thread, called_function, called_with, with_operand, without_operands}
+use Rattle.wasm_step.specs.Reduce.{call, call_element, call_if_same, call_indirect, load, load_at}
+use Rattle.wasm_step.specs.inside.Wanted.{MatchesCallType}
+use Rattle.wasm_step.specs.inside.Rules.{HasRule}
 use Rattle.wasm_values.specs.Access.{load_width}
 
 goes_same : (t u : Thread) → Goes t ≡ Goes u → t ≡ u
@@ -95,3 +99,40 @@ set_after_tee x t u some tee has = by_stack t.stack refl
         ap (λ (u : Thread). Goes (without_operands 1 u)) put
         ∙ ap (λ b. if b then Goes (record t { stack = rest; locals = slice_set t.locals x v }) else Stops Sticks) (sym is)
         ∙ ap (λ s. local_set x (record t { stack = s })) (sym e)
+
+-- ---- calls
+
+-- a call of an own function has its arguments
+pub has_arguments : (m : Module) (f : ℕ) (func : Func) (type : FuncType) (t : Thread) → call m f t ≡ frame_goes_on t (called_function t f func type) → (call m f t ≡ Stops Sticks → ⊥) → length type.params ≤ length t.stack
+has_arguments m f func type t is rule = by_test (nat_lt (length t.stack) (length type.params)) refl
+  where
+    by_test : (b : Bool) → nat_lt (length t.stack) (length type.params) ≡ b → length type.params ≤ length t.stack
+    by_test true e = absurd (rule (is ∙ ap (λ b. frame_goes_on t (called_with (if b then None else Some (reverse (take (length type.params) t.stack))) (length type.params) t f func (result_of type))) e))
+    by_test false e = ltb-false (length t.stack) (length type.params) e
+
+pub has_place : (type : ℕ) (g : Store) (t : Thread) → (call_indirect type g t ≡ Stops Sticks → ⊥) → HasI32 t
+has_place type g t rule = by_stack t.stack refl
+  where
+    by_stack : (s : List Value) → t.stack ≡ s → HasI32 t
+    by_stack [] e = absurd (rule (ap (λ s. on_top s t (λ v u. on_i32 v (λ i. call_element g.«module» type (slice_get g.table i) u))) e))
+    by_stack (I64 x ∷ rest) e = absurd (rule (ap (λ s. on_top s t (λ v u. on_i32 v (λ i. call_element g.«module» type (slice_get g.table i) u))) e))
+    by_stack (I32 x ∷ rest) e = (x, e ∙ ap (λ rest. I32 x ∷ rest) (sym (ap (drop 1) e)))
+
+-- a call through the table calls the function that is there
+pub indirect_calls : (m : Module) (type f x : ℕ) (found : FuncType) (g : Store) (t : Thread) → m ≡ g.«module» → t.stack ≡ I32 x ∷ drop 1 t.stack → slice_get g.table x ≡ Some (Some f)
+    → type_of m f ≡ Some found → MatchesCallType m found (slice_get m.types type) → call_indirect type g t ≡ call m f (without_operands 1 t)
+indirect_calls m type f x found g t same top at of matches =
+    let u = without_operands 1 t in
+    ap (λ s. on_top s t (λ v u. on_i32 v (λ i. call_element g.«module» type (slice_get g.table i) u))) top
+    ∙ ap (λ (m : Module). call_element m type (slice_get g.table x) u) (sym same)
+    ∙ ap (λ o. call_element m type o u) at
+    ∙ ap (λ o. call_if_same m f o (slice_get m.types type) u) of
+    ∙ matches f u
+
+pub has_indirect_arguments : (m : Module) (type f x : ℕ) (func : Func) (found : FuncType) (g : Store) (t : Thread) → m ≡ g.«module» → t.stack ≡ I32 x ∷ drop 1 t.stack → slice_get g.table x ≡ Some (Some f)
+    → type_of m f ≡ Some found → MatchesCallType m found (slice_get m.types type) → ((t : Thread) → call m f t ≡ frame_goes_on t (called_function t f func found)) → (call_indirect type g t ≡ Stops Sticks → ⊥)
+    → 1 + length found.params ≤ length t.stack
+has_indirect_arguments m type f x func found g t same top at of matches calls rule =
+    let u = without_operands 1 t in
+    let few = has_arguments m f func found u (calls u) (λ sticks. rule (indirect_calls m type f x found g t same top at of matches ∙ sticks)) in
+    omega (arith, few, ap length top, length-drop 1 t.stack)

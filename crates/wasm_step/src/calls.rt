@@ -6,7 +6,7 @@ ghost use Rattle.wasm_types.specs.Locals.{zeros};
 ghost use Rattle.wasm_types.specs.Modules.{func_type, module_of};
 ghost use Rattle.wasm_stack.specs.Answer.{after_of};
 ghost use Rattle.wasm_stack.specs.Limits.{ThreadWithin};
-ghost use Rattle.wasm_stack.specs.After.{Goes, frame_goes_on, limited_thread};
+ghost use Rattle.wasm_stack.specs.After.{Goes, Sticks, Stops, frame_goes_on, limited_thread};
 ghost use Rattle.wasm_step.specs.inside.Wanted.{MatchesCallType};
 ghost use Rattle.wasm_step.specs.Reduce.{call, call_element, call_indirect, call_library, call_own, reduce_instruction, store_stays};
 ghost use Rattle.wasm_step.specs.Strand.{started_above};
@@ -84,7 +84,8 @@ pub(crate) fn library_call(module: &ValidModule, instr: &Instr) -> Option<Next>
 /// burst, whose other instructions would find fewer registers.
 #[inline(never)]
 pub(crate) fn call_in_place<'m>(thread: &mut Stack<'m>, module: &'m ValidModule, index: u32) -> bool
-    requires { ThreadWithin thread.old }
+    requires within { ThreadWithin thread.old }
+    requires rule { call (module_of «module».now) index thread.old ≡ Stops Sticks → ⊥ }
     ensures goes { IsTrue result → call (module_of «module».now) index thread.old ≡ Goes thread.new }
     ensures within { ThreadWithin thread.new }
     ensures same { result ≡ false → thread.new ≡ thread.old }
@@ -95,27 +96,25 @@ pub(crate) fn call_in_place<'m>(thread: &mut Stack<'m>, module: &'m ValidModule,
     if has_few(&callee, typing) {
         thread.enter_within(index, callee, typing, 0, true)
     } else {
-        call_many_in_place(thread, module, index, 0)
+        enter_many(thread, index, callee, typing, 0)
     }
 }
 
-// The same below so many operands that go, with values that are copied together.
+// The frame of a function below so many operands that go, with values that are copied together.
 #[inline(never)]
-fn call_many_in_place<'m>(
+fn enter_many<'m>(
     thread: &mut Stack<'m>,
-    module: &'m ValidModule,
     index: u32,
+    callee: Callee<'m>,
+    typing: &FuncType,
     above: usize,
 ) -> bool
     requires within { ThreadWithin thread.old }
-    requires above { above ≤ length thread.old.stack }
-    ensures goes { IsTrue result → call (module_of «module».now) index (without_operands above thread.old) ≡ Goes thread.new }
+    requires enough { above + length (func_type typing.now).params ≤ length thread.old.stack }
+    ensures entered { IsTrue result → called_function (without_operands above thread.old) index callee.entry (func_type typing.now) ≡ Some thread.new }
     ensures within { ThreadWithin thread.new }
     ensures same { result ≡ false → thread.new ≡ thread.old }
 {
-    let Some((callee, typing)) = own_typed(module, index) else {
-        return false;
-    };
     thread.enter_within(index, callee, typing, above, false)
 }
 
@@ -129,14 +128,12 @@ pub(crate) fn call_indirect_in_place<'m>(
 ) -> bool
     requires same_module { module_of «module».now ≡ store.now.«module» }
     requires within { ThreadWithin thread.old }
+    requires rule { call_indirect type_index store.now thread.old ≡ Stops Sticks → ⊥ }
     ensures goes { IsTrue result → call_indirect type_index store.now thread.old ≡ Goes thread.new }
     ensures within { ThreadWithin thread.new }
     ensures same { result ≡ false → thread.new ≡ thread.old }
 {
-    let Some(Value::I32(i)) = thread.top() else {
-        return false;
-    };
-    let Some(Some(index)) = store.element(i) else {
+    let Some(Some(index)) = store.element(thread.last_i32()) else {
         return false;
     };
     let Some((callee, typing)) = own_typed(module, index) else {
@@ -148,7 +145,7 @@ pub(crate) fn call_indirect_in_place<'m>(
     if has_few(&callee, typing) {
         thread.enter_within(index, callee, typing, 1, true)
     } else {
-        call_many_in_place(thread, module, index, 1)
+        enter_many(thread, index, callee, typing, 1)
     }
 }
 
@@ -289,14 +286,17 @@ fn own_typed<'m>(module: &'m ValidModule, index: u32) -> Option<(Callee<'m>, &'m
     ensures at { IfSome result (λ own. slice_get (module_of «module».now).types own.0.type_index ≡ Some (func_type own.1.now)) }
     ensures calls { IfSome result (λ own. (t : Thread) → call (module_of «module».now) index t ≡ frame_goes_on t (called_function t index own.0 (func_type own.1.now))) }
 {
-    let imports = module.module().imports.len();
+    let inner = module.module();
+    let imports = inner.imports.len();
     let place = index as usize;
     if place < imports {
         return None;
     }
     let callee = callee_at(module, place - imports)?;
-    let typing = type_at(module.module(), callee.type_index())?;
-    Some((callee, typing))
+    match type_at(inner, callee.type_index()) {
+        Some(typing) => Some((callee, typing)),
+        None => unreachable!(),
+    }
 }
 
 // Whether a function of this type has the type with this index, which mostly is its own.

@@ -71,17 +71,16 @@ pub(crate) fn try_in_place<'m>(
         }
         Instr::Nop => return Ok(Some(Way::Goes)),
         Instr::Block(_, body) | Instr::Loop(_, body) => {
-            if !thread.open_within(instr, body, *todo) {
+            if !thread.open_within(instr, *todo) {
                 return Ok(None);
             }
             *todo = body;
             return Ok(Some(Way::Goes));
         }
         Instr::If(_, on_true, on_false) => {
-            if !thread.choose_in_place(instr, on_true, on_false, *todo) {
+            if !thread.choose_in_place(instr, on_true, on_false, todo) {
                 return Ok(None);
             }
-            *todo = thread.todo();
             return Ok(Some(Way::Goes));
         }
         Instr::Br(n) => {
@@ -90,11 +89,11 @@ pub(crate) fn try_in_place<'m>(
         }
         Instr::BrIf(n) => {
             thread.go_to(*todo);
-            Some(thread.branch_if_or_pass(*n))
+            Some(thread.branch_if_in_place(*n))
         }
         Instr::BrTable(labels, default) => {
             thread.go_to(*todo);
-            Some(thread.branch_table(labels, *default))
+            Some(thread.branch_table_in_place(labels, *default))
         }
         Instr::Return => {
             thread.go_to(*todo);

@@ -2,7 +2,7 @@
 ghost use Rattle.std.specs.Prelude.{◌≡◌, ℕ, ◌+◌, IfOk, IfSome, IsTrue, None, OnOk, Some, false, if◌then◌else◌};
 ghost use Rattle.wasm_types.specs.declared.code.Value.TheVariants.{I32, I64};
 ghost use Rattle.wasm_values.specs.Access.{load_width, store_width};
-ghost use Rattle.wasm_step.specs.inside.Rules.{HasI32};
+ghost use Rattle.wasm_stack.specs.Thread.{HasI32};
 ghost use Rattle.wasm_step.specs.inside.Accesses.{Loads, Stores};
 ghost use Rattle.guest_memory.specs.LittleEndian.{IsWidth};
 ghost use Rattle.wasm_stack.specs.Answer.{after_of};
@@ -76,7 +76,7 @@ pub(crate) fn load_in_place(thread: &mut Stack<'_>, store: &Store<'_>, op: u8, o
     ensures within { ThreadWithin thread.new }
     ensures same { result ≡ false → thread.new ≡ thread.old }
 {
-    let base = narrow(thread.last().value());
+    let base = thread.last_i32();
     let Some(v) = loaded(store.memory(), op, address(base, offset)) else {
         return false;
     };

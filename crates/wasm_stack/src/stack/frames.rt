@@ -78,8 +78,8 @@ impl<'m> Stack<'m> {
         Ok(true)
     }
 
-    /// The same where memory is reserved for the frame and the limits allow it, below so many operands that go. With
-    /// `few`, values are copied one by one.
+    /// The same where memory is reserved for the frame and the limits allow it, below so many operands that go, of a level that
+    /// has as many and the arguments. With `few`, values are copied one by one.
     #[inline(always)]
     pub fn enter_within(
         &mut self,
@@ -90,7 +90,7 @@ impl<'m> Stack<'m> {
         few: bool,
     ) -> bool
         requires within { ThreadWithin self.old }
-        requires above { above ≤ length self.old.stack }
+        requires enough { above + length (func_type typing.now).params ≤ length self.old.stack }
         ensures entered { IsTrue result → called_function (without_operands above self.old) index callee.entry (func_type typing.now) ≡ Some self.new }
         ensures within { ThreadWithin self.new }
         ensures same { result ≡ false → self.new ≡ self.old }
@@ -102,8 +102,7 @@ impl<'m> Stack<'m> {
         let height = self.operands.len() - above;
         let locals_from = self.locals.len();
         let left = MOST_THREAD_SIZE - self.labels.len() - locals_from;
-        if height - self.here.floor < n
-            || starts.len() > left
+        if starts.len() > left
             || height > left - starts.len()
             || self.locals.capacity() - locals_from < n + starts.len()
             || self.callers.len() + 1 >= MOST_FRAMES

@@ -26,10 +26,7 @@ IsNarrow v = (x : ℕ) × (v ≡ I32 x)
 abbrev pub IsLong : Value → Type 0
 IsLong v = (x : ℕ) × (v ≡ I64 x)
 
--- the topmost operand, and the two topmost
-abbrev pub HasI32 : Thread → Type 0
-HasI32 t = (x : ℕ) × (t.stack ≡ I32 x ∷ drop 1 t.stack)
-
+-- the topmost operand, and the two topmost, beside `HasI32` of wasm_stack
 abbrev pub HasI64 : Thread → Type 0
 HasI64 t = (x : ℕ) × (t.stack ≡ I64 x ∷ drop 1 t.stack)
 

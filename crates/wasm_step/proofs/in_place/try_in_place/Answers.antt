@@ -1,16 +1,16 @@
 use Rattle.std.proofs.Common.{◌≡◌, Bool, true, false, IfSome, IsTrue, None, Option, Some, sym, ap, ◌∙◌, subst, refl}
 use Rattle.std.specs.Prelude.{if◌then◌else◌}
 use Rattle.wasm_types.specs.declared.code.Instr.{Instr}
-use Rattle.wasm_types.specs.Code.{Trees, tree, trees}
-use Rattle.wasm_types.specs.Modules.{Module}
+use Rattle.wasm_types.specs.Code.{tree, trees}
+use Rattle.wasm_types.specs.Modules.{Module, module_of}
 use Rattle.wasm_store.specs.Store.{Store}
 use Rattle.wasm_stack.specs.declared.halt.Way.{Way}
 use Rattle.wasm_stack.specs.declared.halt.Way.TheVariants as way
 use Rattle.wasm_stack.specs.Answer.{way_of}
 use Rattle.wasm_stack.specs.Limits.{ThreadWithin}
 use Rattle.wasm_stack.specs.After.{AfterStep, Goes}
-use Rattle.wasm_stack.specs.Control.{branch_table}
-use Rattle.wasm_step.specs.Reduce.{call, instr_row, store_stays}
+use Rattle.wasm_stack.specs.Control.{branch_if, branch_table}
+use Rattle.wasm_step.specs.Reduce.{ThreadAndStore, call, call_indirect, instr_row, store_stays}
 use Rattle.wasm_stack.specs.Thread.{Thread}
 use Rattle.wasm_step.proofs.EndsWithinLimits.{StaysWithin, branch_within, branch_if_within, branch_table_within, return_within}
 use Rattle.wasm_step.proofs.LevelEnds.{row_enters, row_chooses}
@@ -76,7 +76,33 @@ numeric_in_place-requires-clause-rule c =
     let rule = subst (λ i. HasRule (tree i) t c.args.store.now) c.in-Op.is c.requires.rule in
     λ sticks. rule (sticks_anywhere c.in-Op.op c.args.thread.now (trees c.args.todo.now.now) sticks)
 
-module _ (c : goal.After-todo-2) where
+pub branch_if_in_place-requires : goal.branch_if_in_place-requires
+branch_if_in_place-requires c =
+    let t = record c.args.thread.now { todo = trees c.args.todo.now.now } in
+    let rule = subst (λ i. HasRule (tree i) t c.args.store.now) c.in-BrIf.is c.requires.rule in
+    λ sticks. rule (ap (branch_if c.in-BrIf.n) (sym c.go_to-in-BrIf.ensures) ∙ sticks)
+
+pub branch_table_in_place-requires : goal.branch_table_in_place-requires
+branch_table_in_place-requires c =
+    let t = record c.args.thread.now { todo = trees c.args.todo.now.now } in
+    let rule = subst (λ i. HasRule (tree i) t c.args.store.now) c.in-BrTable.is c.requires.rule in
+    λ sticks. rule (ap (branch_table c.in-BrTable.labels.items c.in-BrTable.default) (sym c.go_to-in-BrTable.ensures)
+    ∙ ap (λ labels. branch_table labels c.in-BrTable.default c.go_to-in-BrTable.new.self) (sym c.deref-in-BrTable.ensures.value) ∙ sticks)
+
+pub call_in_place-requires-clause-rule : goal.call_in_place-requires-clause-rule
+call_in_place-requires-clause-rule c =
+    let t = record c.args.thread.now { todo = trees c.args.todo.now.now } in
+    let rule = subst (λ i. HasRule (tree i) t c.args.store.now) c.in-CallFunc.is c.requires.rule in
+    λ sticks. rule (ap (λ (m : Module). call m c.in-CallFunc.index t) (sym c.requires.same_module)
+    ∙ ap (call (module_of c.args.module.now) c.in-CallFunc.index) (sym c.go_to-in-CallFunc.ensures) ∙ sticks)
+
+pub call_indirect_in_place-requires-clause-rule : goal.call_indirect_in_place-requires-clause-rule
+call_indirect_in_place-requires-clause-rule c =
+    let t = record c.args.thread.now { todo = trees c.args.todo.now.now } in
+    let rule = subst (λ i. HasRule (tree i) t c.args.store.now) c.in-CallIndirect.is c.requires.rule in
+    λ sticks. rule (ap (call_indirect c.in-CallIndirect.type_index c.args.store.now) (sym c.go_to-in-CallIndirect.ensures) ∙ sticks)
+
+module _ (c : goal.After-todo) where
   abbrev i : Instr
   i = c.args.instr.now
 
@@ -87,7 +113,7 @@ module _ (c : goal.After-todo-2) where
   t = record c.args.thread.now { todo = trees c.args.todo.now.now }
 
   abbrev u : Thread
-  u = record c.match-instr.thread { todo = trees c.todo-2.result.now }
+  u = record c.match-instr.thread { todo = trees c.todo.result.now }
 
   abbrev Done : Option Way → Type 0
   Done o = IfSome o (λ w. instr_row (tree i) t g ≡ store_stays g (way_of w u))
@@ -95,7 +121,7 @@ module _ (c : goal.After-todo-2) where
   -- a branch, of the thread t' with what is left put back
   by_way : (j : Instr) (t' v : Thread) (w : Way) → i ≡ j → t' ≡ t → c.match-instr.thread ≡ v → c.match-instr.way' ≡ Some w → instr_row (tree j) t' g ≡ store_stays g (way_of w v) → Done c.match-instr.way'
   by_way j t' v w is here same way e =
-      let now : u ≡ v = ap (λ T. record c.match-instr.thread { todo = T }) c.todo-2.ensures ∙ same in
+      let now : u ≡ v = ap (λ T. record c.match-instr.thread { todo = T }) c.todo.ensures ∙ same in
       subst Done (sym way)
       (ap (λ (t : Thread). instr_row (tree i) t g) (sym here) ∙ ap (λ i. instr_row (tree i) t' g) is ∙ e ∙ ap (λ (v : Thread). store_stays g (way_of w v)) (sym now))
 
@@ -119,10 +145,10 @@ returns-clause-done c =
     let g = c.args.store.now in
     elim c.match-instr.branch [
       | in-Br w ↦ by_way c _ _ _ _ w.in-Br.is w.go_to.ensures w.thread-is w.way'-is (ap (store_stays g) (sym w.branch-thread.ensures))
-      | in-BrIf w ↦ by_way c _ _ _ _ w.in-BrIf.is w.go_to-in-BrIf.ensures w.thread-is w.way'-is (ap (store_stays g) (sym w.branch_if_or_pass.ensures))
+      | in-BrIf w ↦ by_way c _ _ _ _ w.in-BrIf.is w.go_to-in-BrIf.ensures w.thread-is w.way'-is (ap (store_stays g) (sym w.branch_if_in_place.ensures))
       | in-BrTable w ↦
           let same = ap (λ labels. branch_table labels w.in-BrTable.default w.go_to-in-BrTable.new.self) w.deref-in-BrTable.ensures.value in
-          by_way c _ _ _ _ w.in-BrTable.is w.go_to-in-BrTable.ensures w.thread-is w.way'-is (ap (store_stays g) (sym (w.branch_table.ensures ∙ same)))
+          by_way c _ _ _ _ w.in-BrTable.is w.go_to-in-BrTable.ensures w.thread-is w.way'-is (ap (store_stays g) (sym (w.branch_table_in_place.ensures ∙ same)))
       | in-Return w ↦ by_way c _ _ _ _ w.in-Return.is w.go_to-in-Return.ensures w.thread-is w.way'-is (ap (store_stays g) (sym w.return_out.ensures))
       | in-CallFunc w ↦ by_went c _ _ _ _ w.in-CallFunc.is w.go_to-in-CallFunc.ensures w.thread-is (w.way'-is ∙ w.done_if-way.ensures) (λ yes.
           ap (λ (m : Module). store_stays g (call m w.in-CallFunc.index w.go_to-in-CallFunc.new.self)) (sym c.requires.same_module)
@@ -135,8 +161,8 @@ pub returns-clause-within : goal.returns-clause-within
 returns-clause-within c =
     elim c.match-instr.branch [
       | in-Br w ↦ way_in c _ _ _ _ w.go_to.ensures w.thread-is w.way'-is w.branch-thread.ensures (branch_within w.in-Br.n _)
-      | in-BrIf w ↦ way_in c _ _ _ _ w.go_to-in-BrIf.ensures w.thread-is w.way'-is w.branch_if_or_pass.ensures (branch_if_within w.in-BrIf.n _ w.go_to-in-BrIf.new.self refl)
-      | in-BrTable w ↦ way_in c _ _ _ _ w.go_to-in-BrTable.ensures w.thread-is w.way'-is w.branch_table.ensures (branch_table_within w.deref-in-BrTable.result.now w.in-BrTable.default _ w.go_to-in-BrTable.new.self refl)
+      | in-BrIf w ↦ way_in c _ _ _ _ w.go_to-in-BrIf.ensures w.thread-is w.way'-is w.branch_if_in_place.ensures (branch_if_within w.in-BrIf.n _ w.go_to-in-BrIf.new.self refl)
+      | in-BrTable w ↦ way_in c _ _ _ _ w.go_to-in-BrTable.ensures w.thread-is w.way'-is w.branch_table_in_place.ensures (branch_table_within w.deref-in-BrTable.result.now w.in-BrTable.default _ w.go_to-in-BrTable.new.self refl)
       | in-Return w ↦ way_in c _ _ _ _ w.go_to-in-Return.ensures w.thread-is w.way'-is w.return_out.ensures (return_within _)
       | in-CallFunc w ↦ went_in c _ w.thread-is w.call_in_place.ensures.within
       | in-CallIndirect w ↦ went_in c _ w.thread-is w.call_indirect_in_place.ensures.within
@@ -146,9 +172,14 @@ pub returns-in-Block-clause-done : goal.returns-in-Block-clause-done
 returns-in-Block-clause-done c =
     let t = record c.args.thread.now { todo = trees c.args.todo.now.now } in
     let g = c.args.store.now in
-    let body = c.deref-in-Block-2.result.now in
-    row_enters c.args.instr.now c.in-Block.body body t g c.in-Block.is c.deref-in-Block-2.ensures.value
-    ∙ sym (ap (λ (u : Thread). store_stays g (Goes (record u { todo = trees body }))) (c.open_within.ensures.opened c.if-not-open_within.false))
+    let body = c.deref-in-Block.result.now in
+    row_enters c.args.instr.now c.in-Block.body body t g c.in-Block.is c.deref-in-Block.ensures.value
+    ∙ sym (ap (λ (u : Thread). store_stays g (Goes u)) (c.open_within.ensures.opened c.if-not-open_within.false (trees body)))
+
+pub choose_in_place-requires-clause-rule : goal.choose_in_place-requires-clause-rule
+choose_in_place-requires-clause-rule c =
+    let t = record c.args.thread.now { todo = trees c.args.todo.now.now } in
+    λ sticks. c.requires.rule (ap (λ (row : ThreadAndStore). row.after) (row_chooses c.args.instr.now c.in-If.field-0 c.in-If.on_true c.in-If.on_false c.deref.result.now c.deref-in-If.result.now t c.args.store.now c.in-If.is c.deref.ensures.value c.deref-in-If.ensures.value) ∙ sticks)
 
 pub returns-in-If-clause-done : goal.returns-in-If-clause-done
 returns-in-If-clause-done c =
@@ -156,4 +187,3 @@ returns-in-If-clause-done c =
     let g = c.args.store.now in
     row_chooses c.args.instr.now c.in-If.field-0 c.in-If.on_true c.in-If.on_false c.deref.result.now c.deref-in-If.result.now t g c.in-If.is c.deref.ensures.value c.deref-in-If.ensures.value
     ∙ ap (store_stays g) (sym (c.choose_in_place.ensures.goes c.if-not-choose_in_place.false))
-    ∙ ap (λ (rest : Trees). store_stays g (Goes (record c.choose_in_place.new.self { todo = rest }))) (sym c.todo.ensures)

@@ -4,12 +4,8 @@ use Rattle.std.proofs.lemmas.Bool.Decides.{nat_tests}
 use Rattle.guest_memory.specs.LittleEndian.{low_bytes}
 use Rattle.guest_memory.specs.inside.Pages.{bytes_of_pages}
 use Rattle.guest_memory.proofs.NumberBytes.{length-low_bytes}
-use Rattle.guest_memory.proofs.PageRanges.{few-bytes}
 use Rattle.guest_memory.proofs.PageWrites.{on_err, prefix-seen}
 use Rattle.guest_memory.proofs.memory.Memory.store_across.Goals as goal
-
-pub put_number_across-requires-clause-few : goal.put_number_across-requires-clause-few
-put_number_across-requires-clause-few c = rw c.deref_mut.ensures.value (few-bytes c.self.inside.pages.items c.self.inside.max c.self.invariant.whole c.self.invariant.within c.self.invariant.most)
 
 pub returns-in_err-put_number_across-clause-err : goal.returns-in_err-put_number_across-clause-err
 returns-in_err-put_number_across-clause-err c =

@@ -46,13 +46,16 @@ module _ (c : After-truncate) where
   height : c.len.result ≡ length c.self.inside.operands.items
   height = c.len.ensures ∙ c.self.inside.operands.ok.0
 
-  above : c.args.above ≤ length c.self.inside.operands.items - c.self.inside.here.floor
-  above =
+  n : c.len-n.result ≡ length (func_type c.args.typing.now).params
+  n = c.len-n.ensures ∙ c.args.typing.now.params.ok.0
+
+  enough : c.args.above + c.len-n.result ≤ length c.self.inside.operands.items - c.self.inside.here.floor
+  enough =
       let s = c.self.inside in
-      omega (arith, ap (λ (t : Thread). length t.stack) c.self.view_is, length-reverse (drop s.here.floor s.operands.items), length-drop s.here.floor s.operands.items, c.requires.above)
+      omega (arith, ap (λ (t : Thread). length t.stack) c.self.view_is, length-reverse (drop s.here.floor s.operands.items), length-drop s.here.floor s.operands.items, c.requires.enough, n)
 
   split : first + c.len-n.result + c.args.above ≡ c.len.result
-  split = omega (arith, height, above, c.if-height-self.false, c.self.invariant.part.top)
+  split = omega (arith, height, enough, c.self.invariant.part.top)
 
   frame : IsEntered c.self.inside c.args.callee c.args.above c.len-n.result first here c.truncate.new.self c.append_reserved-2.new.items c.push_reserved.new.self
   frame =
@@ -64,7 +67,7 @@ module _ (c : After-truncate) where
       let many : c.len.result - c.args.above - first ≡ c.len-n.result = omega (arith, split) in
       record {
         split = split ∙ height;
-        enough = omega (arith, height, above, c.if-height-self.false, c.self.invariant.part.top);
+        enough = omega (arith, height, enough, c.self.invariant.part.top);
         operands_are = c.truncate.ensures.items;
         capacity = omega (arith, c.truncate.ensures.capacity);
         body = c.body-self-inside.ensures;
@@ -98,11 +101,10 @@ invariant_of-self c =
 pub returns-clause-entered : goal.returns-clause-entered
 returns-clause-entered c =
     let type = func_type c.args.typing.now in
-    let n : c.len-n.result ≡ length type.params = c.len-n.ensures ∙ c.args.typing.now.params.ok.0 in
     let called_by = λ (k : ℕ) (t : Thread) (gives : Option ValType). called_with (arguments k (without_operands c.args.above t)) k (without_operands c.args.above t) c.args.index c.args.callee gives in
     λ _.
     ap (λ (t : Thread). called_function (without_operands c.args.above t) c.args.index c.args.callee type) (sym c.self.view_is)
-    ∙ ap (λ k. called_by k (thread_of c.self.inside) (result_of type)) (sym n)
+    ∙ ap (λ k. called_by k (thread_of c.self.inside) (result_of type)) (sym (n c))
     ∙ ap (λ g. called_by c.len-n.result (thread_of c.self.inside) g) (sym c.result_of-self-inside.ensures)
     ∙ entered_view _ _ _ _ _ _ _ _ _ c.min-self-inside.result c.self.invariant (frame c)
 

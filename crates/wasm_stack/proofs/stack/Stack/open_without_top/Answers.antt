@@ -6,7 +6,7 @@ use Rattle.wasm_stack.specs.declared.stack.Stack.TheInside.{Inside}
 use Rattle.wasm_stack.specs.Limits.{ThreadWithin}
 use Rattle.wasm_stack.specs.View.{entered_by, opened_by}
 use Rattle.wasm_stack.specs.inside.Stacks.{IsStack, thread_of}
-use Rattle.wasm_stack.specs.Thread.{Thread, size_of_thread, without_operands}
+use Rattle.wasm_stack.specs.Thread.{Thread, size_of_thread, with_todo, without_operands}
 use Rattle.wasm_stack.proofs.WithinLimits.{within_without, within_elsewhere, within_opened}
 use Rattle.wasm_stack.proofs.StackViews.{IsSound-operands, below_last, keeps_without, opened_sound, opened_view, without_view}
 use Rattle.wasm_stack.proofs.stack.Stack.open_without_top.Goals as goal
@@ -39,18 +39,18 @@ module _ (c : goal.After-self-2-1) where
   less_view = without_view c.self.inside 1 c.self.invariant enough c.take_last-top.new.self kept ∙ ap (without_operands 1) c.self.view_is
 
   now : StackFrame
-  now = record c.self.inside.here { todo = c.args.body; floor = c.len-height.result - 1 }
+  now = record c.self.inside.here { floor = c.len-height.result - 1 }
 
   top : now.floor ≡ length less.operands.items
   unfolding now less
   top = omega (arith, height, ap length kept, length-take-le (length c.self.inside.operands.items - 1) c.self.inside.operands.items (omega arith))
 
   view : thread_of (record less { here = record less.here { todo = now.todo; floor = now.floor }; labels = c.push_reserved.new.self; room = c.self.inside.room - 1 })
-      ≡ entered_by (tree c.args.opener.now) (trees c.args.body.now) (without_operands 1 (record c.args.self.now { todo = trees c.args.todo.now }))
+      ≡ entered_by (tree c.args.opener.now) (trees c.self.inside.here.todo.now) (without_operands 1 (record c.args.self.now { todo = trees c.args.todo.now }))
   unfolding now less
   view =
       opened_view less now c.push_reserved.new.self (record { opener = c.args.opener; todo = c.args.todo; floor = c.self.inside.here.floor }) less_sound top refl c.push_reserved.ensures.items (c.self.inside.room - 1)
-      ∙ ap (λ (t : Thread). entered_by (tree c.args.opener.now) (trees c.args.body.now) (record t { todo = trees c.args.todo.now })) less_view
+      ∙ ap (λ (t : Thread). entered_by (tree c.args.opener.now) (trees c.self.inside.here.todo.now) (record t { todo = trees c.args.todo.now })) less_view
 
 pub invariant_of-self : goal.invariant_of-self
 unfolding now less
@@ -59,7 +59,7 @@ invariant_of-self c =
 
 pub returns-clause-opened : goal.returns-clause-opened
 unfolding now less
-returns-clause-opened c = λ _. view c
+returns-clause-opened c = λ _ body. ap (λ t. with_todo t body) (view c)
 
 pub returns-clause-within : goal.returns-clause-within
 unfolding now less
@@ -68,4 +68,4 @@ returns-clause-within c =
     let t = record (without_operands 1 c.args.self.now) { todo = rest } in
     let o = opened_by (tree c.args.opener.now) rest in
     let fewer : size_of_thread t < 16384 = omega (arith, c.requires.within.size, c.requires.some, length-drop 1 c.args.self.now.stack) in
-    subst (λ (t : Thread). ThreadWithin t) (sym (view c)) (within_opened t o.gives (trees c.args.body.now) o.target o.carries o.loops (within_elsewhere (without_operands 1 c.args.self.now) rest (within_without 1 c.args.self.now c.requires.within)) fewer)
+    subst (λ (t : Thread). ThreadWithin t) (sym (view c)) (within_opened t o.gives (trees c.self.inside.here.todo.now) o.target o.carries o.loops (within_elsewhere (without_operands 1 c.args.self.now) rest (within_without 1 c.args.self.now c.requires.within)) fewer)
