@@ -1,5 +1,5 @@
 -- Reading a log entry by entry.
-use Rattle.std.proofs.Common.{length, sym, ap, ◌∙◌, subst}
+use Rattle.std.proofs.Common.{sym, subst}
 use Rattle.fri_bytes.specs.Laws.{ExactReaders}
 use Rattle.call_log.specs.Walk.{IsEndOfLog, EntryStep, IsNextEntry}
 use Rattle.call_log.proofs.AllEntries.{entries_of-next, entries_of-none, rest_of-next, rest_of-none, shorter}

@@ -3,6 +3,7 @@ pub mod ShapeTests
 pub mod EntrySizes
 pub mod EntryLemmas
 pub mod HeadLemmas
+pub mod KeptHead
 pub mod AllEntries
 pub mod EntryWalks
 pub mod FrontStays

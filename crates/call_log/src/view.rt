@@ -4,7 +4,7 @@ ghost use Rattle.lib_calls.specs.Entry.{IsShaped, entry_of};
 ghost use Rattle.call_log.specs.Entry.{BeginsNoEntry, encoding};
 ghost use Rattle.call_log.specs.Head.{BeginsNoHead, IsHead, head_bytes, head_of};
 ghost use Rattle.call_log.specs.Limits.{least_entry};
-ghost use Rattle.call_log.specs.Log.{entries_of, entry_at, head_at, rest_of_log};
+ghost use Rattle.call_log.specs.Log.{entries_of, entry_at, head_at, rest_of_log, unread_after_head};
 
 use crate::entry::read_entry;
 use crate::head::{BadHead, LogHead, read_head};
@@ -45,11 +45,19 @@ impl<'a> LogView<'a> {
         let Some((head, rest)) = read_head(bytes) else {
             return Err(BadHead);
         };
-        Ok(LogView {
+        Ok(LogView::after_head(head, rest))
+    }
+
+    // The log with this head, whose entries these bytes are.
+    pub(crate) fn after_head(head: LogHead<'a>, rest: &'a [u8]) -> LogView<'a>
+        requires { IsHead (head_of head) }
+        ensures { result ≡ record { head = head_of head.entry; left = unread_after_head (head_of head.entry) rest.now } }
+    {
+        LogView {
             head,
             last: 0,
             rest,
-        })
+        }
     }
 
     /// The head.

@@ -1,7 +1,7 @@
 // The logs that files hold.
-ghost use Rattle.std.specs.Prelude.{◌≡◌, ℕ, ◌≤◌, length, vec_len, IfOk, IfErr};
+ghost use Rattle.std.specs.Prelude.{◌≡◌, ℕ, ◌≤◌, ◌++◌, vec_len, IfOk, IfErr};
 ghost use Rattle.fri_outside.specs.Outside.{WhenTold, Counts};
-ghost use Rattle.call_log.specs.Head.{IsHead};
+ghost use Rattle.call_log.specs.Head.{IsHead, head_bytes};
 ghost use Rattle.call_log.specs.Limits.{most_log};
 ghost use Rattle.call_log.specs.Log.{head_at};
 ghost use Rattle.command_run.specs.Call.{CountsFaults, RaisesCount, TellsResult, reads_after, writes_after};
@@ -10,7 +10,7 @@ ghost use Rattle.command_run.specs.Logs.{log_or_bad_head};
 
 use crate::inputs::take_file;
 use crate::refusal::{Reason, StopCause};
-use call_log::{LogView, MOST_LOG};
+use call_log::{LogBuf, MOST_LOG};
 use fri_outside::Files;
 use std::alloc::Global;
 
@@ -25,15 +25,15 @@ pub fn take_log<F: Files>(alloc: Global, name: &str, files: &mut F) -> Result<Ve
     take_file(alloc, name, MOST_LOG, files)
 }
 
-/// The log whose head the bytes of a file begin with.
-pub fn begin_log<'b>(alloc: Global, name: &str, bytes: &'b [u8]) -> Result<LogView<'b>, StopCause>
+/// The log whose head the bytes of a file begin with. It keeps the bytes.
+pub fn begin_log(alloc: Global, name: &str, bytes: Vec<u8>) -> Result<LogBuf, StopCause>
     ensures head { IfOk result (λ log. IsHead log.head) }
-    ensures answer { TellsResult (λ log. (log.head, log.left)) (log_or_bad_head name.now (head_at bytes.now)) result }
-    ensures shorter { IfOk result (λ log. length log.left.bytes ≤ length bytes.now) }
+    ensures spelled { IfOk result (λ log. bytes.items ≡ head_bytes log.head ++ log.left.bytes) }
+    ensures answer { TellsResult (λ log. (log.head, log.left)) (log_or_bad_head name.now (head_at bytes.items)) result }
     ensures cause { (old new : Counts) → IfErr result (RaisesCount old new) }
     ensures still { (n : ℕ) → (reads_after n result ≡ n) × (writes_after n result ≡ n) }
 {
-    match LogView::begin(bytes) {
+    match LogBuf::begin(bytes) {
         Ok(log) => Ok(log),
         Err(_) => Err(StopCause::refuse(alloc, name, Reason::BadHead)),
     }

@@ -5,7 +5,7 @@ ghost use Rattle.cut_command.specs.Words.{event_number_of, process_of};
 use fri_text::read_decimal;
 use lamport_tag::MOST_PROCESSES;
 
-const MOST_PROCESS: u64 = MOST_PROCESSES as u64 - 1;
+const MOST_PROCESS_NUMBER: u64 = MOST_PROCESSES as u64 - 1;
 
 const MOST_EVENT: u64 = (1 << 63) - 1;
 
@@ -13,7 +13,7 @@ const MOST_EVENT: u64 = (1 << 63) - 1;
 pub fn process_of(word: &str) -> Option<u32>
     ensures { result ≡ process_of word.now }
 {
-    let number = read_decimal(word.as_bytes(), MOST_PROCESS).ok()?;
+    let number = read_decimal(word.as_bytes(), MOST_PROCESS_NUMBER).ok()?;
     u32::try_from(number).ok()
 }
 

@@ -12,7 +12,7 @@
 //! whether it may tell that a log diverged. `CommandRun` is what all commands share (`CallEnds` of command_run) with the
 //! record of this one (`Promises`), and is the one clause of `friday` apart from `complete`.
 //!
-//! The commands use command_run; log_files, if they read logs; log_pairs, if they replay them; and conversation, if they
+//! The commands use command_run, which also reads logs; log_pairs, if they replay them; and conversation, if they
 //! read their input line by line. They do not use each other, except that schedule_command cites definitions of
 //! record_command, since what it prints is for `record`, and that play_command reads its schedule and modules by it, and
 //! speaks of its outcome. No proof or edit of another command is tried again for a further one, unless that has a reason of

@@ -16,7 +16,7 @@ use Rattle.command_run.specs.Inputs.{first_state_of}
 use Rattle.command_run.specs.Outcome.{CommandStop, and_then}
 use Rattle.log_pairs.specs.Pairs.{Loaded, insert_replay, replay_of_log, replays_of, sort_replays}
 use Rattle.log_pairs.specs.Meanings.{AreLoadedPairs, AreOneGroup, IsApartPair, IsLoadedPair}
-use Rattle.log_pairs.proofs.LogClashes.{all_so}
+use Rattle.log_pairs.proofs.LogClashes.{all_so, count_is, process_is}
 use Rattle.command_run.specs.OutcomeLaws.{stops_before_next, result_follows}
 use Rattle.log_pairs.proofs.PlacedReplays.{AreDistinct, Differ, all_ascend, all_placed_keeps, few_from, none_new, placed_last}
 
@@ -27,8 +27,8 @@ IsFirst r = (r.state.events ≡ 0) × IsAtHead r
 -- ---- the heads of what was read
 
 record IsOf (x : LoadedFiles) (r : Replaying) : Type 0 where
-  count : x.count ≡ r.head.count
-  process : x.process ≡ r.head.process
+  count : x.log.head.count ≡ r.head.count
+  process : x.log.head.process ≡ r.head.process
   head : IsHead r.head
   within : length r.left.bytes ≤ most_log
 
@@ -57,10 +57,10 @@ is_of x l r one begun =
       of S is =
           let same : l.head ≡ r.head = ap head_in is in
           record {
-            count = one.count ∙ ap (λ (h : Head). h.count) same;
-            process = one.process ∙ ap (λ (h : Head). h.process) same;
+            count = count_is x l one ∙ ap (λ (h : Head). h.count) same;
+            process = process_is x l one ∙ ap (λ (h : Head). h.process) same;
             head = subst IsHead same one.head;
-            within = subst (λ (left : Unread). length left.bytes ≤ most_log) (ap left_in is) one.within;
+            within = subst (λ (left : Unread). length left.bytes ≤ most_log) (ap left_in is) (omega (arith, one.whole));
           }
 
 are_of : (xs : List LoadedFiles) (ls : List Loaded) (rs : List Replaying) → AreLoadedPairs xs ls → replays_of ls ≡ Ok rs → AreOf xs rs

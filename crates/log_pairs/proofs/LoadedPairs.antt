@@ -1,9 +1,9 @@
 -- The pairs that were read, and those that are still to come.
-use Rattle.std.proofs.Common.{◌≡◌, ◌∙◌, ◌≤◌, ℕ, List, [], ◌∷◌, ◌++◌, length, Option, Some, None, Result, Ok, ap, arith, map, refl, subst, sym}
+use Rattle.std.proofs.Common.{◌≡◌, ◌∙◌, ◌≤◌, ℕ, List, [], ◌∷◌, ◌++◌, length, length-append, Option, Some, None, Result, Ok, ap, arith, map, refl, subst, sym}
 use Rattle.fri_outside.specs.Outside.{Folder, WhenTold}
 use Rattle.wasm_types.specs.Modules.{Module, module_of as shown}
-use Rattle.call_log.specs.declared.head.LogHead.{LogHead}
-use Rattle.call_log.specs.Head.{Head, IsHead, head_of}
+use Rattle.call_log.specs.Head.{Head, head_bytes}
+use Rattle.call_log.specs.Laws.{ExactLogs}
 use Rattle.call_log.specs.Limits.{most_log}
 use Rattle.call_log.specs.Log.{Unread, head_at}
 use Rattle.log_pairs.specs.declared.pairs.Pair.{Pair as PairOfWords}
@@ -30,20 +30,19 @@ head_found name bytes log is = found (head_at bytes) is where
   found None is = cc
   found (Some l) is = cc
 
--- a pair with these bytes, this head and these parts of it holds that
-pub is_loaded : (x : LoadedFiles) (pair : Pair) (bytes : List ℕ) (log : Head × Unread) (head : LogHead) → x.module_file.now ≡ pair.module_name → bytes ≡ x.log.items → log_or_bad_head pair.log_name (head_at bytes) ≡ Ok log
-    → IsHead log.0 → head_of head ≡ log.0 → x.count ≡ head.count → x.process ≡ head.process → x.name ≡ head.name.now → length log.1.bytes ≤ length bytes → length bytes ≤ most_log → IsLoadedPair x (read_as pair (shown x.«module») log)
-is_loaded x pair bytes log head named held found in_range is count process name behind few = record {
-  name = named;
-  «module» = refl;
-  log = ap head_at (sym held) ∙ head_found pair.log_name bytes log found;
-  head = in_range;
-  count = count ∙ ap (λ (h : Head). h.count) is;
-  process = process ∙ ap (λ (h : Head). h.process) is;
-  head_name = name ∙ ap (λ (h : Head). h.name) is;
-  within = omega (arith, behind, few);
-  whole = subst (λ (b : List ℕ). length b ≤ most_log) held few;
-}
+-- a pair with a log of these bytes holds that
+pub is_loaded : ExactLogs → (x : LoadedFiles) (pair : Pair) (bytes : List ℕ) → x.module_file.now ≡ pair.module_name → bytes ≡ head_bytes x.log.head ++ x.log.left.bytes
+    → log_or_bad_head pair.log_name (head_at bytes) ≡ Ok (x.log.head, x.log.left) → length bytes ≤ most_log → IsLoadedPair x (read_as pair (shown x.«module») (x.log.head, x.log.left))
+is_loaded exact x pair bytes named spelled found few =
+    let log = (exact.heads bytes x.log.head x.log.left).0 (head_found pair.log_name bytes (x.log.head, x.log.left) found) in
+    record {
+      name = named;
+      «module» = refl;
+      log = refl;
+      head = log.0;
+      left = log.1.1;
+      whole = omega (arith, few, ap length spelled, length-append (head_bytes x.log.head) x.log.left.bytes);
+    }
 
 -- from the module on
 module_read : (folder : Folder) (ls : List Loaded) (pair : Pair) (m : Module) → module_in folder pair.module_name ≡ Ok m

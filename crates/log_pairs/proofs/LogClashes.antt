@@ -6,6 +6,7 @@ use Rattle.std.proofs.lemmas.Bool.{eqb-false, false≢true}
 use Rattle.std.proofs.lemmas.Bool.Decides.{eqb_tells}
 use Rattle.std.proofs.lemmas.Slice.Eq.{bytes_eq-Decides}
 use Rattle.call_log.specs.Head.{Head}
+use Rattle.call_log.specs.Log.{Log}
 use Rattle.log_pairs.specs.declared.pairs.Loaded.{Loaded as LoadedFiles}
 use Rattle.command_run.specs.declared.refusal.Reason.{Reason}
 use Rattle.command_run.specs.declared.refusal.Reason.TheVariants as reason
@@ -24,18 +25,27 @@ all_push P (y ∷ xs) x all one = (all.0, all_push P xs x all.1 one)
 
 -- ---- the same tests of what was read and of what it holds
 
-pub processes_are : (xs : List LoadedFiles) (ls : List Loaded) (process : ℕ) → AreLoadedPairs xs ls → list_any (λ x. nat_eq x.process process) xs ≡ has_process ls process
+pub count_is : (x : LoadedFiles) (l : Loaded) → IsLoadedPair x l → x.log.head.count ≡ l.head.count
+count_is x l one = ap (λ (log : Log). log.head.count) one.log
+
+pub process_is : (x : LoadedFiles) (l : Loaded) → IsLoadedPair x l → x.log.head.process ≡ l.head.process
+process_is x l one = ap (λ (log : Log). log.head.process) one.log
+
+name_is : (x : LoadedFiles) (l : Loaded) → IsLoadedPair x l → x.log.head.name ≡ l.head.name
+name_is x l one = ap (λ (log : Log). log.head.name) one.log
+
+pub processes_are : (xs : List LoadedFiles) (ls : List Loaded) (process : ℕ) → AreLoadedPairs xs ls → list_any (λ x. nat_eq x.log.head.process process) xs ≡ has_process ls process
 processes_are [] [] process all = refl
 processes_are (x ∷ xs) (l ∷ ls) process all =
-    ap (λ (p : ℕ). nat_eq p process || list_any (λ x. nat_eq x.process process) xs) all.0.process
+    ap (λ (p : ℕ). nat_eq p process || list_any (λ x. nat_eq x.log.head.process process) xs) (process_is x l all.0)
     ∙ ap (λ (b : Bool). nat_eq l.head.process process || b) (processes_are xs ls process all.1)
 processes_are [] (l ∷ ls) process all = absurd all
 processes_are (x ∷ xs) [] process all = absurd all
 
-pub names_are : (xs : List LoadedFiles) (ls : List Loaded) (name : List ℕ) → AreLoadedPairs xs ls → list_any (λ x. bytes_eq x.name name) xs ≡ has_name ls name
+pub names_are : (xs : List LoadedFiles) (ls : List Loaded) (name : List ℕ) → AreLoadedPairs xs ls → list_any (λ x. bytes_eq x.log.head.name name) xs ≡ has_name ls name
 names_are [] [] name all = refl
 names_are (x ∷ xs) (l ∷ ls) name all =
-    ap (λ (n : List ℕ). bytes_eq n name || list_any (λ x. bytes_eq x.name name) xs) all.0.head_name
+    ap (λ (n : List ℕ). bytes_eq n name || list_any (λ x. bytes_eq x.log.head.name name) xs) (name_is x l all.0)
     ∙ ap (λ (b : Bool). bytes_eq l.head.name name || b) (names_are xs ls name all.1)
 names_are [] (l ∷ ls) name all = absurd all
 names_are (x ∷ xs) [] name all = absurd all
@@ -76,15 +86,15 @@ other_name : (a b : List ℕ) → bytes_eq a b ≡ false → a ≢ b
 other_name a b none same = false≢true (sym none ∙ (bytes_eq-Decides a b).1 same)
 
 -- all are of as many processes as a further one
-counts_same : (xs : List LoadedFiles) (ls : List Loaded) (x : LoadedFiles) (l : Loaded) → AreLoadedPairs xs ls → IsLoadedPair x l → AreOneGroup xs → is_other_group ls l.head.count ≡ false → AllByRecursion (λ y. y.count ≡ x.count) xs
+counts_same : (xs : List LoadedFiles) (ls : List Loaded) (x : LoadedFiles) (l : Loaded) → AreLoadedPairs xs ls → IsLoadedPair x l → AreOneGroup xs → is_other_group ls l.head.count ≡ false → AllByRecursion (λ y. y.log.head.count ≡ x.log.head.count) xs
 counts_same [] [] x l all one apart same = tt
 counts_same (y ∷ xs) (k ∷ ls) x l all one apart same =
-    let first : y.count ≡ x.count = all.0.count ∙ not_equal k.head.count l.head.count same ∙ sym one.count in
-    (first, all_so (IsApartPair y) (λ z. z.count ≡ x.count) xs (λ z h. sym h.count ∙ first) apart.0)
+    let first : y.log.head.count ≡ x.log.head.count = count_is y k all.0 ∙ not_equal k.head.count l.head.count same ∙ sym (count_is x l one) in
+    (first, all_so (IsApartPair y) (λ z. z.log.head.count ≡ x.log.head.count) xs (λ z h. sym h.count ∙ first) apart.0)
 counts_same [] (k ∷ ls) x l all one apart same = absurd all
 counts_same (y ∷ xs) [] x l all one apart same = absurd all
 
-apart_from : (xs : List LoadedFiles) (ls : List Loaded) (x : LoadedFiles) (l : Loaded) → AreLoadedPairs xs ls → IsLoadedPair x l → AllByRecursion (λ y. y.count ≡ x.count) xs → has_process ls l.head.process ≡ false → has_name ls l.head.name ≡ false
+apart_from : (xs : List LoadedFiles) (ls : List Loaded) (x : LoadedFiles) (l : Loaded) → AreLoadedPairs xs ls → IsLoadedPair x l → AllByRecursion (λ y. y.log.head.count ≡ x.log.head.count) xs → has_process ls l.head.process ≡ false → has_name ls l.head.name ≡ false
     → AllByRecursion (λ y. IsApartPair y x) xs
 apart_from [] [] x l all one counts process name = tt
 apart_from (y ∷ xs) (k ∷ ls) x l all one counts process name =
@@ -92,8 +102,8 @@ apart_from (y ∷ xs) (k ∷ ls) x l all one counts process name =
     let n = not_first (bytes_eq k.head.name l.head.name) (has_name ls l.head.name) name in (
       record {
         count = counts.0;
-        process = λ same. eqb-false k.head.process l.head.process p.0 (sym all.0.process ∙ same ∙ one.process);
-        name = λ same. other_name k.head.name l.head.name n.0 (sym all.0.head_name ∙ same ∙ one.head_name);
+        process = λ same. eqb-false k.head.process l.head.process p.0 (sym (process_is y k all.0) ∙ same ∙ process_is x l one);
+        name = λ same. other_name k.head.name l.head.name n.0 (sym (name_is y k all.0) ∙ same ∙ name_is x l one);
       },
       apart_from xs ls x l all.1 one counts.1 p.1 n.1,
     )

@@ -1,11 +1,11 @@
 -- The pairs of files, and what the files hold, that the values of the code stand for.
 use Rattle.std.specs.List.{AllByRecursion}
-use Rattle.std.specs.Prelude.{◌≡◌, ◌≢◌, ◌≤◌, List, [], ◌∷◌, length, Option, Some, Ok}
+use Rattle.std.specs.Prelude.{◌≡◌, ◌≢◌, ◌≤◌, ◌+◌, List, [], ◌∷◌, length, Option, Ok}
 use Rattle.fri_outside.specs.Outside.{Folder, WhenTold}
 use Rattle.wasm_types.specs.Modules.{module_of}
-use Rattle.call_log.specs.Head.{IsHead}
+use Rattle.call_log.specs.Head.{IsHead, head_bytes}
 use Rattle.call_log.specs.Limits.{most_log}
-use Rattle.call_log.specs.Log.{head_at}
+use Rattle.call_log.specs.Log.{unread_after_head}
 use Rattle.log_pairs.specs.declared.pairs.Loaded.{Loaded as LoadedFiles}
 use Rattle.log_pairs.specs.declared.pairs.Pair.{Pair as PairOfWords}
 use Rattle.log_pairs.specs.Pairs.{Loaded, Pair, loaded_pairs}
@@ -17,13 +17,10 @@ pair_of pair = record { module_name = pair.module_file.now; log_name = pair.log_
 pub record IsLoadedPair (l : LoadedFiles) (is : Loaded) : Type 0 where
   pub name : l.module_file.now ≡ is.module_name
   pub «module» : module_of l.«module» ≡ is.«module»
-  pub log : head_at l.log.items ≡ Some (is.head, is.left)
+  pub log : l.log ≡ record { head = is.head; left = is.left }
   pub head : IsHead is.head
-  pub count : l.count ≡ is.head.count
-  pub process : l.process ≡ is.head.process
-  pub head_name : l.name ≡ is.head.name
-  pub within : length is.left.bytes ≤ most_log
-  pub whole : length l.log.items ≤ most_log
+  pub left : is.left ≡ unread_after_head is.head is.left.bytes
+  pub whole : length (head_bytes is.head) + length is.left.bytes ≤ most_log
 
 -- so many pairs hold so many of these
 abbrev pub AreLoadedPairs : List LoadedFiles → List Loaded → Type 0
@@ -34,9 +31,9 @@ AreLoadedPairs (l ∷ ls) [] = ⊥
 
 -- they are of one group, and each of another process with another name
 pub record IsApartPair (l other : LoadedFiles) : Type 0 where
-  pub count : l.count ≡ other.count
-  pub process : l.process ≢ other.process
-  pub name : l.name ≢ other.name
+  pub count : l.log.head.count ≡ other.log.head.count
+  pub process : l.log.head.process ≢ other.log.head.process
+  pub name : l.log.head.name ≢ other.log.head.name
 
 abbrev pub AreOneGroup : List LoadedFiles → Type 0
 AreOneGroup [] = Unit {0}

@@ -11,9 +11,8 @@ ghost use Rattle.log_pairs.specs.Pairs.{Loaded as LoadedOf, RefusesPairs, Pair a
 ghost use Rattle.log_pairs.specs.Meanings.{AreLoadedPairs, AreOneGroup, IsLoadedPair, LoadsFiles, pair_of};
 ghost use Rattle.log_pairs.specs.inside.Loading.{LoadsPair};
 
-use call_log::{LogHead, LogView};
+use call_log::{LogBuf, LogHead};
 use command_run::{ModuleFiles, Reason, StopCause, begin_log, begin_process, take_log};
-use fri_bytes::Bytes;
 use fri_outside::Files;
 use guest_module::SharedModule;
 use proc_replay::Replayer;
@@ -26,16 +25,12 @@ pub struct Pair<'a> {
     pub log_file: &'a str,
 }
 
-/// A pair that was read: the name of the module's file, the module, the bytes of the log, and what the log's head
-/// says.
+/// A pair that was read: the name of the module's file, the module, and the log.
 #[derive(Drop)]
 pub struct Loaded<'a> {
     pub(crate) module_file: &'a str,
     pub(crate) module: SharedModule,
-    pub(crate) log: Vec<u8>,
-    pub(crate) count: u32,
-    pub(crate) process: u32,
-    pub(crate) name: Bytes,
+    pub(crate) log: LogBuf,
 }
 
 impl Loaded<'_> {
@@ -43,7 +38,7 @@ impl Loaded<'_> {
     pub fn process(&self) -> u32
         ensures { (is : LoadedOf) → IsLoadedPair self.now is → result ≡ is.head.process }
     {
-        self.process
+        self.log.head().process
     }
 }
 
@@ -70,7 +65,7 @@ fn is_other_group(earlier: &[Loaded<'_>], count: u32) -> bool
 {
     match earlier {
         [] => false,
-        [first, ..] => first.count != count,
+        [first, ..] => first.log.head().count != count,
     }
 }
 
@@ -78,14 +73,14 @@ fn is_other_group(earlier: &[Loaded<'_>], count: u32) -> bool
 fn has_process(earlier: &[Loaded<'_>], process: u32) -> bool
     ensures { (ls : List LoadedOf) → AreLoadedPairs earlier.now ls → result ≡ has_process ls process }
 {
-    earlier.iter().any(|l| l.process == process)
+    earlier.iter().any(|l| l.log.head().process == process)
 }
 
 // Whether a pair is of a process of this name.
 fn has_name(earlier: &[Loaded<'_>], name: &[u8]) -> bool
     ensures { (ls : List LoadedOf) → AreLoadedPairs earlier.now ls → result ≡ has_name ls name.now }
 {
-    earlier.iter().any(|l| l.name.as_slice() == name)
+    earlier.iter().any(|l| l.log.head().name == name)
 }
 
 // Reads the files of a pair: the module's, unless it is kept, then the log's; then the log against the pairs before it.
@@ -105,21 +100,17 @@ fn load<'a, F: Files>(
     ensures counts { CountsFaults (F.counts files.old) (F.counts files.new) result }
     ensures cause { IfErr result (RaisesCount (F.counts files.old) (F.counts files.new)) }
 {
+    call_log::laws::exact_logs();
     let module = modules.take(alloc, pair.module_file, files)?;
-    let log = take_log(alloc, pair.log_file, files)?;
-    let head = begin_log(alloc, pair.log_file, &log)?.head();
-    if let Some(why) = clash_of_logs(earlier, &head) {
+    let bytes = take_log(alloc, pair.log_file, files)?;
+    let log = begin_log(alloc, pair.log_file, bytes)?;
+    if let Some(why) = clash_of_logs(earlier, &log.head()) {
         return Err(StopCause::refuse(alloc, pair.log_file, why));
     }
-    let name = Bytes::from_slice(alloc, head.name)?;
-    let LogHead { count, process, .. } = head;
     Ok(Loaded {
         module_file: pair.module_file,
         module,
         log,
-        count,
-        process,
-        name,
     })
 }
 
@@ -155,18 +146,15 @@ fn begin_replay<'m>(alloc: Global, loaded: &'m Loaded<'_>) -> Result<Replayer<'m
     ensures cause { (old new : Counts) → IfErr result (RaisesCount old new) }
     ensures still { (n : ℕ) → (reads_after n result ≡ n) × (writes_after n result ≡ n) }
 {
-    call_log::laws::exact_logs();
-    let Ok(log) = LogView::begin(&loaded.log) else {
-        unreachable!();
-    };
+    let LogHead { process, count, .. } = loaded.log.head();
     let begun = begin_process(
         alloc,
         loaded.module_file,
         loaded.module.module(),
-        loaded.process,
-        loaded.count,
+        process,
+        count,
     )?;
-    Ok(Replayer::begin(alloc, begun, log)?)
+    Ok(Replayer::begin(alloc, begun, loaded.log.view())?)
 }
 
 // How many replays at the front are of processes with lower numbers.

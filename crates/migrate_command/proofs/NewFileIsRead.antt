@@ -1,13 +1,11 @@
 -- The new file is read as the log that was read.
-use Rattle.std.proofs.Common.{◌≡◌, ◌∙◌, ◌≤◌, ℕ, Bool, true, false, cond, List, [], length, Option, Some, None, Result, Ok, Err, refl, ap, subst, sym}
+use Rattle.std.proofs.Common.{◌≡◌, ◌∙◌, ◌≤◌, ℕ, Bool, true, false, cond, List, length, Option, Some, None, Result, Ok, Err, refl, ap, subst, sym}
 use Rattle.std.specs.Prelude.{nat_le}
 use Rattle.std.specs.FinMap.{insert}
 use Rattle.std.proofs.lemmas.Bool.{le-leb, leb-true}
 use Rattle.std.proofs.lemmas.Option.{same_Some}
 use Rattle.fri_outside.specs.Laws.{KeepsFiles}
 use Rattle.fri_outside.specs.Outside.{Folder}
-use Rattle.call_log.specs.declared.version.Version.TheVariants.{Two}
-use Rattle.call_log.specs.Entry.{encodings}
 use Rattle.call_log.specs.Head.{Head, IsHead}
 use Rattle.call_log.specs.Laws.{ExactLogs, IsNewerLog, RewrittenIsRead}
 use Rattle.call_log.specs.Limits.{most_log}

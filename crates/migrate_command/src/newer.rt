@@ -82,6 +82,6 @@ pub(crate) fn take_migration<F: Files>(
     ensures cause { IfErr result (RaisesCount (F.counts files.old) (F.counts files.new)) }
 {
     let bytes = take_log(alloc, log_file, files)?;
-    let log = begin_log(alloc, log_file, &bytes)?;
-    renew(alloc, log_file, &log)
+    let log = begin_log(alloc, log_file, bytes)?;
+    renew(alloc, log_file, &log.view())
 }

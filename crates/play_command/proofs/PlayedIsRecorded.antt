@@ -14,7 +14,7 @@ use Rattle.schedule_text.specs.Reading.{BadLineAt, ScheduleRefusal, TooManyRuns,
 use Rattle.schedule_text.specs.Schedule.{IsInRange, IsSchedule, Schedule, run_count}
 use Rattle.schedule_text.specs.declared.item.Item.{Item}
 use Rattle.schedule_text.specs.declared.process.ProcessLine.{ProcessLine}
-use Rattle.shell_lines.specs.Limits.{most_line}
+use Rattle.shell_lines.specs.Limits.{most_line_bytes}
 use Rattle.shell_lines.specs.Meaning.{is_silent}
 use Rattle.guest_process.specs.State.{State}
 use Rattle.group_record.specs.Answer.{first_states, group_of}
@@ -25,7 +25,7 @@ use Rattle.record_command.specs.Agreement.{IsRecordable}
 use Rattle.record_command.specs.Expected.{KeepsSchedule, modules_of, record_outcome, schedule_in, schedule_or_refusal}
 use Rattle.record_command.specs.ExpectedLaws.{outcome_is_run}
 use Rattle.record_command.specs.Record.{run_outcome}
-use Rattle.play_lines.specs.Limits.{most_item_line}
+use Rattle.play_lines.specs.Limits.{most_item_line_bytes}
 use Rattle.play_lines.specs.Lines.{Again, Datagram, Mem, PlayCommand, Print, Printed, Processes, Quit, Threads, lacks_in_play, nests_in_play, play_spelled}
 use Rattle.play_lines.specs.Meaning.{Does, PlayMeaning, Plays, Refuses, Silent, item_meaning, play_by_command, play_by_cut, play_meaning}
 use Rattle.play_lines.specs.declared.refusal.PlayRefusal.{PlayRefusal}
@@ -75,7 +75,7 @@ read_by false false false false a b o rest i none is = cc
 -- a line that plays an item has it
 pub item_of_played : (names : List (List ℕ)) (line : List ℕ) (i : Item) → item_in (play_meaning names line) ≡ Some i → item_of_line (length names) line ≡ Some i
 item_of_played names line i is =
-    read_by (nat_lt most_item_line (length line)) (is_silent line) (is_item_line line) (nat_lt most_line (length line)) _ _ (item_of_line (length names) line) (play_by_cut names line (cut_tokens line)) i
+    read_by (nat_lt most_item_line_bytes (length line)) (is_silent line) (is_item_line line) (nat_lt most_line_bytes (length line)) _ _ (item_of_line (length names) line) (play_by_cut names line (cut_tokens line)) i
     (cut_no_item names line (cut_tokens line)) is
 
 -- ---- how a play stands

@@ -2,5 +2,5 @@
 use Rattle.std.specs.Prelude.{ℕ}
 
 -- how many bytes a line has at most: each item that the schedule of a group's logs has is shorter
-abbrev pub most_item_line : ℕ
-most_item_line = 131072
+abbrev pub most_item_line_bytes : ℕ
+most_item_line_bytes = 131072

@@ -4,10 +4,10 @@ use Rattle.expression_text.specs.Computed.{cut_tokens}
 use Rattle.expression_text.specs.Lexing.{LexedLine, PlacedToken, column_of_token, is_too_deep, token_texts}
 use Rattle.schedule_text.specs.ItemLine.{is_item_line, item_of_line}
 use Rattle.schedule_text.specs.declared.item.Item.{Item}
-use Rattle.shell_lines.specs.Limits.{most_line}
+use Rattle.shell_lines.specs.Limits.{most_line_bytes}
 use Rattle.shell_lines.specs.Meaning.{is_silent}
 use Rattle.shell_lines.specs.declared.refusal.LineRefusal.TheVariants as line
-use Rattle.play_lines.specs.Limits.{most_item_line}
+use Rattle.play_lines.specs.Limits.{most_item_line_bytes}
 use Rattle.play_lines.specs.Lines.{PlayCommand, nests_in_play, lacks_in_play, play_spelled}
 use Rattle.play_lines.specs.declared.refusal.PlayRefusal.{PlayRefusal}
 use Rattle.play_lines.specs.declared.refusal.PlayRefusal.TheVariants as refusal
@@ -47,8 +47,8 @@ play_by_cut names bytes (Ok tokens) = play_by_tokens names (record { tokens = to
 -- as many bytes as a line of the debugger.
 abbrev pub play_meaning : List (List ℕ) → List ℕ → PlayMeaning
 play_meaning names bytes =
-    if nat_lt most_item_line (length bytes) then Refuses (refusal.AsLine line.TooLong)
+    if nat_lt most_item_line_bytes (length bytes) then Refuses (refusal.AsLine line.TooLong)
     else if is_silent bytes then Silent
     else if is_item_line bytes then item_meaning (item_of_line (length names) bytes)
-    else if nat_lt most_line (length bytes) then Refuses (refusal.AsLine line.TooLong)
+    else if nat_lt most_line_bytes (length bytes) then Refuses (refusal.AsLine line.TooLong)
     else play_by_cut names bytes (cut_tokens bytes)

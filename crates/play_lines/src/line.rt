@@ -17,10 +17,10 @@ use std::alloc::{AllocError, Global};
 use watch_expr::{ExprError, find_faults, lacks_some_node, lex};
 
 // How many bytes a line has at most: enough for each item that a schedule of logs has.
-const MOST_ITEM_LINE: usize = 131_072;
+const MOST_ITEM_LINE_BYTES: usize = 131_072;
 
 // How many bytes a line has at most that is no item.
-const MOST_LINE: usize = 4096;
+const MOST_LINE_BYTES: usize = 4096;
 
 /// What a line is: nothing, a line that is refused, an item, or a command.
 #[derive(Drop)]
@@ -39,7 +39,7 @@ pub fn read_play_line(alloc: Global, bytes: &[u8], names: &[Bytes]) -> Result<Pl
     ensures silent { length bytes.now ≤ 131072 → is_silent bytes.now ≡ true → result ≡ Ok Silent }
 {
     schedule_text::laws::exact_item_lines();
-    if bytes.len() > MOST_ITEM_LINE {
+    if bytes.len() > MOST_ITEM_LINE_BYTES {
         return Ok(refuses(LineRefusal::TooLong));
     }
     if is_silent(bytes) {
@@ -52,7 +52,7 @@ pub fn read_play_line(alloc: Global, bytes: &[u8], names: &[Bytes]) -> Result<Pl
     if is_item_line(bytes) {
         return Ok(PlayLine::Refused(PlayRefusal::BadItem));
     }
-    if bytes.len() > MOST_LINE {
+    if bytes.len() > MOST_LINE_BYTES {
         return Ok(refuses(LineRefusal::TooLong));
     }
     match spelled(alloc, bytes, names) {

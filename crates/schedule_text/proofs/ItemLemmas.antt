@@ -12,7 +12,7 @@ use Rattle.fri_text.specs.Name.{is_name}
 use Rattle.guest_signals.specs.Signals.{most_signal}
 use Rattle.schedule_text.specs.declared.item.Item.{Item}
 use Rattle.schedule_text.specs.declared.item.Item.TheVariants.{Run, Deliver, Inject, Clock, Random, Signal, Kill}
-use Rattle.schedule_text.specs.Limits.{most_thread, most_datagram}
+use Rattle.schedule_text.specs.Limits.{most_thread_number, most_datagram}
 use Rattle.schedule_text.specs.declared.process.ProcessLine.{ProcessLine}
 use Rattle.schedule_text.specs.Fields.{field_at, last_field_of, is_comment}
 use Rattle.schedule_text.specs.ItemLine.{begin_item, is_item_word, item_of_fields}
@@ -42,7 +42,7 @@ record HasRun (processes : ℕ) (fields : List (List ℕ)) (item : Item) : Type 
   fields_are : fields ≡ p ∷ t ∷ rest
   item_is : Run process thread times ≡ item
   process_is : IsNumber p process × (process < processes)
-  thread_is : IsNumber t thread × (thread ≤ most_thread)
+  thread_is : IsNumber t thread × (thread ≤ most_thread_number)
   times_are : times_of rest ≡ Some times
 
 -- what was read, field by field
@@ -52,7 +52,7 @@ run_parts processes fields item e =
     let p = bind_some (field_at fields) _ item e in
     let process = bind_some (process_number_of processes p.0.0) _ item p.2 in
     let t = bind_some (field_at p.0.1) _ item process.2 in
-    let thread = bind_some (number_up_to most_thread t.0.0) _ item t.2 in
+    let thread = bind_some (number_up_to most_thread_number t.0.0) _ item t.2 in
     let times = bind_some (times_of t.0.1) _ item thread.2 in
     record {
       p = p.0.0;
@@ -64,12 +64,12 @@ run_parts processes fields item e =
       fields_are = field_takes fields p.0.0 p.0.1 p.1 ∙ ap (λ (fs : List (List ℕ)). p.0.0 ∷ fs) (field_takes p.0.1 t.0.0 t.0.1 t.1);
       item_is = let there = times.2 in cc;
       process_is = process_takes processes p.0.0 process.0 process.1;
-      thread_is = number_takes most_thread t.0.0 thread.0 thread.1;
+      thread_is = number_takes most_thread_number t.0.0 thread.0 thread.1;
       times_are = times.1;
     }
 
 -- these parts are written as a run item, in range
-run_written : (processes : ℕ) (p t : List ℕ) (rest : List (List ℕ)) (process thread times : ℕ) → IsNumber p process × (process < processes) → IsNumber t thread × (thread ≤ most_thread) → times_of rest ≡ Some times → IsItemLine (codes "run" ∷ p ∷ t ∷ rest) (Run process thread times) × IsInRange processes (Run process thread times)
+run_written : (processes : ℕ) (p t : List ℕ) (rest : List (List ℕ)) (process thread times : ℕ) → IsNumber p process × (process < processes) → IsNumber t thread × (thread ≤ most_thread_number) → times_of rest ≡ Some times → IsItemLine (codes "run" ∷ p ∷ t ∷ rest) (Run process thread times) × IsInRange processes (Run process thread times)
 run_written processes p t rest process thread times is_process is_thread e =
     elim (times_takes rest times e) [
       | inl none ↦ (
@@ -226,10 +226,10 @@ item_takes processes word fields item e =
     ]
 
 -- the fields of a run item in range are read
-run_again : (processes : ℕ) (p t : List ℕ) (rest : List (List ℕ)) (process thread times : ℕ) → IsNumber p process → process < processes → IsNumber t thread → thread ≤ most_thread → times_of rest ≡ Some times → run_item processes (p ∷ t ∷ rest) ≡ Some (Run process thread times)
+run_again : (processes : ℕ) (p t : List ℕ) (rest : List (List ℕ)) (process thread times : ℕ) → IsNumber p process → process < processes → IsNumber t thread → thread ≤ most_thread_number → times_of rest ≡ Some times → run_item processes (p ∷ t ∷ rest) ≡ Some (Run process thread times)
 unfolding run_item
 run_again processes p t rest process thread times is_process below is_thread small tries =
-    rw (process_again processes p process is_process below, number_again most_thread t thread is_thread small, tries) refl
+    rw (process_again processes p process is_process below, number_again most_thread_number t thread is_thread small, tries) refl
 
 -- a line whose first word is `run` is read as a run item
 run_line : (processes : ℕ) (word : List ℕ) (fields : List (List ℕ)) (item : Item) → word ≡ codes "run" → run_item processes fields ≡ Some item → item_by_word processes word fields ≡ Some item

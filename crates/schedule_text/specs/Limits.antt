@@ -3,8 +3,8 @@ use Rattle.std.specs.Prelude.{ℕ, ◌-◌}
 use Rattle.coop_threads.specs.Crew.{most_threads}
 
 -- the greatest number of a thread, the first of which is 0
-abbrev pub most_thread : ℕ
-most_thread = most_threads - 1
+abbrev pub most_thread_number : ℕ
+most_thread_number = most_threads - 1
 
 -- the greatest number of a datagram among those that a process sends, from 1
 abbrev pub most_datagram : ℕ

@@ -12,7 +12,7 @@ use Rattle.lamport_tag.specs.Limits.{most_processes}
 use Rattle.guest_signals.specs.Signals.{most_signal}
 use Rattle.schedule_text.specs.declared.item.Item.{Item}
 use Rattle.schedule_text.specs.declared.item.Item.TheVariants.{Run, Deliver, Inject, Clock, Random, Signal, Kill}
-use Rattle.schedule_text.specs.Limits.{most_thread, most_datagram, most_runs}
+use Rattle.schedule_text.specs.Limits.{most_thread_number, most_datagram, most_runs}
 use Rattle.schedule_text.specs.declared.process.ProcessLine.{ProcessLine}
 use Rattle.schedule_text.specs.Fields.{fields_of, field_at, last_field_of, is_comment}
 use Rattle.schedule_text.specs.Schedule.{Schedule, is_module_name, run_count}
@@ -68,7 +68,7 @@ run_item processes fields = do
   p ← field_at fields
   process ← process_number_of processes p.0
   t ← field_at p.1
-  thread ← number_up_to most_thread t.0
+  thread ← number_up_to most_thread_number t.0
   times ← times_of t.1
   Some (Run process thread times)
 

@@ -8,7 +8,7 @@ use Rattle.lamport_tag.specs.Limits.{most_processes}
 use Rattle.guest_signals.specs.Signals.{most_signal}
 use Rattle.schedule_text.specs.declared.item.Item.{Item}
 use Rattle.schedule_text.specs.declared.item.Item.TheVariants.{Run, Deliver, Inject, Clock, Random, Signal, Kill}
-use Rattle.schedule_text.specs.Limits.{most_thread, most_datagram, most_runs}
+use Rattle.schedule_text.specs.Limits.{most_thread_number, most_datagram, most_runs}
 use Rattle.schedule_text.specs.declared.process.ProcessLine.{ProcessLine}
 
 -- the processes, numbered from 0, and what happens to them, in order
@@ -32,7 +32,7 @@ pub record IsProcess (line : ProcessLine) : Type 0 where
 
 -- the item is in range where there are this many processes
 abbrev pub IsInRange : ℕ → Item → Type 0
-IsInRange processes (Run process thread times) = (process < processes) × (thread ≤ most_thread) × (1 ≤ times) × (times ≤ most_runs)
+IsInRange processes (Run process thread times) = (process < processes) × (thread ≤ most_thread_number) × (1 ≤ times) × (times ≤ most_runs)
 IsInRange processes (Deliver process number) = (process < processes) × (1 ≤ number) × (number ≤ most_datagram)
 IsInRange processes (Inject process bytes) = (process < processes) × AreBytes bytes
 IsInRange processes (Clock process value) = (process < processes) × FitsSigned w64 value

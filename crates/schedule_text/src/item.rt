@@ -4,7 +4,7 @@ ghost use Rattle.schedule_text.specs.Schedule.{tries as item_tries};
 ghost use Rattle.schedule_text.specs.Reading.{item_by_word, run_item, pair_in, deliver_item, bytes_in, inject_item, clock_item, random_item, signal_item, kill_item};
 
 use crate::fields::Fields;
-use crate::limits::{MOST_DATAGRAM, MOST_THREAD};
+use crate::limits::{MOST_DATAGRAM, MOST_THREAD_NUMBER};
 use crate::word::{bytes, number, positive, process_number, times};
 use fri_bytes::Bytes;
 use fri_text::read_signed;
@@ -14,7 +14,7 @@ use std::alloc::{AllocError, Global};
 /// What happens next in a group. Processes are numbered from 0 in the order of their lines.
 #[derive(Debug, PartialEq, Eq, Drop)]
 pub enum Item {
-    /// `times` tries, each by itself, to make an event of the thread. The thread is 0 to `MOST_THREAD`,
+    /// `times` tries, each by itself, to make an event of the thread. The thread is 0 to `MOST_THREAD_NUMBER`,
     /// and the tries are 1 to `MOST_RUNS`.
     Run {
         process: u32,
@@ -101,7 +101,7 @@ fn read_run(processes: u32, fields: &mut Fields) -> Option<Item>
     ensures { result ≡ run_item processes fields.old }
 {
     let process = process_number(fields.next_field()?, processes)?;
-    let thread = number(fields.next_field()?, u32::from(MOST_THREAD))? as u16;
+    let thread = number(fields.next_field()?, u32::from(MOST_THREAD_NUMBER))? as u16;
     let times = times(fields)?;
     Some(Item::Run {
         process,

@@ -6,7 +6,7 @@
 //! `process NAME MODULE`, with distinct names, whose processes are numbered from 0; and any number of items, each `run P T`
 //! (one try), `run P T N` (N tries), `deliver P N`, `inject P HEX`, `clock P V`, `random P HEX`, `signal P S` or `kill P`.
 //!
-//! P is the number of a process, T is 0 to `MOST_THREAD`, N is 1 to `MOST_RUNS` after `run` and to `MOST_DATAGRAM` after
+//! P is the number of a process, T is 0 to `MOST_THREAD_NUMBER`, N is 1 to `MOST_RUNS` after `run` and to `MOST_DATAGRAM` after
 //! `deliver`, S is 1 to `MOST_SIGNAL` of `guest_signals`, and V is a signed number of 64 bits. Numbers are written in decimal
 //! digits, with any zeros in front; a negative V has one minus. HEX is two hexadecimal digits of either case for each byte, or
 //! `-` for no bytes. `ProcessLine` says what NAME and MODULE may be.
@@ -32,7 +32,7 @@ mod write;
 pub use error::ScheduleError;
 pub use item::Item;
 pub use item_line::{is_item_line, read_item_line};
-pub use limits::{MOST_DATAGRAM, MOST_ROUNDS, MOST_RUNS, MOST_SCHEDULE, MOST_THREAD};
+pub use limits::{MOST_DATAGRAM, MOST_ROUNDS, MOST_RUNS, MOST_SCHEDULE, MOST_THREAD_NUMBER};
 pub use process::ProcessLine;
 pub use read::read_schedule;
 pub use ring::drill;

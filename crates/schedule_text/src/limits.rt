@@ -2,7 +2,7 @@
 use coop_threads::MOST_THREADS;
 
 /// The greatest number of a thread, the first of which is 0.
-pub const MOST_THREAD: u16 = MOST_THREADS - 1;
+pub const MOST_THREAD_NUMBER: u16 = MOST_THREADS - 1;
 
 /// The greatest number of a datagram among those that a process sends, from 1.
 pub const MOST_DATAGRAM: u64 = 9_223_372_036_854_775_807;

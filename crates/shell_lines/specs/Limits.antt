@@ -2,8 +2,8 @@
 use Rattle.std.specs.Prelude.{ℕ}
 
 -- how many bytes a line has at most
-abbrev pub most_line : ℕ
-most_line = 4096
+abbrev pub most_line_bytes : ℕ
+most_line_bytes = 4096
 
 -- how many bytes of a memory one line shows at most
 abbrev pub most_shown_bytes : ℕ

@@ -1,7 +1,7 @@
 -- What a line is: nothing, a line that is refused, or a command.
 use Rattle.std.specs.Prelude.{ℕ, ◌+◌, Bool, true, nat_lt, ◌==◌, List, [], ◌∷◌, length, Result, Ok, Err, if◌then◌else◌}
 use Rattle.std.specs.List.{list_all}
-use Rattle.shell_lines.specs.Limits.{most_line}
+use Rattle.shell_lines.specs.Limits.{most_line_bytes}
 use Rattle.expression_text.specs.Computed.{cut_tokens}
 use Rattle.expression_text.specs.Lexing.{LexedLine, PlacedToken, column_of_token, is_blank, is_too_deep, token_texts}
 use Rattle.shell_lines.specs.Lines.{LineCommand, command_spelled, has_nested, names_none, watches_variable}
@@ -56,6 +56,6 @@ by_cut names line (Ok tokens) = by_tokens names (record { tokens = tokens; end =
 -- what a line is, over a group whose processes have these names. The tests come in this order
 abbrev pub line_meaning : List (List ℕ) → List ℕ → LineMeaning
 line_meaning names line =
-    if nat_lt most_line (length line) then Refuses refusal.TooLong
+    if nat_lt most_line_bytes (length line) then Refuses refusal.TooLong
     else if is_silent line then Silent
     else by_cut names line (cut_tokens line)

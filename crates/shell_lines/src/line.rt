@@ -19,7 +19,7 @@ use std::alloc::{AllocError, Global};
 use watch_expr::{Expr, ExprError, Faults, find_faults, is_blank, lacks_some_node, lex};
 
 // How many bytes a line has at most.
-const MOST_LINE: usize = 4096;
+const MOST_LINE_BYTES: usize = 4096;
 
 /// What a line is: nothing, a line that is refused, or a command.
 #[derive(Drop)]
@@ -35,7 +35,7 @@ pub fn read_line(alloc: Global, bytes: &[u8], names: &[Bytes]) -> Result<Line, A
     ensures line { IfOk result (λ line. meaning line ≡ line_meaning names.now bytes.now) }
     ensures silent { length bytes.now ≤ 4096 → is_silent bytes.now ≡ true → result ≡ Ok Silent }
 {
-    if bytes.len() > MOST_LINE {
+    if bytes.len() > MOST_LINE_BYTES {
         return Ok(Line::Refused(LineRefusal::TooLong));
     }
     if is_silent(bytes) {

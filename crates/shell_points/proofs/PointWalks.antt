@@ -19,7 +19,7 @@ use Rattle.shell_points.specs.Returning.{is_stopping_point}
 use Rattle.shell_points.specs.inside.Reading.{point_readings, point_said_by, stops_by, treat_by}
 use Rattle.shell_points.specs.Meanings.{trigger}
 use Rattle.shell_points.specs.inside.Meanings.{WalksThere, point}
-use Rattle.shell_points.specs.Walking.{Walk, last_word, lines_in, most_lines, positions_ahead, quiet_program, steps_of, treat_point, treat_points, walk_ended, walk_from, walk_on, walk_over}
+use Rattle.shell_points.specs.Walking.{Walk, last_word, lines_in, most_walk_lines, positions_ahead, quiet_program, steps_of, treat_point, treat_points, walk_ended, walk_from, walk_on, walk_over}
 
 -- ---- at one position
 
@@ -160,23 +160,23 @@ step start ps at left variables said some =
 
 pub stops_here : (rest : List Variable → List ℕ → Walk) (at : ℕ) (said : List ℕ) (r : ProgramState) → r.stopped ≡ true → walk_on rest at said r ≡ walk_ended at r.variables (said ++ r.text)
 stops_here rest at said r stops =
-    ap (λ (b : Bool). cond b (walk_ended at r.variables (said ++ r.text)) (cond (nat_le most_lines (lines_in (said ++ r.text))) (walk_ended at r.variables ((said ++ r.text) ++ codes "paused\n")) (rest r.variables (said ++ r.text)))) stops
+    ap (λ (b : Bool). cond b (walk_ended at r.variables (said ++ r.text)) (cond (nat_le most_walk_lines (lines_in (said ++ r.text))) (walk_ended at r.variables ((said ++ r.text) ++ codes "paused\n")) (rest r.variables (said ++ r.text)))) stops
 
 not_stopped : (rest : List Variable → List ℕ → Walk) (at : ℕ) (said : List ℕ) (r : ProgramState) → r.stopped ≡ false
-    → walk_on rest at said r ≡ cond (nat_le most_lines (lines_in (said ++ r.text))) (walk_ended at r.variables ((said ++ r.text) ++ codes "paused\n")) (rest r.variables (said ++ r.text))
+    → walk_on rest at said r ≡ cond (nat_le most_walk_lines (lines_in (said ++ r.text))) (walk_ended at r.variables ((said ++ r.text) ++ codes "paused\n")) (rest r.variables (said ++ r.text))
 not_stopped rest at said r goes =
-    ap (λ (b : Bool). cond b (walk_ended at r.variables (said ++ r.text)) (cond (nat_le most_lines (lines_in (said ++ r.text))) (walk_ended at r.variables ((said ++ r.text) ++ codes "paused\n")) (rest r.variables (said ++ r.text)))) goes
+    ap (λ (b : Bool). cond b (walk_ended at r.variables (said ++ r.text)) (cond (nat_le most_walk_lines (lines_in (said ++ r.text))) (walk_ended at r.variables ((said ++ r.text) ++ codes "paused\n")) (rest r.variables (said ++ r.text)))) goes
 
-pub pauses_here : (rest : List Variable → List ℕ → Walk) (at : ℕ) (said : List ℕ) (r : ProgramState) → r.stopped ≡ false → most_lines ≤ lines_in (said ++ r.text)
+pub pauses_here : (rest : List Variable → List ℕ → Walk) (at : ℕ) (said : List ℕ) (r : ProgramState) → r.stopped ≡ false → most_walk_lines ≤ lines_in (said ++ r.text)
     → walk_on rest at said r ≡ walk_ended at r.variables ((said ++ r.text) ++ codes "paused\n")
 pauses_here rest at said r goes many =
     not_stopped rest at said r goes
-    ∙ ap (λ (b : Bool). cond b (walk_ended at r.variables ((said ++ r.text) ++ codes "paused\n")) (rest r.variables (said ++ r.text))) (le-leb most_lines (lines_in (said ++ r.text)) many)
+    ∙ ap (λ (b : Bool). cond b (walk_ended at r.variables ((said ++ r.text) ++ codes "paused\n")) (rest r.variables (said ++ r.text))) (le-leb most_walk_lines (lines_in (said ++ r.text)) many)
 
-few_lines : (n : ℕ) → n < most_lines → nat_le most_lines n ≡ false
-few_lines n few = elim (leb_tells most_lines n) [ inl t ↦ absurd (omega (arith, t.1, few)) | inr f ↦ f.0 ]
+few_lines : (n : ℕ) → n < most_walk_lines → nat_le most_walk_lines n ≡ false
+few_lines n few = elim (leb_tells most_walk_lines n) [ inl t ↦ absurd (omega (arith, t.1, few)) | inr f ↦ f.0 ]
 
-pub rests_here : (rest : List Variable → List ℕ → Walk) (at : ℕ) (said : List ℕ) (r : ProgramState) → r.stopped ≡ false → lines_in (said ++ r.text) < most_lines
+pub rests_here : (rest : List Variable → List ℕ → Walk) (at : ℕ) (said : List ℕ) (r : ProgramState) → r.stopped ≡ false → lines_in (said ++ r.text) < most_walk_lines
     → walk_on rest at said r ≡ rest r.variables (said ++ r.text)
 rests_here rest at said r goes few =
     not_stopped rest at said r goes
@@ -242,13 +242,13 @@ module _ (first : GroupPlace) (ps : List Point) (before variables : List Variabl
   pub stops_there : r.stopped ≡ true → WalksThere first ps before most new r.variables (text ++ r.text)
   stops_there stops = arrives first ps before r.variables most (suc at) (text ++ r.text) new (follows ∙ stops_here rest (suc at) text r stops) here
 
-  pub pauses_there : r.stopped ≡ false → most_lines ≤ lines_in text + lines_in r.text → WalksThere first ps before most new r.variables ((text ++ r.text) ++ codes "paused\n")
+  pub pauses_there : r.stopped ≡ false → most_walk_lines ≤ lines_in text + lines_in r.text → WalksThere first ps before most new r.variables ((text ++ r.text) ++ codes "paused\n")
   pauses_there goes many =
       arrives first ps before r.variables most (suc at) ((text ++ r.text) ++ codes "paused\n") new
       (follows ∙ pauses_here rest (suc at) text r goes (omega (arith, many, lines_append text r.text))) here
 
   -- the walk goes on from there
-  pub goes_on : (now : Option ℕ) → now ≡ less left → r.stopped ≡ false → lines_in text + lines_in r.text < most_lines → IsAhead first ps before most new.at now r.variables (text ++ r.text)
+  pub goes_on : (now : Option ℕ) → now ≡ less left → r.stopped ≡ false → lines_in text + lines_in r.text < most_walk_lines → IsAhead first ps before most new.at now r.variables (text ++ r.text)
   goes_on now is goes few =
       ap (λ (o : Option ℕ). walk_over first.start ps new.at (steps_of o (end_of first.start - new.at)) r.variables (text ++ r.text)) is
       ∙ ap (λ (p : GroupPlace). walk_over first.start ps p.at (steps_of (less left) (end_of first.start - p.at)) r.variables (text ++ r.text)) here

@@ -55,8 +55,8 @@ abbrev pub walk_ended : ℕ → List Variable → List ℕ → Walk
 walk_ended at variables text = record { at = at; variables = variables; text = text }
 
 -- a walk that has said so many lines pauses
-abbrev pub most_lines : ℕ
-most_lines = 10000
+abbrev pub most_walk_lines : ℕ
+most_walk_lines = 10000
 
 abbrev pub lines_in : List ℕ → ℕ
 lines_in text = count_by is_line_feed text
@@ -66,7 +66,7 @@ lines_in text = count_by is_line_feed text
 abbrev pub walk_on : (List Variable → List ℕ → Walk) → ℕ → List ℕ → ProgramState → Walk
 walk_on rest at said r =
     if r.stopped then walk_ended at r.variables (said ++ r.text)
-    else if nat_le most_lines (lines_in (said ++ r.text)) then walk_ended at r.variables ((said ++ r.text) ++ codes "paused\n")
+    else if nat_le most_walk_lines (lines_in (said ++ r.text)) then walk_ended at r.variables ((said ++ r.text) ++ codes "paused\n")
     else rest r.variables (said ++ r.text)
 
 -- nothing said, and not asked to stop

@@ -19,7 +19,7 @@ use std::sync::ledger::Ledger;
 use watch_expr::Steps;
 
 // A walk that has said so many lines pauses.
-const MOST_LINES: usize = 10_000;
+const MOST_WALK_LINES: usize = 10_000;
 
 /// Where a walk ended, what it made of the variables, and what points said on the way.
 #[derive(Drop)]
@@ -69,7 +69,7 @@ fn walk_there<'m, 'a, L: Ledger>(
     let _ = group.position();
     let mut group = group;
     let mut watching = Watching::begin(alloc, points, &group)?;
-    let mut room = MOST_LINES;
+    let mut room = MOST_WALK_LINES;
     let mut left = most;
     'positions: loop {
         if is_over(&group, left) {

@@ -8,44 +8,42 @@ use Rattle.command_run.specs.CountLaws.{counts_later, counts_none, counts_still}
 use Rattle.log_pairs.proofs.LoadedPairs.{is_loaded, pair_read, read_as}
 use Rattle.log_pairs.proofs.pairs.load.Goals as goal
 
-pub returns-in_err-begin_log-clause-cause : goal.returns-in_err-begin_log-clause-cause
-returns-in_err-begin_log-clause-cause g c =
-    let p = err_from_is_err_and c.from_residual-in_err-begin_log.result c.from_residual-in_err-begin_log.ensures.1 in
-    rw (p.1, p.2) (c.in_err-begin_log.ensures.cause (g.F.Files.counts c.args.files.now) (g.F.Files.counts c.take_log.new.files))
+pub returns-in_err-log-clause-cause : goal.returns-in_err-log-clause-cause
+returns-in_err-log-clause-cause g c =
+    let p = err_from_is_err_and c.from_residual-in_err-log.result c.from_residual-in_err-log.ensures.1 in
+    rw (p.1, p.2) (c.in_err-log.ensures.cause (g.F.Files.counts c.args.files.now) (g.F.Files.counts c.take_log.new.files))
 
-pub returns-in_err-begin_log-clause-counts : goal.returns-in_err-begin_log-clause-counts
-returns-in_err-begin_log-clause-counts g c =
-    let e = c.in_err-begin_log.field-0.0 in
-    let both = counts_later _ _ _ (Ok tt) (counts_none _ _ _ c.in_ok-module.ensures.counts) (counts_none _ _ _ c.in_ok-log.ensures.counts) in
-    let p = err_from_is_err_and c.from_residual-in_err-begin_log.result c.from_residual-in_err-begin_log.ensures.1 in
-    rw (p.1, p.2) (counts_still _ _ _ (Err e) c.in_err-begin_log.ensures.still both)
+pub returns-in_err-log-clause-counts : goal.returns-in_err-log-clause-counts
+returns-in_err-log-clause-counts g c =
+    let e = c.in_err-log.field-0.0 in
+    let both = counts_later _ _ _ (Ok tt) (counts_none _ _ _ c.in_ok-module.ensures.counts) (counts_none _ _ _ c.in_ok-bytes.ensures.counts) in
+    let p = err_from_is_err_and c.from_residual-in_err-log.result c.from_residual-in_err-log.ensures.1 in
+    rw (p.1, p.2) (counts_still _ _ _ (Err e) c.in_err-log.ensures.still both)
 
 pub returns-clause-answer : goal.returns-clause-answer
 returns-clause-answer g c folder told ls are =
-    let log = c.in_ok-begin_log.field-0 in
+    let log = c.in_ok-log.log in
+    let few : length c.in_ok-bytes.bytes.items ≤ most_log = omega (arith, c.in_ok-bytes.ensures.within, c.in_ok-bytes.bytes.ok.0) in
     let unclashed : c.clash_of_logs.result ≡ None = search rules in
-    let few : length c.deref.result.now ≤ most_log = omega (arith, c.in_ok-log.ensures.within, c.deref.ensures.len) in
-    let none : clash_of_logs ls log.head ≡ None = ap (clash_of_logs ls) (sym c.head-head.ensures) ∙ sym (c.clash_of_logs.ensures.answer ls are) ∙ unclashed in (
+    let none : clash_of_logs ls log.head ≡ None = ap (clash_of_logs ls) (sym c.head.ensures) ∙ sym (c.clash_of_logs.ensures.answer ls are) ∙ unclashed in (
       read_as (pair_of c.args.pair) (shown c.in_ok-module.module) (log.head, log.left),
       (
-        pair_read folder ls (pair_of c.args.pair) (shown c.in_ok-module.module) c.deref.result.now (log.head, log.left)
+        pair_read folder ls (pair_of c.args.pair) (shown c.in_ok-module.module) c.in_ok-bytes.bytes.items (log.head, log.left)
             (c.in_ok-module.ensures.answer folder told)
-            (c.in_ok-log.ensures.answer folder (c.take.ensures.same ∙ told) ∙ ap Ok (sym c.deref.ensures.value))
-            c.in_ok-begin_log.ensures.answer none,
-        is_loaded _ (pair_of c.args.pair) c.deref.result.now (log.head, log.left) c.head-head.result refl c.deref.ensures.value c.in_ok-begin_log.ensures.answer c.in_ok-begin_log.ensures.head c.head-head.ensures refl refl c.in_ok-name.ensures
-            c.in_ok-begin_log.ensures.shorter few,
+            (c.in_ok-bytes.ensures.answer folder (c.take.ensures.same ∙ told))
+            c.in_ok-log.ensures.answer none,
+        is_loaded c.exact_logs.ensures _ (pair_of c.args.pair) c.in_ok-bytes.bytes.items refl c.in_ok-log.ensures.spelled c.in_ok-log.ensures.answer few,
       ),
     )
 
 pub returns-clause-fits : goal.returns-clause-fits
 returns-clause-fits g c ls are =
-    let log = c.in_ok-begin_log.field-0 in
-    let few : length c.deref.result.now ≤ most_log = omega (arith, c.in_ok-log.ensures.within, c.deref.ensures.len) in
+    let log = c.in_ok-log.log in
+    let few : length c.in_ok-bytes.bytes.items ≤ most_log = omega (arith, c.in_ok-bytes.ensures.within, c.in_ok-bytes.bytes.ok.0) in
     let unclashed : c.clash_of_logs.result ≡ None = search rules in (
       read_as (pair_of c.args.pair) (shown c.in_ok-module.module) (log.head, log.left),
       (
-        is_loaded _ (pair_of c.args.pair) c.deref.result.now (log.head, log.left) c.head-head.result refl c.deref.ensures.value c.in_ok-begin_log.ensures.answer c.in_ok-begin_log.ensures.head c.head-head.ensures refl refl c.in_ok-name.ensures
-            c.in_ok-begin_log.ensures.shorter few,
-        ap (clash_of_logs ls) (sym c.head-head.ensures) ∙ sym (c.clash_of_logs.ensures.answer ls are) ∙ unclashed,
+        is_loaded c.exact_logs.ensures _ (pair_of c.args.pair) c.in_ok-bytes.bytes.items refl c.in_ok-log.ensures.spelled c.in_ok-log.ensures.answer few,
+        ap (clash_of_logs ls) (sym c.head.ensures) ∙ sym (c.clash_of_logs.ensures.answer ls are) ∙ unclashed,
       ),
     )

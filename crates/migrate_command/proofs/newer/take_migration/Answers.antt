@@ -2,10 +2,11 @@ use Rattle.std.proofs.Common.{◌≡◌, ◌∙◌, Err, Ok, ap, subst, sym}
 use Rattle.std.specs.Prelude.{MatchResult}
 use Rattle.std.proofs.lemmas.Result.{err_from_is_err_and}
 use Rattle.call_log.specs.Head.{Head}
-use Rattle.call_log.specs.Log.{Unread}
+use Rattle.call_log.specs.Log.{Log, Unread}
 use Rattle.command_run.specs.Call.{StopsAsCause}
 use Rattle.command_run.specs.CountLaws.{counts_still}
 use Rattle.command_run.specs.Outcome.{CommandOutcome}
+use Rattle.migrate_command.specs.Migrate.{work_unless_grown}
 use Rattle.migrate_command.specs.inside.Meanings.{work_of_migration}
 use Rattle.migrate_command.proofs.MigrateOutcome.{at_log}
 use Rattle.migrate_command.proofs.newer.take_migration.Goals as goal
@@ -22,9 +23,10 @@ returns-in_err-log-clause-cause g c =
 
 pub returns-clause-answer : goal.returns-clause-answer
 returns-clause-answer g c = λ new_name folder told.
-    let log : Head × Unread = (c.in_ok-log.log.head, c.in_ok-log.log.left) in
-    let is = at_log c.args.log_file.now new_name folder c.deref.result.now log (c.in_ok-bytes.ensures.answer folder told ∙ ap Ok (sym c.deref.ensures.value)) c.in_ok-log.ensures.answer in
-    subst (λ (o : CommandOutcome). MatchResult c.renew.result (λ m. o ≡ Ok (work_of_migration new_name m)) (StopsAsCause o)) (sym is) (c.renew.ensures.answer new_name)
+    let parts : Log → Head × Unread = λ log. (log.head, log.left) in
+    let is = at_log c.args.log_file.now new_name folder c.in_ok-bytes.bytes.items (parts c.in_ok-log.log) (c.in_ok-bytes.ensures.answer folder told) c.in_ok-log.ensures.answer in
+    subst (λ (o : CommandOutcome). MatchResult c.renew.result (λ m. o ≡ Ok (work_of_migration new_name m)) (StopsAsCause o))
+    (ap (work_unless_grown c.args.log_file.now new_name) (ap parts c.view.ensures) ∙ sym is) (c.renew.ensures.answer new_name)
 
 pub returns-clause-cause : goal.returns-clause-cause
 returns-clause-cause g c = c.renew.ensures.cause (g.F.Files.counts c.args.files.now) (g.F.Files.counts c.take_log.new.files)

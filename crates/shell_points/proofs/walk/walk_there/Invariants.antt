@@ -3,7 +3,7 @@ use Rattle.group_state.specs.Place.{events_of_replays}
 use Rattle.group_state.specs.Touch.{watch_ticks}
 use Rattle.shell_points.specs.declared.point.Point.{Point as Held}
 use Rattle.shell_points.specs.inside.Meanings.{point}
-use Rattle.shell_points.specs.Walking.{lines_in, most_lines}
+use Rattle.shell_points.specs.Walking.{lines_in, most_walk_lines}
 use Rattle.shell_points.specs.inside.Watches.{IsWatching}
 use Rattle.shell_points.specs.Watching.{watched_expressions}
 use Rattle.shell_points.proofs.PointWalks.{IsAhead}
@@ -16,7 +16,7 @@ invariant-positions g l = record {
   within : l.group.at ≤ length (events_of_replays l.fn.group.start);
   after : l.fn.group.at ≤ l.group.at;
   read : IsWatching l.fn.group.start l.group.at (map {A = Held} point l.points) l.watching;
-  few : l.room + lines_in l.text ≡ most_lines;
+  few : l.room + lines_in l.text ≡ most_walk_lines;
   ahead : IsAhead l.fn.group (map {A = Held} point l.points) l.fn.variables l.fn.most l.group.at l.left l.variables l.text;
   ticks : l.steps ≡ l.fn.steps + watch_ticks l.fn.group.start (watched_expressions (map {A = Held} point l.points)) l.fn.group.at (l.group.at - l.fn.group.at);
 }
