@@ -1,10 +1,11 @@
 """`continue` over 16 processes that pass datagrams round in a ring, from position 0 to the end, with 0, 1, 10 and 60
 watchpoints that read what no event touches, in logs of 100,000 and 1,000,000 events; beside `goto` to the end, a walk with a
-breakpoint whose program counts the sends, and `rcontinue` over the same positions from the end. The watchpoints read a
-number of one process, or add up one of each process, or are 64 of 505 tokens, each over all processes. Prints the
-processor's time for each event, and that for each watchpoint at one event or run of the program, which is what the walk
-takes longer than without points; instructions by valgrind for the shorter logs; and the peak of memory. The guest is built
-with wat2wasm of the package wabt.
+breakpoint whose program counts the sends, one with a watched sum over all processes whose pages the receives touch, and
+`rcontinue` over the same positions from the end. The other watchpoints read a number of one process, or add up one of each
+process, or are 64 of 505 tokens, each over all processes. Prints the processor's time for each event, and that for each
+watchpoint at one event, run of the program or evaluation of the touched sum, which is what the walk takes longer than
+without points; instructions by valgrind for the shorter logs; and the peak of memory. The guest is built with wat2wasm of
+the package wabt.
 """
 
 import os
@@ -20,6 +21,8 @@ TRIES = 3
 
 # A program that counts the sends.
 COUNTING = ["set $sends 0", "break * send", "do 1 set $sends $sends + 1", "continue"]
+# A sum over pages that each receive writes to, elsewhere, so that it is evaluated and never fires.
+TOUCHED = ["watch sum(@_.u32[4000])", "continue"]
 # What no event touches: a number of one process, one of each, and 63 numbers of them all.
 ONE = ["@p%d.u32[%d]" % (n % COUNT, 8192 + 4 * n) for n in range(60)]
 EACH = ["sum(@_.u32[%d])" % (8192 + 4 * n) for n in range(60)]
@@ -94,11 +97,13 @@ def table(folder, events, counted):
         each, value = shared(spent * 1e9, bare[0] * 1e9, events, points)
         each_count, value_count = shared(count, bare[2], events, points)
         print("%8d  %2d %-16s %9s %9s %12s %12s %8.1f" % (events, points, name, each, value, each_count, value_count, peak / 1e6), flush=True)
-    spent, peak, count = costs(folder, COUNTING, counted)
+    # As many sends as receives.
     sends = (events - 2 * COUNT) // 2
-    each, run = "%.0f" % (spent * 1e9 / events), "%.0f" % ((spent - bare[0]) * 1e9 / sends)
-    each_count, run_count = (shared(count, 0, events, 0)[0], "-" if count is None else "%.0f" % ((count - bare[2]) / sends))
-    print("%8d  %-19s %9s %9s %12s %12s %8.1f" % (events, "a program at sends", each, run, each_count, run_count, peak / 1e6), flush=True)
+    for name, lines in (("a program at sends", COUNTING), ("a touched sum", TOUCHED)):
+        spent, peak, count = costs(folder, lines, counted)
+        each, run = "%.0f" % (spent * 1e9 / events), "%.0f" % ((spent - bare[0]) * 1e9 / sends)
+        each_count, run_count = (shared(count, 0, events, 0)[0], "-" if count is None else "%.0f" % ((count - bare[2]) / sends))
+        print("%8d  %-19s %9s %9s %12s %12s %8.1f" % (events, name, each, run, each_count, run_count, peak / 1e6), flush=True)
     spent, peak, count = costs(folder, ["goto %d" % events], counted)
     print("%8d  %-19s %9.0f %9s %12s %12s %8.1f" % (events, "goto to the end", spent / events * 1e9, "", shared(count, 0, events, 0)[0], "", peak / 1e6), flush=True)
 

@@ -26,17 +26,14 @@ use Rattle.group_state.proofs.AheadInOrder.{goes}
 use Rattle.group_state.proofs.Swaps.{put_back}
 
 -- the node's replay is taken out, has its turn at the end of the list, and is put back
-pub turned : (old : List Replaying) (node last : ℕ) (taken replayer : Replaying) (removed pushed new : List Replaying) (t : Turn) → node < length old → last ≡ length old - 1
+pub turned : (old : List Replaying) (node last : ℕ) (taken replayer : Replaying) (removed pushed new : List Replaying) → node < length old → last ≡ length old - 1
     → taken ≡ get_or old node taken → removed ≡ swap_remove old node taken → pushed ≡ removed ++ replayer ∷ [] → new ≡ swap pushed node last
-    → move_of t ≡ turn taken → replayer ≡ after_replay_turn taken → NodeTurns old node new t
-turned old node last taken replayer removed pushed new t within last_is taken_is removed_is pushed_is new_is tells replayer_is = record {
-  tells = λ r at. tells ∙ ap turn (taken_is ∙ get_or_from_slice_get old node r taken at);
-  moves = λ r at.
-      new_is ∙ ap (λ l. swap l node last) (pushed_is ∙ ap (λ l. l ++ replayer ∷ []) removed_is)
-      ∙ ap (swap (swap_remove old node taken ++ replayer ∷ []) node) last_is
-      ∙ put_back old node taken replayer within
-      ∙ ap (set old node) (replayer_is ∙ ap after_replay_turn (taken_is ∙ get_or_from_slice_get old node r taken at));
-}
+    → replayer ≡ after_replay_turn taken → NodeTurns old node new
+turned old node last taken replayer removed pushed new within last_is taken_is removed_is pushed_is new_is replayer_is r at =
+    new_is ∙ ap (λ l. swap l node last) (pushed_is ∙ ap (λ l. l ++ replayer ∷ []) removed_is)
+    ∙ ap (swap (swap_remove old node taken ++ replayer ∷ []) node) last_is
+    ∙ put_back old node taken replayer within
+    ∙ ap (set old node) (replayer_is ∙ ap after_replay_turn (taken_is ∙ get_or_from_slice_get old node r taken at))
 
 -- what the turn of the node that comes next leaves
 pub record Forwarded (start replayers new : List Replaying) (heads : List (Option ℕ)) (at node : ℕ) (t : Turn) : Type 0 where
@@ -49,16 +46,17 @@ pub record Forwarded (start replayers new : List Replaying) (heads : List (Optio
   pub merged : (x : Replaying) → x ≡ get_or new node x → set heads node (head_of_replay x) ≡ map head_of_replay new
   pub sound : AreSoundMemories replayers → (x : Replaying) → x ≡ get_or new node x → IsMemory x.state.store.memory → AreSoundMemories new
 
-pub forwarded : AreMergedOrders Entry → AreRising → IsKeptByEvents → AreTurns → (start replayers new : List Replaying) (heads : List (Option ℕ)) (at node : ℕ) (t : Turn)
-    → ReplaysFit start → replayers ≡ replayers_from 0 start (take at (events_of_replays start)) → heads ≡ map head_of_replay replayers → IsFirstNode heads node → NodeTurns replayers node new t → Forwarded start replayers new heads at node t
-forwarded merging rising kept course start replayers new heads at node t fits stand are first turns =
+pub forwarded : AreMergedOrders Entry → AreRising → IsKeptByEvents → AreTurns → (start replayers new : List Replaying) (heads : List (Option ℕ)) (at node : ℕ) (t : Turn) (seen : Replaying)
+    → ReplaysFit start → replayers ≡ replayers_from 0 start (take at (events_of_replays start)) → heads ≡ map head_of_replay replayers → IsFirstNode heads node → seen ≡ get_or replayers node seen → move_of t ≡ turn seen → NodeTurns replayers node new
+    → Forwarded start replayers new heads at node t
+forwarded merging rising kept course start replayers new heads at node t seen fits stand are first seen_is tells turns =
     let g = goes merging rising kept course start fits at node (subst (λ h. IsFirstNode h node) (are ∙ ap (map head_of_replay) stand) first) in
     let here : slice_get replayers node ≡ Some g.replayer = ap (λ ps. slice_get ps node) stand ∙ g.here in
     let within : node < length replayers = slice_get_within replayers node g.replayer here in
-    let new_is : new ≡ set replayers node (after_replay_turn g.replayer) = turns.moves g.replayer here in
+    let new_is : new ≡ set replayers node (after_replay_turn g.replayer) = turns g.replayer here in
     record {
       entry = g.entry;
-      told = turns.tells g.replayer here ∙ g.makes;
+      told = tells ∙ ap turn (seen_is ∙ get_or_from_slice_get replayers node g.replayer seen here) ∙ g.makes;
       next = g.next;
       stand = new_is ∙ ap (λ ps. set ps node (after_replay_turn g.replayer)) stand ∙ g.more;
       fits = omega (arith, ap length new_is, length-set replayers node (after_replay_turn g.replayer), within);

@@ -1,5 +1,5 @@
 -- An event that touches nothing of what an expression reads leaves its value and what it reads as they were.
-use Rattle.std.proofs.Common.{◌≡◌, ◌≤◌, ℕ, suc, Bool, true, false, List, [], ◌∷◌, length, map, take, Some, sym, ap, ◌∙◌, arith, ⊎_elim}
+use Rattle.std.proofs.Common.{◌≡◌, ◌≤◌, ℕ, suc, Bool, true, false, List, [], ◌∷◌, length, map, take, None, Some, sym, ap, ◌∙◌, arith, ⊎_elim}
 use Rattle.std.specs.Prelude.{slice_get}
 use Rattle.std.specs.List.{AllByRecursion, list_any}
 use Rattle.std.proofs.lemmas.Bool.{cases_lt, or_parts}
@@ -38,7 +38,7 @@ module _ (steps : (start : List Replaying) → AreGroupReplays start → Replays
       let new = nodes_at (at_position start (suc k)) in
       let same : (l : Location) → is_touched_at start (suc k) l ≡ false → SameAtPlace old new l =
       λ l untouched. stays_at steps rising kept unmarked start replayers fits k l within (λ marked. let clash : true ≡ false = sym (is_mark start k l marked) ∙ untouched in cc) old_sound new_sound in
-      let told = law old new x (node_for_each (at_position start (suc k)) ∙ sym (node_for_each (at_position start k))) old_sound new_sound
+      let told = law old new None x (node_for_each (at_position start (suc k)) ∙ sym (node_for_each (at_position start k))) old_sound new_sound
       (all_same old new (is_touched_at start (suc k)) same (reads_of_expression old x) unmet) in
       record { value = told.0; reads = told.1 }
 

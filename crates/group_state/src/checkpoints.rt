@@ -11,10 +11,12 @@ const MOST_CHECKPOINTS: usize = 8;
 // So many events lie between two of them at first, and twice as many each time that there would be too many.
 const FIRST_STRIDE: u64 = 256;
 
-/// Where a group stood at positions after the beginning, in their order. Each is a multiple of the stride.
+/// Where a group stood at positions after the beginning, in their order. Each is a multiple of the stride, and so is the next
+/// one, at which the group has not been.
 #[derive(Drop)]
 pub(crate) struct Checkpoints<'m, 'a> {
-    pub stride: u64,
+    stride: u64,
+    next: u64,
     pub stands: Vec<Stand<'m, 'a>>,
 }
 
@@ -25,31 +27,27 @@ impl<'m, 'a> Checkpoints<'m, 'a> {
     {
         Checkpoints {
             stride: FIRST_STRIDE,
+            next: FIRST_STRIDE,
             stands: Vec::new(alloc),
         }
     }
 
-    /// Keeps where the group is, if a multiple of the stride is reached for the first time.
+    /// Keeps where the group is, if it is at the next checkpoint.
     pub(crate) fn keep(&mut self, alloc: Global, here: &Stand<'m, 'a>) -> Result<(), AllocError>
         ensures { KeepsStands self.old.stands.items here.now self.new.stands.items }
     {
-        if !self.lacks(here.at) {
+        if here.at != self.next {
             return Ok(());
         }
         self.make_room();
-        if here.at.is_multiple_of(self.stride) {
-            let copy = here.copy(alloc)?;
-            self.stands.push(copy)?;
-        }
+        let copy = here.copy(alloc)?;
+        self.stands.push(copy)?;
+        self.next = self.next.saturating_add(self.stride);
         Ok(())
     }
 
-    // Whether the position is a multiple of the stride that has no checkpoint.
-    fn lacks(&self, at: u64) -> bool {
-        at.is_multiple_of(self.stride) && !self.stands.iter().any(|stand| stand.at == at)
-    }
-
-    // Where one more would be too many, the stride is doubled, and what is no multiple of it is dropped.
+    // If one more would be too many, the stride is doubled, and what is no multiple of it is dropped. The next one is then at
+    // eight strides, so it is a multiple of the doubled one.
     fn make_room(&mut self)
         ensures { KeepsCheckpoints self.old.stands.items self.new.stands.items }
     {

@@ -1,5 +1,5 @@
 // One turn of a group's node.
-ghost use Rattle.std.specs.Prelude.{◌≡◌, ◌<◌, IfOk, length};
+ghost use Rattle.std.specs.Prelude.{◌≡◌, ◌<◌, OnOk, length};
 ghost use Rattle.group_state.specs.inside.Turns.{head_of_replay, NodeTurns};
 
 use proc_replay::{Replayer, Turn};
@@ -20,14 +20,14 @@ pub(crate) fn head_of(replayer: &Replayer<'_, '_>) -> Option<u64>
 pub(crate) fn take_turn<'a>(
     replayers: &mut Vec<Replayer<'_, 'a>>,
     node: u32,
-) -> Result<Turn<'a>, AllocError>
+) -> Result<(), AllocError>
     requires { node < length replayers.old.items }
-    ensures { IfOk result (NodeTurns replayers.old.items node replayers.new.items) }
+    ensures { OnOk result (NodeTurns replayers.old.items node replayers.new.items) }
 {
     let last = replayers.len() - 1;
     let replayer = replayers.swap_remove(node as usize);
-    let (replayer, turn) = replayer.next_event()?;
+    let (replayer, _) = replayer.next_event()?;
     replayers.push(replayer)?;
     replayers.swap(node as usize, last);
-    Ok(turn)
+    Ok(())
 }

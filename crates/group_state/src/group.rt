@@ -1,5 +1,5 @@
 // A group at a position.
-ghost use Rattle.std.specs.Prelude.{◌≡◌, ◌≤◌, ◌-◌, ℕ, Some, None, IfOk, IsTrue, IsFalse, OnOk, ◌↔◌, length, map, nat_le, option_map, slice_get};
+ghost use Rattle.std.specs.Prelude.{◌≡◌, ◌≤◌, ◌+◌, ◌-◌, ℕ, if◌then◌else◌, Some, None, IfOk, IsTrue, IsFalse, OnOk, ◌↔◌, length, map, nat_le, option_map, slice_get};
 ghost use Rattle.group_state.specs.Place.{AreGroupReplays, ReplaysFit, GroupPlace, events_of_replays, states_of_nodes};
 ghost use Rattle.group_state.specs.inside.At.{IsSoundCourse, place_of_course};
 ghost use Rattle.group_state.specs.Moves.{IsAtPosition, GroupMoves, event_of, last_event_of};
@@ -39,34 +39,46 @@ pub(crate) struct Course<'m, 'a> {
 }
 
 impl<'m, 'a> Course<'m, 'a> {
-    // Makes the next event. None comes exactly at the end, and then nothing changes.
-    fn forward(&mut self) -> Result<Option<GroupEvent<'a>>, AllocError>
+    // Makes the next event, which is then the last one, and says whether there is one. At the end nothing changes.
+    fn step(&mut self) -> Result<bool, AllocError>
         requires { IsSoundCourse self.old }
         ensures sound { OnOk result (IsSoundCourse self.new) }
-        ensures moves { IfOk result (GroupMoves (place_of_course self.old) (place_of_course self.new)) }
+        ensures start { OnOk result (self.new.start.items ≡ self.old.start.items) }
+        ensures at { IfOk result (λ made. IsTrue made → self.new.here.at ≡ self.old.here.at + 1) }
+        ensures moves { IfOk result (λ made. GroupMoves (place_of_course self.old) (place_of_course self.new) (if made then self.new.here.last else None)) }
     {
         group_order::laws::merges::<Entry>();
         proc_replay::laws::replays();
         guest_process::laws::rises();
         guest_process::laws::states_fit();
         let Some(node) = self.merge.next_node() else {
-            return Ok(None);
+            return Ok(false);
         };
-        let turn = take_turn(&mut self.here.replayers, node)?;
+        let turn = self.here.replayers[node as usize].peek();
+        take_turn(&mut self.here.replayers, node)?;
         let replayer = &self.here.replayers[node as usize];
         let _ = replayer.process().memory().size();
         let head = head_of(replayer);
         self.merge.set_head(node, head);
-        let Turn::Event(entry) = turn else {
+        let Turn::Event(entry) = &turn else {
             unreachable!();
         };
-        let event = GroupEvent { node, entry };
         self.here.at += 1;
-        self.here.last = Some(event);
+        self.here.last = Some(GroupEvent {
+            node,
+            entry: *entry,
+        });
         self.motions.add(node, self.here.at)?;
         self.checkpoints.keep(self.alloc, &self.here)?;
         self.counter.count_event();
-        Ok(Some(event))
+        Ok(true)
+    }
+
+    // The event that was made last, if one was made.
+    fn last_if(&self, made: bool) -> Option<GroupEvent<'a>>
+        ensures { result ≡ (if made then self.now.here.last else None) }
+    {
+        if made { self.here.last } else { None }
     }
 
     // Stands where it comes to position k soonest: where it is, or at the last checkpoint that is not past the position.
@@ -102,7 +114,7 @@ impl<'m, 'a> Course<'m, 'a> {
         ensures within { IfOk result (λ there. IsTrue there ↔ k ≤ length (events_of_replays self.old.start.items)) }
     {
         'events: while self.here.at < k {
-            if self.forward()?.is_none() {
+            if !self.step()? {
                 return Ok(false);
             }
         }
@@ -202,7 +214,8 @@ impl<'m, 'a> Group<'m, 'a> {
         ensures { IfOk result (λ moved. GroupMoves self.entry moved.0 moved.1) }
     {
         let Group { mut course } = self;
-        let event = course.forward()?;
+        let made = course.step()?;
+        let event = course.last_if(made);
         Ok((Group { course }, event))
     }
 

@@ -5,6 +5,7 @@ ghost use Rattle.page_watch.specs.Touch.{meets};
 ghost use Rattle.page_watch.specs.Watched.{WatchStands};
 ghost use Rattle.page_watch.specs.inside.Watching.{watch_after_event};
 ghost use Rattle.expression_text.specs.Expression.{expression_of};
+ghost use Rattle.watch_expr.specs.Parts.{places_of_parts};
 ghost use Rattle.watch_expr.specs.Reads.{reads_of_expression};
 
 use crate::places::AllPlaces;
@@ -63,13 +64,12 @@ impl Watches {
         ensures stand { IfOk result (λ done. All (λ w. WatchStands w (V.states v.now (V.at v.now))) self → All (λ w. WatchStands w (V.states v.now (V.at v.now))) done) }
         ensures steps { steps.new ≡ steps.old + 1 }
     {
-        watch_expr::laws::reads_low();
+        watch_expr::laws::parts_make_up();
         let Watches {
             mut watches,
             places,
         } = self;
-        let watch = Watch::new(alloc, expr, v, steps)?;
-        let places = places.with(alloc, watch.places())?;
+        let (watch, places) = Watch::new(alloc, expr, v, places, steps)?;
         watches.push(watch)?;
         Ok(Watches { watches, places })
     }
@@ -104,7 +104,7 @@ impl Watches {
         ensures same { IfOk result (λ done. IsFalse done.1 → done.0 ≡ self) }
         ensures steps { OnOk result (steps.new ≡ steps.old + count_by (λ w. meets (V.marks v.now) (V.at v.now) (reads_of_expression (V.states v.now (V.at v.now - 1)) w.expression)) self) }
     {
-        watch_expr::laws::reads_low();
+        watch_expr::laws::parts_make_up();
         watch_expr::laws::reads_tell();
         let at = v.position();
         let Watches { watches, places } = self;
@@ -116,7 +116,7 @@ impl Watches {
     }
 }
 
-// Asks each watch. The places of those that evaluated are added to those of all.
+// Asks each watch. The places of what was read again are added to those of all.
 fn ask_all<V: TouchView, L: Ledger>(
     alloc: Global,
     watches: Vec<Watch>,
@@ -129,34 +129,12 @@ fn ask_all<V: TouchView, L: Ledger>(
     requires covers { CoversPlaces places (places_of watches.items) }
     ensures watches { IfOk result (λ done. done.0.items ≡ map (watch_after_event (V.marks v.now) (V.at v.now) (V.states v.now (V.at v.now))) watches.items) }
     ensures covers { IfOk result (λ done. CoversPlaces done.1 (places_of done.0.items)) }
-    ensures steps { OnOk result (steps.new ≡ steps.old + count_by (λ w. meets (V.marks v.now) (V.at v.now) w.places) watches.items) }
+    ensures steps { OnOk result (steps.new ≡ steps.old + count_by (λ w. meets (V.marks v.now) (V.at v.now) (places_of_parts w.parts)) watches.items) }
 {
     let mut watches = watches;
     let mut places = places;
     for n in 0..watches.len() {
-        places = ask_one(alloc, &mut watches[n], places, v, steps)?;
+        places = watches[n].ask(alloc, v, places, steps)?;
     }
     Ok((watches, places))
-}
-
-fn ask_one<V: TouchView, L: Ledger>(
-    alloc: Global,
-    watch: &mut Watch,
-    places: AllPlaces,
-    v: &V,
-    steps: &mut Steps<L>,
-) -> Result<AllPlaces, AllocError>
-    requires position { 0 < V.at v.now }
-    requires stands { WatchStands watch.old (V.states v.now (V.at v.now - 1)) }
-    ensures watch { OnOk result (watch.new ≡ watch_after_event (V.marks v.now) (V.at v.now) (V.states v.now (V.at v.now)) watch.old) }
-    ensures all { IfOk result (λ all. CoversPlaces all places) }
-    ensures places { IfOk result (λ all. CoversPlaces (all ++ watch.old.places) watch.new.places) }
-    ensures steps { OnOk result (steps.new ≡ steps.old + (if meets (V.marks v.now) (V.at v.now) watch.old.places then 1 else 0)) }
-{
-    watch_expr::laws::reads_low();
-    if watch.ask(alloc, v, steps)? {
-        places.with(alloc, watch.places())
-    } else {
-        Ok(places)
-    }
 }

@@ -7,8 +7,8 @@ use Rattle.guest_memory.specs.Memory.{is_inside}
 use Rattle.watch_expr.specs.declared.reads.Place.{Place}
 use Rattle.watch_expr.specs.declared.reads.Place.TheVariants as place
 use Rattle.expression_text.specs.Expression.{Clock, Events, Expression, Global, HasEnded, LastThread, Load, Number, One, Over, Size, Two, Var}
-use Rattle.watch_expr.specs.Reads.{ReadsLow, places_at_node, evaluates_right, is_low_place, load_places, no_variables, reads_at}
-use Rattle.watch_expr.specs.Value.{ExpressionSetting, byte_count, resolved_node, expression_setting, value_at}
+use Rattle.watch_expr.specs.Reads.{places_at_node, evaluates_right, is_low_place, load_places, reads_at}
+use Rattle.watch_expr.specs.Value.{ExpressionSetting, byte_count, resolved_node, value_at}
 use Rattle.watch_expr.specs.View.{Node}
 
 -- none of these is a global that is too high
@@ -65,5 +65,6 @@ low_at s each (Size name) = at_one (resolved_node s.event each name) (λ node. p
 low_at s each (LastThread name) = at_one (resolved_node s.event each name) (λ node. place.Motion node ∷ []) (λ k. refl)
 low_at s each (HasEnded name) = at_one (resolved_node s.event each name) (λ node. place.Motion node ∷ []) (λ k. refl)
 
-pub reads_low : ReadsLow
-reads_low nodes x = low_at (expression_setting nodes no_variables) None x
+-- what is read after nothing else
+pub low_read : (s : ExpressionSetting) (each : Option ℕ) (x : Expression) (before after : List Place) → before ≡ [] → after ≡ before ++ reads_at s each x → AreLow after
+low_read s each x before after none is = ap (list_all is_low_place) (is ∙ ap (λ (ls : List Place). ls ++ reads_at s each x) none) ∙ low_at s each x

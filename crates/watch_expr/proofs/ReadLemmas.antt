@@ -308,4 +308,4 @@ module _ (old new : List Node) (even : length new ≡ length old)
   agrees (HasEnded name) each h = record { values = ended_case (resolved_node None each name) h; reads = refl }
 
 pub reads_tell : ReadsTell
-reads_tell old new x even in_old in_new h = let r = agrees old new even in_old in_new x None h in (r.values, r.reads)
+reads_tell old new each x even in_old in_new h = let r = agrees old new even in_old in_new x each h in (r.values, r.reads)

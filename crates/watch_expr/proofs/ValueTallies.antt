@@ -48,7 +48,7 @@ ending s x tally k n = all_numbers (map (λ node. value_at s (Some node) x) (ran
 pub range_next : (k n : ℕ) → k < n → range_with_len k (n - k) ≡ k ∷ range_with_len (k + 1) (n - (k + 1))
 range_next k n lt = let e : n - k ≡ suc (n - (k + 1)) = omega arith in ap (range_with_len k) e
 
-front : (tally : Tally) (a : ℤ) (o : Option (List ℤ))
+pub front : (tally : Tally) (a : ℤ) (o : Option (List ℤ))
     → ◌≡◌ {A = Option ℤ} ((o >>= λ ws. Some (a ∷ ws)) >>= λ ws. total (fold added_value tally ws)) (o >>= λ ws. total (fold added_value (added_value tally a) ws))
 front tally a None = refl
 front tally a (Some ws) = refl
@@ -71,7 +71,7 @@ ending_all s x tally k n le =
     let e : n - k ≡ 0 = omega arith in
     ap (λ (m : ℕ). all_numbers (map (λ node. value_at s (Some node) x) (range_with_len k m)) >>= λ ws. total (fold added_value tally ws)) e
 
-begun : (a : Agg) (o : Option (List ℤ)) → ◌≡◌ {A = Option ℤ} (o >>= λ ws. total (fold added_value (empty_tally a) ws)) (o >>= aggregate_over a)
+pub begun : (a : Agg) (o : Option (List ℤ)) → ◌≡◌ {A = Option ℤ} (o >>= λ ws. total (fold added_value (empty_tally a) ws)) (o >>= aggregate_over a)
 begun a None = refl
 begun a (Some ws) = total_says a ws
 

@@ -1,3 +1,4 @@
+pub mod Parts
 pub mod Reads
 pub mod Value
 pub mod View

@@ -1,6 +1,6 @@
 -- What the value of an expression is read from.
 use Rattle.std.specs.Prelude.{◌≡◌, ℕ, ◌+◌, ◌-◌, ◌*◌, ◌/◌, ◌^◌, ◌≤◌, ◌==◌, Bool, true, false, not, nat_lt, is_none, List, [], ◌∷◌, ◌++◌, length, slice_get, Option, Some, None, if◌then◌else◌, ℤ, pos, negsuc}
-use Rattle.std.specs.List.{AllByRecursion, flat_map, list_all, range_with_len}
+use Rattle.std.specs.List.{AllByRecursion, flat_map, range_with_len}
 use Rattle.guest_memory.specs.Memory.{Memory, IsMemory, bytes_from, is_inside}
 use Rattle.expression_text.specs.declared.expr.Binary.{Binary}
 use Rattle.expression_text.specs.declared.expr.Binary.TheVariants as binary
@@ -75,10 +75,6 @@ is_low_place (place.Global node n) = nat_lt n (2 ^ 32)
 is_low_place (place.Motion node) = true
 is_low_place (place.Size node) = true
 
--- every global that is read has such a number
-abbrev pub ReadsLow : Type 0
-ReadsLow = (nodes : List Node) (x : Expression) → list_all is_low_place (reads_of_expression nodes x) ≡ true
-
 -- ---- where nothing of it changed
 
 -- the page lies in the later memory, with the same bytes
@@ -103,9 +99,10 @@ AreMemories nodes = AllByRecursion (λ (s : Node). IsMemory s.memory) nodes
 
 -- where all that an expression reads is the same, its value and what it reads are the same
 abbrev pub ReadsTell : Type 0
-ReadsTell = (old new : List Node) (x : Expression) → length new ≡ length old → AreMemories old → AreMemories new
-    → AllByRecursion (SameAtPlace old new) (reads_of_expression old x)
-    → (value new no_variables x ≡ value old no_variables x) × (reads_of_expression new x ≡ reads_of_expression old x)
+ReadsTell = (old new : List Node) (each : Option ℕ) (x : Expression) → length new ≡ length old → AreMemories old → AreMemories new
+    → AllByRecursion (SameAtPlace old new) (reads_at (expression_setting old no_variables) each x)
+    → (value_at (expression_setting new no_variables) each x ≡ value_at (expression_setting old no_variables) each x)
+    × (reads_at (expression_setting new no_variables) each x ≡ reads_at (expression_setting old no_variables) each x)
 
 -- ---- where no variable is named
 

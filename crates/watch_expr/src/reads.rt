@@ -1,23 +1,21 @@
 // The value of an expression together with what it is read from.
-ghost use Rattle.std.specs.Prelude.{◌≡◌, ◌+◌, ◌++◌, IfOk, OnOk, option_and_then};
+ghost use Rattle.std.specs.Prelude.{◌≡◌, ◌++◌, IfOk, OnOk, option_and_then};
 ghost use Rattle.expression_text.specs.Expression.{expression_of};
-ghost use Rattle.watch_expr.specs.Reads.{no_variables, reads_of_expression, reads_at};
-ghost use Rattle.watch_expr.specs.Value.{expression_setting, value, value_at};
+ghost use Rattle.watch_expr.specs.Reads.{no_variables, reads_at};
+ghost use Rattle.watch_expr.specs.Value.{expression_setting, value_at};
 
 mod leaves;
 mod operands;
 
 use crate::reads::leaves::{push_global, push_load, push_motion, push_size};
 use crate::reads::operands::{add_if, evaluates_right, load_of, one_of, total_of, two_of};
-use crate::steps::Steps;
 use crate::value::loads::byte_count;
 use crate::value::operators::number;
 use crate::value::places::{clock, events, global, has_ended, last_thread, node_of, size};
 use crate::value::tally::Tally;
 use crate::view::View;
 use expression_text::Expr;
-use std::alloc::{AllocError, Global};
-use std::sync::ledger::Ledger;
+use std::alloc::AllocError;
 
 /// What an expression can read of a node: a watch page of 4,096 bytes of its memory, a global, what each of its events
 /// changes (its clock, the count of its events, the thread of the last and whether it has ended), or the size of its memory.
@@ -29,32 +27,8 @@ pub enum Place {
     Size { node: u32 },
 }
 
-/// A value, where `None` stands for undef, and what it is read from.
-#[derive(Drop)]
-pub struct Reading {
-    pub value: Option<i64>,
-    pub places: Vec<Place>,
-}
-
-/// Evaluates an expression over the nodes of the view, and ticks once, also where it wants memory. Each variable is undef.
-pub fn eval_reads<V: View, L: Ledger>(
-    alloc: Global,
-    e: &Expr,
-    v: &V,
-    steps: &mut Steps<L>,
-) -> Result<Reading, AllocError>
-    ensures value { IfOk result (λ r. r.value ≡ value (V.nodes v.now) no_variables (expression_of e.now)) }
-    ensures places { IfOk result (λ r. r.places.items ≡ reads_of_expression (V.nodes v.now) (expression_of e.now)) }
-    ensures steps { steps.new ≡ steps.old + 1 }
-{
-    steps.tick();
-    let mut places = Vec::new(alloc);
-    let value = read(e, v, None, &mut places)?;
-    Ok(Reading { value, places })
-}
-
 // The value where `each` is the node of the aggregate around the expression. What it reads is added to the places.
-fn read<V: View>(
+pub(crate) fn read<V: View>(
     e: &Expr,
     v: &V,
     each: Option<u32>,

@@ -1,15 +1,12 @@
 -- The turn of one node of a group, the head that it then has, and where its turns end.
 use Rattle.std.specs.Prelude.{◌≡◌, ◌++◌, ℕ, Bool, true, false, List, Some, slice_get, slice_set, Option, None}
-use Rattle.proc_replay.specs.declared.turn.Turn.{Turn}
 use Rattle.proc_replay.specs.Replaying.{Replaying, after_replay_turn, turn, Diverges, Ends, Makes, ReplayMove}
-use Rattle.proc_replay.specs.Meanings.{move_of}
 use Rattle.guest_process.specs.declared.verdict.Verdict.{Verdict}
 use Rattle.proc_replay.specs.Course.{TellsVerdict, outcome_of_replay}
 
--- a node had this turn, and the other nodes are as they were
-pub record NodeTurns (old : List Replaying) (node : ℕ) (new : List Replaying) (given : Turn) : Type 0 where
-  pub tells : (r : Replaying) → slice_get old node ≡ Some r → move_of given ≡ turn r
-  pub moves : (r : Replaying) → slice_get old node ≡ Some r → new ≡ slice_set old node (after_replay_turn r)
+-- a node had its turn, and the other nodes are as they were
+abbrev pub NodeTurns : List Replaying → ℕ → List Replaying → Type 0
+NodeTurns old node new = (r : Replaying) → slice_get old node ≡ Some r → new ≡ slice_set old node (after_replay_turn r)
 
 abbrev pub clock_in : ReplayMove → Option ℕ
 clock_in (Makes e) = Some e.clock

@@ -2,6 +2,7 @@
 use Rattle.std.specs.Prelude.{◌≡◌, ◌==◌, ◌&&◌, ◌||◌, ◌⊎◌, Bool, false, List, [], ◌∷◌, ◌++◌}
 use Rattle.std.specs.List.{flat_map, list_all, list_any}
 use Rattle.watch_expr.specs.declared.reads.Place.{Place}
+use Rattle.watch_expr.specs.Parts.{places_of_parts}
 use Rattle.watch_expr.specs.Reads.{is_low_place}
 use Rattle.page_watch.specs.declared.places.NodePlaces.{NodePlaces}
 use Rattle.page_watch.specs.Touch.{node_of}
@@ -21,7 +22,7 @@ AreUnion all some others = (p : Place → Bool) → list_any p all ≡ (list_any
 
 -- all places of these watches
 abbrev pub places_of : List Watched → List Place
-places_of watches = flat_map (λ w. w.places) watches
+places_of watches = flat_map (λ w. places_of_parts w.parts) watches
 
 -- every place of the others is among these
 abbrev pub CoversPlaces : List Place → List Place → Type 0

@@ -7,8 +7,5 @@ returns-in_err-copy c = λ start all here. c.make_room.ensures start all
 pub returns-in_err-push : goal.returns-in_err-push
 returns-in_err-push c = keeps_rest _ _ _ _ c.make_room.ensures c.in_err-push.ensures.items
 
-pub returns-in_ok-push : goal.returns-in_ok-push
-returns-in_ok-push c = keeps_more _ _ _ _ _ c.make_room.ensures c.in_ok-copy.ensures c.in_ok-push.ensures.items
-
-pub returns-else-is_multiple_of : goal.returns-else-is_multiple_of
-returns-else-is_multiple_of c = λ start all here. c.make_room.ensures start all
+pub returns : goal.returns
+returns c = keeps_more _ _ _ _ _ c.make_room.ensures c.in_ok-copy.ensures c.in_ok-push.ensures.items

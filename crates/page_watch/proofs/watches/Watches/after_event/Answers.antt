@@ -16,7 +16,7 @@ returns-then-not-is_touched-clause-stand g c =
     let none : meets (V.marks v) (V.at v) c.self.inside.places ≡ false = search rules in
     let all : list_any (λ (l : Place). nat_eq (V.marks v l) (V.at v)) (places_of c.self.inside.watches.items) ≡ false = c.self.invariant (λ (l : Place). nat_eq (V.marks v l) (V.at v)) none in
     let stood = subst (λ (ws : List Watched). All (λ (w : Watched). WatchStands w (V.states v (V.at v - 1))) ws) (sym c.self.view_is) c.requires.stand in
-    none_stand c.reads_tell.ensures (V.states v) (V.at v) (V.marks v) c.position-at.ensures.tells c.requires.position c.self.inside.watches.items all stood
+    none_stand c.parts_make_up.ensures c.reads_tell.ensures (V.states v) (V.at v) (V.marks v) c.position-at.ensures.tells c.requires.position c.self.inside.watches.items all stood
 
 pub returns-then-not-is_touched-clause-steps : goal.returns-then-not-is_touched-clause-steps
 returns-then-not-is_touched-clause-steps g c =
@@ -25,7 +25,7 @@ returns-then-not-is_touched-clause-steps g c =
     let none : meets (V.marks v) (V.at v) c.self.inside.places ≡ false = search rules in
     let all : list_any (λ (l : Place). nat_eq (V.marks v l) (V.at v)) (places_of c.args.self) ≡ false =
     ap (λ (ws : List Watched). list_any (λ (l : Place). nat_eq (V.marks v l) (V.at v)) (places_of ws)) (sym c.self.view_is) ∙ c.self.invariant (λ (l : Place). nat_eq (V.marks v l) (V.at v)) none in
-    omega (arith, none_counted c.reads_tell.ensures (V.states v) (V.at v) (V.marks v) c.position-at.ensures.tells c.requires.position c.args.self all c.requires.stand)
+    omega (arith, none_counted c.parts_make_up.ensures c.reads_tell.ensures (V.states v) (V.at v) (V.marks v) c.position-at.ensures.tells c.requires.position c.args.self all c.requires.stand)
 
 pub ask_all-requires-clause-stand : goal.ask_all-requires-clause-stand
 ask_all-requires-clause-stand g c =
@@ -47,7 +47,7 @@ returns-clause-stand g c =
     let v = c.args.v.now in
     let stood = subst (λ (ws : List Watched). All (λ (w : Watched). WatchStands w (V.states v (V.at v - 1))) ws) (sym c.self.view_is) c.requires.stand in
     subst (λ (ws : List Watched). All (λ (w : Watched). WatchStands w (V.states v (V.at v))) ws) (sym c.in_ok-watches.ensures.watches)
-    (stand_now c.reads_tell.ensures (V.states v) (V.at v) (V.marks v) c.position-at.ensures.tells c.requires.position c.self.inside.watches.items stood)
+    (stand_now c.parts_make_up.ensures c.reads_tell.ensures (V.states v) (V.at v) (V.marks v) c.position-at.ensures.tells c.requires.position c.self.inside.watches.items stood)
 
 pub returns-clause-steps : goal.returns-clause-steps
 returns-clause-steps g c =
@@ -56,5 +56,5 @@ returns-clause-steps g c =
     let stood = subst (λ (ws : List Watched). All (λ (w : Watched). WatchStands w (V.states v (V.at v - 1))) ws) (sym c.self.view_is) c.requires.stand in
     c.in_ok-watches.ensures.steps
     ∙ ap (λ (n : ℕ). c.args.steps.now + n)
-    (counts c.reads_tell.ensures (V.states v) (V.at v) (V.marks v) c.position-at.ensures.tells c.requires.position c.self.inside.watches.items stood
+    (counts c.parts_make_up.ensures c.reads_tell.ensures (V.states v) (V.at v) (V.marks v) c.position-at.ensures.tells c.requires.position c.self.inside.watches.items stood
     ∙ ap (λ (ws : List Watched). count_by (λ (w : Watched). meets (V.marks v) (V.at v) (reads_of_expression (V.states v (V.at v - 1)) w.expression)) ws) c.self.view_is)

@@ -9,7 +9,7 @@ use Rattle.group_state.proofs.AheadInOrder.{ends}
 use Rattle.group_state.proofs.GroupSteps.{forwarded, given, is_event, stands_on}
 use Rattle.group_state.proofs.NodeMoves.{length_motions, moved_on}
 use Rattle.group_order.specs.Order.{node_event}
-use Rattle.group_state.proofs.group.Course.forward.Goals as goal
+use Rattle.group_state.proofs.group.Course.step.Goals as goal
 
 pub returns-in_default-clause-sound : goal.returns-in_default-clause-sound
 returns-in_default-clause-sound c = c.requires
@@ -28,32 +28,32 @@ pub index-replayer-requires : goal.index-replayer-requires
 index-replayer-requires c =
     let g = c.args.self.now in
     let i = c.requires in
-    let f = forwarded c.merges.ensures c.rises.ensures c.states_fit.ensures.ranges c.replays.ensures.turn g.start.items _ _ _ g.here.at _ _
-    i.fits i.here.replayers i.heads c.in-Some.ensures.next c.in_ok-turn.ensures in
+    let f = forwarded c.merges.ensures c.rises.ensures c.states_fit.ensures.ranges c.replays.ensures.turn g.start.items _ _ _ g.here.at _ _ c.index.result.now
+    i.fits i.here.replayers i.heads c.in-Some.ensures.next c.index.ensures c.peek-turn.ensures c.in_ok-take_turn.ensures in
     omega (arith, f.fits)
 
 pub unreachable-requires : goal.unreachable-requires
 unreachable-requires c =
     let g = c.args.self.now in
     let i = c.requires in
-    let f = forwarded c.merges.ensures c.rises.ensures c.states_fit.ensures.ranges c.replays.ensures.turn g.start.items _ _ _ g.here.at _ _
-    i.fits i.here.replayers i.heads c.in-Some.ensures.next c.in_ok-turn.ensures in
-    is_event c.in_ok-turn.turn f.entry f.told c.in_default-turn.not-Event
+    let f = forwarded c.merges.ensures c.rises.ensures c.states_fit.ensures.ranges c.replays.ensures.turn g.start.items _ _ _ g.here.at _ _ c.index.result.now
+    i.fits i.here.replayers i.heads c.in-Some.ensures.next c.index.ensures c.peek-turn.ensures c.in_ok-take_turn.ensures in
+    is_event c.peek-turn.result f.entry f.told c.in_default-turn.not-Event
 
 pub overflow_add-self : goal.overflow_add-self
 overflow_add-self c =
     let g = c.args.self.now in
     let i = c.requires in
-    let f = forwarded c.merges.ensures c.rises.ensures c.states_fit.ensures.ranges c.replays.ensures.turn g.start.items _ _ _ g.here.at _ _
-    i.fits i.here.replayers i.heads c.in-Some.ensures.next c.in_ok-turn.ensures in
+    let f = forwarded c.merges.ensures c.rises.ensures c.states_fit.ensures.ranges c.replays.ensures.turn g.start.items _ _ _ g.here.at _ _ c.index.result.now
+    i.fits i.here.replayers i.heads c.in-Some.ensures.next c.index.ensures c.peek-turn.ensures c.in_ok-take_turn.ensures in
     omega (arith, f.within, i.few)
 
 pub add-requires : goal.add-requires
 add-requires c =
     let g = c.args.self.now in
     let i = c.requires in
-    let f = forwarded c.merges.ensures c.rises.ensures c.states_fit.ensures.ranges c.replays.ensures.turn g.start.items _ _ _ g.here.at _ _
-    i.fits i.here.replayers i.heads c.in-Some.ensures.next c.in_ok-turn.ensures in
+    let f = forwarded c.merges.ensures c.rises.ensures c.states_fit.ensures.ranges c.replays.ensures.turn g.start.items _ _ _ g.here.at _ _ c.index.result.now
+    i.fits i.here.replayers i.heads c.in-Some.ensures.next c.index.ensures c.peek-turn.ensures c.in_ok-take_turn.ensures in
     omega (
       arith,
       f.fits,
@@ -67,8 +67,8 @@ pub returns-clause-sound : goal.returns-clause-sound
 returns-clause-sound c =
     let g = c.args.self.now in
     let i = c.requires in
-    let f = forwarded c.merges.ensures c.rises.ensures c.states_fit.ensures.ranges c.replays.ensures.turn g.start.items _ _ _ g.here.at _ _
-    i.fits i.here.replayers i.heads c.in-Some.ensures.next c.in_ok-turn.ensures in
+    let f = forwarded c.merges.ensures c.rises.ensures c.states_fit.ensures.ranges c.replays.ensures.turn g.start.items _ _ _ g.here.at _ _ c.index.result.now
+    i.fits i.here.replayers i.heads c.in-Some.ensures.next c.index.ensures c.peek-turn.ensures c.in_ok-take_turn.ensures in
     let sound = f.sound i.here.sound c.index-replayer.result.now c.index-replayer.ensures (subst IsMemory (c.memory.ensures ∙ ap (λ (S : State). S.store.memory) c.process.ensures) c.size.ensures.sound) in
     let moved = moved_on g.start.items g.motions c.add.new.self g.here.at (node_event c.in-Some.node f.entry) i.moved i.been f.next f.within
     (omega (arith, f.fits, ap length f.stand, length_replayers 0 g.start.items (take (g.here.at + 1) (events_of_replays g.start.items)))) c.in_ok-add.ensures in
@@ -87,6 +87,6 @@ pub returns-clause-moves : goal.returns-clause-moves
 returns-clause-moves c =
     let g = c.args.self.now in
     let i = c.requires in
-    let f = forwarded c.merges.ensures c.rises.ensures c.states_fit.ensures.ranges c.replays.ensures.turn g.start.items _ _ _ g.here.at _ _
-    i.fits i.here.replayers i.heads c.in-Some.ensures.next c.in_ok-turn.ensures in
+    let f = forwarded c.merges.ensures c.rises.ensures c.states_fit.ensures.ranges c.replays.ensures.turn g.start.items _ _ _ g.here.at _ _ c.index.result.now
+    i.fits i.here.replayers i.heads c.in-Some.ensures.next c.index.ensures c.peek-turn.ensures c.in_ok-take_turn.ensures in
     (record { gives = given _ _ _ _ _ _ _ c.in-Event.entry f c.in-Event.is; place = refl })
