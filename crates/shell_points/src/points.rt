@@ -10,7 +10,7 @@ ghost use Rattle.shell_points.specs.Watching.{watched_expressions};
 
 use crate::back::walk_back;
 use crate::point::{Point, Trigger};
-use crate::walk::{WalkEnd, walk};
+use crate::walk::walk;
 use fri_bytes::Bytes;
 use fri_text::Text;
 use group_state::Group;
@@ -123,19 +123,19 @@ impl Points {
     }
 
     /// Goes to the first position after this one at which a point asks to stop or enough was said, or to the last; and over
-    /// so many positions at most, where that is given.
+    /// so many positions at most, where that is given. Gives what points said on the way; their programs may have set variables.
     /// Each watchpoint is evaluated once where the walk begins, which the counter does not count, and then where an event
     /// touched something that it reads.
     pub fn walk<'m, 'a, L: Ledger>(
         &self,
         alloc: Global,
         group: Group<'m, 'a>,
-        variables: Vars,
+        variables: &mut Vars,
         most: Option<u64>,
         steps: &mut Steps<L>,
-    ) -> Result<WalkEnd<'m, 'a>, AllocError>
-        ensures walks { IfOk result (λ done. PointsWalk group.entry self.now variables most done) }
-        ensures ticks { IfOk result (λ done. steps.new ≡ steps.old + watch_ticks group.entry.start (watched_expressions self.now) group.entry.at (done.group.at - group.entry.at)) }
+    ) -> Result<(Group<'m, 'a>, Text), AllocError>
+        ensures walks { IfOk result (λ done. PointsWalk group.entry self.now variables.old most done.0 variables.new done.1) }
+        ensures ticks { IfOk result (λ done. steps.new ≡ steps.old + watch_ticks group.entry.start (watched_expressions self.now) group.entry.at (done.0.at - group.entry.at)) }
     {
         walk(alloc, group, &self.held, variables, most, steps)
     }
