@@ -1,5 +1,5 @@
 // What a command answers.
-ghost use Rattle.std.specs.Prelude.{◌≡◌, ℕ, suc, ◌+◌, ◌<◌, ◌≤◌, ◌++◌, IfOk, OnOk, List, [], drop, length, min, take, false, true};
+ghost use Rattle.std.specs.Prelude.{◌≡◌, ℕ, suc, ◌+◌, ◌<◌, ◌≤◌, ◌++◌, IfOk, OnOk, List, [], drop, length, min, take};
 ghost use Rattle.friday_shell.specs.Answer.{command_answer};
 ghost use Rattle.friday_shell.specs.declared.state.PointsAndVariables.{PointsAndVariables as Kept};
 ghost use Rattle.friday_shell.specs.inside.Meanings.{PerformsCommand, WritesNext, state_with};
