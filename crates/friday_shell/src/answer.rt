@@ -1,153 +1,101 @@
 // What a command answers.
-ghost use Rattle.std.specs.Prelude.{◌≡◌, ℕ, suc, ◌+◌, ◌<◌, ◌≤◌, ◌++◌, IfOk, OnOk, List, [], drop, length, min, take, false, true};
+ghost use Rattle.std.specs.Prelude.{◌≡◌, ℕ, suc, ◌+◌, ◌<◌, ◌≤◌, ◌++◌, IfOk, OnOk, List, [], drop, length, min, take};
 ghost use Rattle.friday_shell.specs.Answer.{command_answer};
-ghost use Rattle.friday_shell.specs.Points.{SessionState};
 ghost use Rattle.friday_shell.specs.declared.state.PointsAndVariables.{PointsAndVariables as Kept};
-ghost use Rattle.friday_shell.specs.inside.Meanings.{PerformsCommand, WritesNext, is_walk, leaves_group, session_state, state_with};
+ghost use Rattle.friday_shell.specs.inside.Meanings.{PerformsCommand, WritesNext, state_with};
 ghost use Rattle.friday_shell.specs.Ticks.{command_ticks};
 ghost use Rattle.group_state.specs.Place.{events_of_replays};
 ghost use Rattle.group_text.specs.Texts.{event_lines, last_lines, position_line};
 ghost use Rattle.shell_lines.specs.Lines.{Back, Continue, Events, Goto, Rcontinue, Step};
-ghost use Rattle.shell_lines.specs.Spelled.{command as command_meant};
+ghost use Rattle.shell_lines.specs.Spelled.{command as command_meant, move_command, stay_command};
 ghost use Rattle.shell_points.specs.Firing.{place_at};
 
 use crate::points::{add, add_breakpoint, attach, delete};
 use crate::shown::{print, show_frames, show_memory, show_threads};
-use crate::state::{PointsAndVariables, State, told};
+use crate::state::PointsAndVariables;
 use crate::variables::{list_variables, set};
 use fri_text::Text;
 use group_state::Group;
 use group_text::{push_event_line, push_position};
-use shell_lines::{DebuggerCommand, LineRefusal, refused};
-use shell_points::{Trigger, WalkEnd};
+use shell_lines::{DebuggerCommand, LineRefusal, MoveCommand, StayCommand, refused};
+use shell_points::Trigger;
 use std::alloc::{AllocError, Global};
 use std::sync::ledger::Ledger;
 use watch_expr::Steps;
 
-/// What a command answers, whose line without outer blanks is this, and where the session then is.
+/// What a command answers, whose line without outer blanks is this, and where the group then is.
 pub(crate) fn perform<'m, 'a, L: Ledger>(
     alloc: Global,
-    state: State<'m, 'a>,
+    group: Group<'m, 'a>,
+    kept: &mut PointsAndVariables,
     line: &[u8],
     command: DebuggerCommand,
     steps: &mut Steps<L>,
-) -> Result<(State<'m, 'a>, Text), AllocError>
+) -> Result<(Group<'m, 'a>, Text), AllocError>
     ensures answer { IfOk result (λ done.
-        PerformsCommand (command_answer (session_state state.entry) line.now (command_meant command)) (session_state done.0) done.1) }
-    ensures start { IfOk result (λ done. done.0.group.start ≡ state.entry.group.start) }
-    ensures ticks { IfOk result (λ done. steps.new ≡ steps.old + command_ticks (session_state state.entry) (command_meant command) done.0.group.at) }
-{
-    run(alloc, state, line, command, steps)
-}
-
-// The same, by whether the command moves the group.
-fn run<'m, 'a, L: Ledger>(
-    alloc: Global,
-    state: State<'m, 'a>,
-    line: &[u8],
-    command: DebuggerCommand,
-    steps: &mut Steps<L>,
-) -> Result<(State<'m, 'a>, Text), AllocError>
-    ensures answer { IfOk result (λ done.
-        PerformsCommand (command_answer (session_state state.entry) line.now (command_meant command)) (session_state done.0) done.1) }
-    ensures ticks { IfOk result (λ done. steps.new ≡ steps.old + command_ticks (session_state state.entry) (command_meant command) done.0.group.at) }
-{
-    let mut state = state;
-    if leaves_group(&command) {
-        return told(stay(alloc, &mut state, line, command), state);
-    }
-    go(alloc, state, &command, steps)
-}
-
-// Whether a command does not move the group. Then it evaluates no watchpoint.
-fn leaves_group(command: &DebuggerCommand) -> bool
-    ensures exact { result ≡ leaves_group (command_meant command.now) }
-    ensures ticks { result ≡ true → (state : SessionState) (to : ℕ) → command_ticks state (command_meant command.now) to ≡ 0 }
-{
-    !matches!(
-        command,
-        DebuggerCommand::Goto(_)
-            | DebuggerCommand::Step(_)
-            | DebuggerCommand::Back(_)
-            | DebuggerCommand::Events(_)
-            | DebuggerCommand::Continue(_)
-            | DebuggerCommand::Rcontinue
-    )
-}
-
-// What a command answers that does not move the group.
-fn stay(
-    alloc: Global,
-    state: &mut State<'_, '_>,
-    line: &[u8],
-    command: DebuggerCommand,
-) -> Result<Text, AllocError>
-    requires { leaves_group (command_meant command) ≡ true }
-    ensures { IfOk result (λ text.
-        PerformsCommand (command_answer (session_state state.old) line.now (command_meant command)) (session_state state.new) text) }
+        PerformsCommand (command_answer (state_with group.entry kept.old) line.now (command_meant command)) (state_with done.0 kept.new) done.1) }
+    ensures start { IfOk result (λ done. done.0.start ≡ group.entry.start) }
+    ensures ticks { IfOk result (λ done. steps.new ≡ steps.old + command_ticks (state_with group.entry kept.old) (command_meant command) done.0.at) }
 {
     match command {
-        DebuggerCommand::Print(expression) => print(alloc, state, &expression),
-        DebuggerCommand::Mem(node, addr, len) => show_memory(alloc, &state.group, node, addr, len),
-        DebuggerCommand::Threads(node) => show_threads(alloc, &state.group, node),
-        DebuggerCommand::Frames(node, thread) => show_frames(alloc, state, node, thread),
-        DebuggerCommand::Watch(expression, condition) => {
-            add(alloc, state, line, Trigger::Watch(expression), condition)
+        DebuggerCommand::Moves(command) => go(alloc, group, kept, command, steps),
+        DebuggerCommand::Stays(command) => {
+            let text = stay(alloc, &group, kept, line, command)?;
+            Ok((group, text))
         }
-        DebuggerCommand::Break(scope, kind, condition) => {
-            add_breakpoint(alloc, state, line, scope, kind, condition)
+    }
+}
+
+// What a command answers that leaves the group where it is.
+fn stay(
+    alloc: Global,
+    group: &Group<'_, '_>,
+    kept: &mut PointsAndVariables,
+    line: &[u8],
+    command: StayCommand,
+) -> Result<Text, AllocError>
+    ensures { IfOk result (λ text.
+        PerformsCommand (command_answer (state_with group.now kept.old) line.now (stay_command command)) (state_with group.now kept.new) text) }
+{
+    match command {
+        StayCommand::Print(expression) => print(alloc, group, &kept.variables, &expression),
+        StayCommand::Mem(node, addr, len) => show_memory(alloc, group, node, addr, len),
+        StayCommand::Threads(node) => show_threads(alloc, group, node),
+        StayCommand::Frames(node, thread) => show_frames(alloc, group, node, thread),
+        StayCommand::Watch(expression, condition) => {
+            add(alloc, kept, line, Trigger::Watch(expression), condition)
         }
-        DebuggerCommand::Delete(number) => delete(alloc, state, number),
-        DebuggerCommand::Do(number, program) => attach(alloc, state, number, program),
-        DebuggerCommand::List => state.kept.points.list(alloc),
-        DebuggerCommand::Set(name, expression) => set(alloc, state, &name, &expression),
-        DebuggerCommand::Vars => list_variables(alloc, &state.kept.variables),
-        DebuggerCommand::Quit => Ok(Text::new(alloc)),
-        _ => unreachable!(),
+        StayCommand::Break(scope, kind, condition) => {
+            add_breakpoint(alloc, kept, line, scope, kind, condition)
+        }
+        StayCommand::Delete(number) => delete(alloc, kept, number),
+        StayCommand::Do(number, program) => attach(alloc, kept, number, program),
+        StayCommand::List => kept.points.list(alloc),
+        StayCommand::Set(name, expression) => set(alloc, group, kept, &name, &expression),
+        StayCommand::Vars => list_variables(alloc, &kept.variables),
+        StayCommand::Quit => Ok(Text::new(alloc)),
     }
 }
 
 // What a command answers that moves the group.
 fn go<'m, 'a, L: Ledger>(
     alloc: Global,
-    state: State<'m, 'a>,
-    command: &DebuggerCommand,
-    steps: &mut Steps<L>,
-) -> Result<(State<'m, 'a>, Text), AllocError>
-    requires { leaves_group (command_meant command.now) ≡ false }
-    ensures answer { (line : List ℕ) → IfOk result (λ done.
-        PerformsCommand (command_answer (session_state state.entry) line (command_meant command.now)) (session_state done.0) done.1) }
-    ensures ticks { IfOk result (λ done. steps.new ≡ steps.old + command_ticks (session_state state.entry) (command_meant command.now) done.0.group.at) }
-{
-    if let DebuggerCommand::Continue(most) = command {
-        return go_on(alloc, state, *most, steps);
-    }
-    let State { group, kept } = state;
-    let (group, text) = go_there(alloc, group, &kept, command, steps)?;
-    Ok((State { group, kept }, text))
-}
-
-// The same of all but `continue`, which keep the points and the variables.
-fn go_there<'m, 'a, L: Ledger>(
-    alloc: Global,
     group: Group<'m, 'a>,
-    kept: &PointsAndVariables,
-    command: &DebuggerCommand,
+    kept: &mut PointsAndVariables,
+    command: MoveCommand,
     steps: &mut Steps<L>,
 ) -> Result<(Group<'m, 'a>, Text), AllocError>
-    requires moves { leaves_group (command_meant command.now) ≡ false }
-    requires other { is_walk (command_meant command.now) ≡ false }
     ensures answer { (line : List ℕ) → IfOk result (λ went.
-        PerformsCommand (command_answer (state_with group.entry kept.now) line (command_meant command.now)) (state_with went.0 kept.now) went.1) }
-    ensures ticks { IfOk result (λ went. steps.new ≡ steps.old + command_ticks (state_with group.entry kept.now) (command_meant command.now) went.0.at) }
+        PerformsCommand (command_answer (state_with group.entry kept.old) line (move_command command)) (state_with went.0 kept.new) went.1) }
+    ensures ticks { IfOk result (λ went. steps.new ≡ steps.old + command_ticks (state_with group.entry kept.old) (move_command command) went.0.at) }
 {
     match command {
-        DebuggerCommand::Goto(position) => go_to(alloc, group, *position),
-        DebuggerCommand::Step(count) => step(alloc, group, *count),
-        DebuggerCommand::Back(count) => back(alloc, group, *count),
-        DebuggerCommand::Events(count) => last_events(alloc, group, *count),
-        DebuggerCommand::Rcontinue => return_back(alloc, group, kept, steps),
-        _ => unreachable!(),
+        MoveCommand::Goto(position) => go_to(alloc, group, position),
+        MoveCommand::Step(count) => step(alloc, group, count),
+        MoveCommand::Back(count) => back(alloc, group, count),
+        MoveCommand::Events(count) => last_events(alloc, group, count),
+        MoveCommand::Continue(most) => go_on(alloc, group, kept, most, steps),
+        MoveCommand::Rcontinue => return_back(alloc, group, kept, steps),
     }
 }
 
@@ -222,31 +170,19 @@ fn back<'m, 'a>(
 // Goes on to where a point fires, and over so many positions at most.
 fn go_on<'m, 'a, L: Ledger>(
     alloc: Global,
-    state: State<'m, 'a>,
+    group: Group<'m, 'a>,
+    kept: &mut PointsAndVariables,
     most: Option<u64>,
     steps: &mut Steps<L>,
-) -> Result<(State<'m, 'a>, Text), AllocError>
-    ensures answer { IfOk result (λ done. PerformsCommand (command_answer (session_state state.entry) [] (Continue most)) (session_state done.0) done.1) }
-    ensures ticks { IfOk result (λ done. steps.new ≡ steps.old + command_ticks (session_state state.entry) (Continue most) done.0.group.at) }
+) -> Result<(Group<'m, 'a>, Text), AllocError>
+    ensures answer { IfOk result (λ went. PerformsCommand (command_answer (state_with group.entry kept.old) [] (Continue most)) (state_with went.0 kept.new) went.1) }
+    ensures ticks { IfOk result (λ went. steps.new ≡ steps.old + command_ticks (state_with group.entry kept.old) (Continue most) went.0.at) }
 {
-    let State { group, kept } = state;
-    let PointsAndVariables {
-        points,
-        made,
-        variables,
-    } = kept;
-    let WalkEnd {
-        group,
-        variables,
-        mut text,
-    } = points.walk(alloc, group, variables, most, steps)?;
+    let (group, mut text) = kept
+        .points
+        .walk(alloc, group, &mut kept.variables, most, steps)?;
     push_position(&mut text, &group)?;
-    let kept = PointsAndVariables {
-        points,
-        made,
-        variables,
-    };
-    Ok((State { group, kept }, text))
+    Ok((group, text))
 }
 
 // Goes back to where a point fired last.

@@ -2,7 +2,7 @@
 //!
 //! What a line says is read by shell_lines, what points do by shell_points, and how events are shown is said in
 //! group_text; here is what a command does. Contracts see a session as the place of its group, its points, how many were
-//! ever made, and its variables (`SessionState` of `specs/Points`). `Session::line` promises, for any bytes, the answer,
+//! ever made, and its variables (`SessionState` of `specs/Points`). `Session::answer_line` promises, for any bytes, the answer,
 //! the session after it and whether it ends that `answer` of `specs/Answer` gives, and `refused_stays` that a line which
 //! is refused changes nothing. The law `same_group_same_session` says what a session sees of its replays: names, events in
 //! order and states (`specs/SameGroup`).

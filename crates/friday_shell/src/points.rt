@@ -2,11 +2,12 @@
 ghost use Rattle.std.specs.Prelude.{◌≡◌, ◌++◌, IfOk, codes, decimal};
 ghost use Rattle.point_programs.specs.Tree.{program_body};
 ghost use Rattle.friday_shell.specs.Answer.{adds_point, attaches_program, breaks_at, deletes_point};
-ghost use Rattle.friday_shell.specs.inside.Meanings.{PerformsCommand, session_state};
+ghost use Rattle.friday_shell.specs.inside.Meanings.{PerformsCommand, state_with};
+ghost use Rattle.group_state.specs.Place.{GroupPlace};
 ghost use Rattle.shell_lines.specs.Spelled.{scope as scope_meant};
 ghost use Rattle.shell_points.specs.Meanings.{held_condition as condition_meant, trigger as trigger_meant};
 
-use crate::state::State;
+use crate::state::PointsAndVariables;
 use crate::variables::MOST_VARIABLES;
 use fri_text::Text;
 use lib_calls::Kind;
@@ -22,14 +23,13 @@ const MOST_POINTS: usize = 64;
 /// A point more, which this line makes, unless there are as many as there may be.
 pub(crate) fn add(
     alloc: Global,
-    state: &mut State<'_, '_>,
+    kept: &mut PointsAndVariables,
     line: &[u8],
     trigger: Trigger,
     condition: Option<Expr>,
 ) -> Result<Text, AllocError>
-    ensures { IfOk result (λ text. PerformsCommand (adds_point (session_state state.old) line.now (trigger_meant trigger) (condition_meant condition)) (session_state state.new) text) }
+    ensures { (place : GroupPlace) → IfOk result (λ text. PerformsCommand (adds_point (state_with place kept.old) line.now (trigger_meant trigger) (condition_meant condition)) (state_with place kept.new) text) }
 {
-    let kept = &mut state.kept;
     if kept.points.count() >= MOST_POINTS {
         return refused(alloc, LineRefusal::TooMany);
     }
@@ -41,20 +41,20 @@ pub(crate) fn add(
 /// A breakpoint more. Of one for a node that no process is, nothing is said.
 pub(crate) fn add_breakpoint(
     alloc: Global,
-    state: &mut State<'_, '_>,
+    kept: &mut PointsAndVariables,
     line: &[u8],
     scope: WhichNodes,
     kind: Option<Kind>,
     condition: Option<Expr>,
 ) -> Result<Text, AllocError>
-    ensures { IfOk result (λ text. PerformsCommand (breaks_at (session_state state.old) line.now kind (condition_meant condition) (scope_meant scope)) (session_state state.new) text) }
+    ensures { (place : GroupPlace) → IfOk result (λ text. PerformsCommand (breaks_at (state_with place kept.old) line.now kind (condition_meant condition) (scope_meant scope)) (state_with place kept.new) text) }
 {
     match scope {
-        WhichNodes::Everywhere => { add(alloc, state, line, Trigger::Break(None, kind), condition) }
+        WhichNodes::Everywhere => { add(alloc, kept, line, Trigger::Break(None, kind), condition) }
         WhichNodes::At(Some(node)) => {
             add(
                 alloc,
-                state,
+                kept,
                 line,
                 Trigger::Break(Some(node), kind),
                 condition,
@@ -67,16 +67,15 @@ pub(crate) fn add_breakpoint(
 /// The point with this number is gone, where it is held.
 pub(crate) fn delete(
     alloc: Global,
-    state: &mut State<'_, '_>,
+    kept: &mut PointsAndVariables,
     number: u64,
 ) -> Result<Text, AllocError>
-    ensures { IfOk result (λ text. PerformsCommand (deletes_point (session_state state.old) number) (session_state state.new) text) }
+    ensures { (place : GroupPlace) → IfOk result (λ text. PerformsCommand (deletes_point (state_with place kept.old) number) (state_with place kept.new) text) }
 {
-    let points = &mut state.kept.points;
-    if !points.is_held(number) {
+    if !kept.points.is_held(number) {
         return refused(alloc, LineRefusal::NoPoint);
     }
-    points.remove(number);
+    kept.points.remove(number);
     numbered(alloc, "deleted ", number)
 }
 
@@ -84,13 +83,12 @@ pub(crate) fn delete(
 /// that the program sets, unless there were too many then.
 pub(crate) fn attach(
     alloc: Global,
-    state: &mut State<'_, '_>,
+    kept: &mut PointsAndVariables,
     number: u64,
     program: Program,
 ) -> Result<Text, AllocError>
-    ensures { IfOk result (λ text. PerformsCommand (attaches_program (session_state state.old) number (program_body program)) (session_state state.new) text) }
+    ensures { (place : GroupPlace) → IfOk result (λ text. PerformsCommand (attaches_program (state_with place kept.old) number (program_body program)) (state_with place kept.new) text) }
 {
-    let kept = &mut state.kept;
     let Some(index) = kept.points.index_of(number) else {
         return refused(alloc, LineRefusal::NoPoint);
     };

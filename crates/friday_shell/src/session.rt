@@ -5,7 +5,7 @@ ghost use Rattle.conversation.specs.Talker.{is_quit};
 ghost use Rattle.group_state.specs.Place.{node_names};
 ghost use Rattle.friday_shell.specs.Answer.{answer, answer_of_meaning, command_answer};
 ghost use Rattle.friday_shell.specs.Points.{SessionState};
-ghost use Rattle.friday_shell.specs.inside.Meanings.{session_state};
+ghost use Rattle.friday_shell.specs.inside.Meanings.{state_with};
 ghost use Rattle.friday_shell.specs.Meanings.{IsLineAnswer};
 ghost use Rattle.friday_shell.specs.Session.{opening_session};
 ghost use Rattle.friday_shell.specs.Ticks.{line_ticks, meaning_ticks};
@@ -14,13 +14,13 @@ ghost use Rattle.shell_lines.specs.Spelled.{command, meaning};
 ghost use Rattle.shell_lines.specs.declared.line.Line.TheVariants.{Silent};
 
 use crate::answer::perform;
-use crate::state::{PointsAndVariables, State, told};
+use crate::state::PointsAndVariables;
 use conversation::Go;
 use fri_bytes::Bytes;
 use fri_text::Text;
 use group_state::Group;
 use point_programs::Vars;
-use shell_lines::{DebuggerCommand, Line, read_line, refused, trimmed};
+use shell_lines::{DebuggerCommand, Line, StayCommand, read_line, refused, trimmed};
 use shell_points::Points;
 use std::alloc::{AllocError, Global};
 use std::marker::Model;
@@ -31,7 +31,8 @@ use watch_expr::Steps;
 /// made, and the variables.
 #[derive(Drop)]
 pub struct Session<'m, 'a> {
-    state: State<'m, 'a>,
+    group: Group<'m, 'a>,
+    kept: PointsAndVariables,
     names: Vec<Bytes>,
 }
 
@@ -48,11 +49,11 @@ impl<'m, 'a> Model for Session<'m, 'a> {
     ghost coded = { Prim.hlevel (codes, trees_code, crew_code, expression_code, statements_code) };
 
     ghost use Rattle.group_state.specs.Place.{node_names};
-    ghost use Rattle.friday_shell.specs.inside.Meanings.{session_state};
+    ghost use Rattle.friday_shell.specs.inside.Meanings.{state_with};
 
-    ghost view = { λ s. session_state s.state };
+    ghost view = { λ s. state_with s.group s.kept };
 
-    ghost invariant = { λ s. (s.names.items ≡ node_names s.state.group.start) × (length s.names.items < 2 ^ 32) };
+    ghost invariant = { λ s. (s.names.items ≡ node_names s.group.start) × (length s.names.items < 2 ^ 32) };
 }
 
 impl<'m, 'a> Session<'m, 'a> {
@@ -65,15 +66,13 @@ impl<'m, 'a> Session<'m, 'a> {
         let names = node_names(alloc, &group)?;
         let mut text = Text::new(alloc);
         text.push_str("at 0\n")?;
-        let state = State {
-            group,
-            kept: PointsAndVariables {
-                points: Points::new(alloc),
-                made: 0,
-                variables: Vars::new(alloc),
-            },
+        let kept = PointsAndVariables {
+            points: Points::new(alloc),
+            made: 0,
+            variables: Vars::new(alloc),
         };
-        Ok((Session { state, names }, text))
+        let session = Session { group, kept, names };
+        Ok((session, text))
     }
 
     /// The answer of a line, without its line feed, and whether the session goes on. A line that is refused leaves the
@@ -89,43 +88,46 @@ impl<'m, 'a> Session<'m, 'a> {
         ensures silent { length line.now ≤ 4096 → is_silent line.now ≡ true → IsOk result }
         ensures ticks { IfOk result (λ said. steps.new ≡ steps.old + line_ticks self.entry line.now said.0.place.at) }
     {
-        let Session { state, names } = self;
+        let Session {
+            group,
+            mut kept,
+            names,
+        } = self;
         let meant = read_line(alloc, line, &names)?;
-        let (state, text, goes) = answer_meant(alloc, state, line, meant, steps)?;
-        Ok((Session { state, names }, text, goes))
+        let (group, text, goes) = answer_meant(alloc, group, &mut kept, line, meant, steps)?;
+        let session = Session { group, kept, names };
+        Ok((session, text, goes))
     }
 
     /// The group, which is at the session's position.
     pub fn group(&self) -> &Group<'m, 'a>
         ensures { result.now ≡ self.now.place }
     {
-        &self.state.group
+        &self.group
     }
 }
 
-// What a line answers that was read so, where the session then is, and whether it goes on.
+// What a line answers that was read so, where the group then is, and whether the session goes on.
 fn answer_meant<'m, 'a, L: Ledger>(
     alloc: Global,
-    state: State<'m, 'a>,
+    group: Group<'m, 'a>,
+    kept: &mut PointsAndVariables,
     line: &[u8],
     meant: Line,
     steps: &mut Steps<L>,
-) -> Result<(State<'m, 'a>, Text, Go), AllocError>
-    ensures answer { IfOk result (λ said. IsLineAnswer (answer_of_meaning (session_state state.entry) (trimmed line.now) (meaning meant)) (session_state said.0) said.1 said.2) }
-    ensures start { IfOk result (λ said. said.0.group.start ≡ state.entry.group.start) }
+) -> Result<(Group<'m, 'a>, Text, Go), AllocError>
+    ensures answer { IfOk result (λ said. IsLineAnswer (answer_of_meaning (state_with group.entry kept.old) (trimmed line.now) (meaning meant)) (state_with said.0 kept.new) said.1 said.2) }
+    ensures start { IfOk result (λ said. said.0.start ≡ group.entry.start) }
     ensures silent { meant ≡ Silent → IsOk result }
-    ensures ticks { IfOk result (λ said. steps.new ≡ steps.old + meaning_ticks (session_state state.entry) (meaning meant) said.0.group.at) }
+    ensures ticks { IfOk result (λ said. steps.new ≡ steps.old + meaning_ticks (state_with group.entry kept.old) (meaning meant) said.0.at) }
 {
     match meant {
-        Line::Silent => Ok((state, Text::new(alloc), Go::On)),
-        Line::Refused(why) => {
-            let (state, text) = told(refused(alloc, why), state)?;
-            Ok((state, text, Go::On))
-        }
+        Line::Silent => Ok((group, Text::new(alloc), Go::On)),
+        Line::Refused(why) => Ok((group, refused(alloc, why)?, Go::On)),
         Line::Does(command) => {
             let goes = go_after(&command);
-            let (state, text) = perform(alloc, state, trimmed(line), command, steps)?;
-            Ok((state, text, goes))
+            let (group, text) = perform(alloc, group, kept, trimmed(line), command, steps)?;
+            Ok((group, text, goes))
         }
     }
 }
@@ -135,7 +137,7 @@ fn go_after(spelled: &DebuggerCommand) -> Go
     ensures { (state : SessionState) (line : List ℕ) → is_quit result ≡ (command_answer state line (command spelled.now)).quits }
 {
     match spelled {
-        DebuggerCommand::Quit => Go::Quit,
+        DebuggerCommand::Stays(StayCommand::Quit) => Go::Quit,
         _ => Go::On,
     }
 }

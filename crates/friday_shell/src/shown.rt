@@ -1,18 +1,18 @@
 // What a command shows of the group, which stays as it is.
 ghost use Rattle.std.specs.Prelude.{◌≡◌, IfOk};
 ghost use Rattle.friday_shell.specs.Answer.{memory_text, shows_frames, threads_of, value_text};
-ghost use Rattle.friday_shell.specs.inside.Meanings.{session_state};
+ghost use Rattle.friday_shell.specs.declared.state.PointsAndVariables.{PointsAndVariables as Kept};
+ghost use Rattle.friday_shell.specs.inside.Meanings.{PerformsCommand, state_with};
 ghost use Rattle.point_programs.specs.Running.{value_in};
 ghost use Rattle.group_state.specs.Nodes.{nodes_at};
 ghost use Rattle.expression_text.specs.Expression.{expression_of};
 
-use crate::state::State;
 use crate::variables::value_here;
 use fri_text::Text;
 use group_state::Group;
 use group_text::{push_frames, push_process};
 use lib_calls::memory_part;
-use point_programs::push_value;
+use point_programs::{Vars, push_value};
 use shell_lines::{LineRefusal, refused};
 use std::alloc::{AllocError, Global};
 use watch_expr::Expr;
@@ -20,12 +20,13 @@ use watch_expr::Expr;
 /// The value of an expression.
 pub(crate) fn print(
     alloc: Global,
-    state: &State<'_, '_>,
+    group: &Group<'_, '_>,
+    variables: &Vars,
     expression: &Expr,
 ) -> Result<Text, AllocError>
-    ensures { IfOk result (λ text. text ≡ value_text (value_in (nodes_at state.now.group) state.now.kept.variables (expression_of expression.now))) }
+    ensures { IfOk result (λ text. text ≡ value_text (value_in (nodes_at group.now) variables.now (expression_of expression.now))) }
 {
-    let value = value_here(state, expression);
+    let value = value_here(group, variables, expression);
     let mut text = Text::new(alloc);
     push_value(&mut text, value)?;
     text.push_str("\n")?;
@@ -80,16 +81,16 @@ pub(crate) fn show_threads(
 /// The frames of a thread, where it was made.
 pub(crate) fn show_frames(
     alloc: Global,
-    state: &State<'_, '_>,
+    group: &Group<'_, '_>,
     node: Option<u32>,
     thread: u64,
 ) -> Result<Text, AllocError>
-    ensures { IfOk result (λ text. text ≡ (shows_frames (session_state state.now) node thread).text) }
+    ensures { (kept : Kept) → IfOk result (λ text. PerformsCommand (shows_frames (state_with group.now kept) node thread) (state_with group.now kept) text) }
 {
     let Some(node) = node else {
         return Ok(Text::new(alloc));
     };
-    let Some(process) = state.group.process(node) else {
+    let Some(process) = group.process(node) else {
         return Ok(Text::new(alloc));
     };
     if thread >= u64::from(process.threads()) {

@@ -5,6 +5,10 @@ use Rattle.expression_text.specs.Expression.{Expression, expression_of}
 use Rattle.point_programs.specs.Tree.{program_body}
 use Rattle.shell_lines.specs.declared.command.DebuggerCommand.{DebuggerCommand as Spelled}
 use Rattle.shell_lines.specs.declared.command.DebuggerCommand.TheVariants as spelled
+use Rattle.shell_lines.specs.declared.command.MoveCommand.{MoveCommand}
+use Rattle.shell_lines.specs.declared.command.MoveCommand.TheVariants as moving
+use Rattle.shell_lines.specs.declared.command.StayCommand.{StayCommand}
+use Rattle.shell_lines.specs.declared.command.StayCommand.TheVariants as staying
 use Rattle.shell_lines.specs.declared.command.WhichNodes.{WhichNodes as ScopeSpelled}
 use Rattle.shell_lines.specs.declared.command.WhichNodes.TheVariants as scopes
 use Rattle.shell_lines.specs.declared.line.Line.{Line}
@@ -19,25 +23,31 @@ scope (scopes.At n) = At n
 abbrev pub condition : Option Expr → Option Expression
 condition x = option_map expression_of x
 
+abbrev pub move_command : MoveCommand → LineCommand
+move_command (moving.Goto position) = Goto position
+move_command (moving.Step count) = Step count
+move_command (moving.Back count) = Back count
+move_command (moving.Events count) = Events count
+move_command (moving.Continue most) = Continue most
+move_command moving.Rcontinue = Rcontinue
+
+abbrev pub stay_command : StayCommand → LineCommand
+stay_command (staying.Print x) = Print (expression_of x)
+stay_command (staying.Mem node addr len) = Mem node addr len
+stay_command (staying.Threads node) = Threads node
+stay_command (staying.Frames node thread) = Frames node thread
+stay_command (staying.Watch x c) = Watch (expression_of x) (condition c)
+stay_command (staying.Break place kind c) = Break (scope place) kind (condition c)
+stay_command (staying.Delete n) = Delete n
+stay_command (staying.Do n p) = Do n (program_body p)
+stay_command staying.List = ListPoints
+stay_command (staying.Set name x) = SetTo name (expression_of x)
+stay_command staying.Vars = ListVariables
+stay_command staying.Quit = Quit
+
 abbrev pub command : Spelled → LineCommand
-command (spelled.Goto position) = Goto position
-command (spelled.Step count) = Step count
-command (spelled.Back count) = Back count
-command (spelled.Print x) = Print (expression_of x)
-command (spelled.Mem node addr len) = Mem node addr len
-command (spelled.Threads node) = Threads node
-command (spelled.Frames node thread) = Frames node thread
-command (spelled.Events count) = Events count
-command (spelled.Watch x c) = Watch (expression_of x) (condition c)
-command (spelled.Break place kind c) = Break (scope place) kind (condition c)
-command (spelled.Delete n) = Delete n
-command (spelled.Do n p) = Do n (program_body p)
-command spelled.List = ListPoints
-command (spelled.Set name x) = SetTo name (expression_of x)
-command spelled.Vars = ListVariables
-command (spelled.Continue most) = Continue most
-command spelled.Rcontinue = Rcontinue
-command spelled.Quit = Quit
+command (spelled.Moves c) = move_command c
+command (spelled.Stays c) = stay_command c
 
 abbrev pub meaning : Line → LineMeaning
 meaning line.Silent = Silent

@@ -35,18 +35,25 @@ pub enum WhichNodes {
     At(Option<u32>),
 }
 
-/// A command. A node is given by its number, or none where no process has the name. A watchpoint and a breakpoint may have a
-/// condition, and a breakpoint that names no kind of call is for all of them.
-#[derive(Drop)]
-pub enum DebuggerCommand {
+/// A command that moves the group, if only for a while. `continue` may go so many positions at most.
+#[derive(Clone, Copy)]
+pub enum MoveCommand {
     Goto(u64),
     Step(u64),
     Back(u64),
+    Events(u64),
+    Continue(Option<u64>),
+    Rcontinue,
+}
+
+/// A command that leaves the group where it is. A node is given by its number, or none where no process has the name. A
+/// watchpoint and a breakpoint may have a condition, and a breakpoint that names no kind of call is for all of them.
+#[derive(Drop)]
+pub enum StayCommand {
     Print(Expr),
     Mem(Option<u32>, u64, u64),
     Threads(Option<u32>),
     Frames(Option<u32>, u64),
-    Events(u64),
     Watch(Expr, Option<Expr>),
     Break(WhichNodes, Option<Kind>, Option<Expr>),
     Delete(u64),
@@ -54,7 +61,12 @@ pub enum DebuggerCommand {
     List,
     Set(Bytes, Expr),
     Vars,
-    Continue(Option<u64>),
-    Rcontinue,
     Quit,
+}
+
+/// A command.
+#[derive(Drop)]
+pub enum DebuggerCommand {
+    Moves(MoveCommand),
+    Stays(StayCommand),
 }

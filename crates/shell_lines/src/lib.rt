@@ -8,9 +8,10 @@
 //!
 //! The tests on a line come in their order in `line_meaning`. `exact_commands` rests on the laws of expression_text and
 //! point_programs, which say what an expression and a program are. The code cuts and reads a line in `line`, `verbs` and `read`.
+//! There a command that moves the group and one that leaves it are two types, since only the first takes the group along.
 //!
-//! The debugger's lines are four crates, each of which can be proved by itself: this one and group_text know nothing of each
-//! other, shell_points uses group_text, and friday_shell all three.
+//! The debugger's lines are four crates, each of which can be proved by itself: this one, group_text and shell_points know
+//! nothing of each other, and friday_shell uses all three.
 #![tactic(auto)]
 
 mod command;
@@ -20,7 +21,7 @@ mod read;
 mod refusal;
 mod verbs;
 
-pub use command::{DebuggerCommand, WhichNodes};
+pub use command::{DebuggerCommand, MoveCommand, StayCommand, WhichNodes};
 pub use line::{Line, is_silent, read_line, trimmed};
 pub use read::{read_expression, read_node, read_number};
 pub use refusal::{LineRefusal, refused};

@@ -5,12 +5,12 @@ ghost use Rattle.shell_lines.specs.Lines.{has_nested, is_in_condition, names_non
 ghost use Rattle.shell_lines.specs.Meaning.{is_silent, judged_command, line_meaning, trimmed, without_end_blanks, without_front_blanks};
 ghost use Rattle.shell_lines.specs.declared.line.Line.TheVariants.{Silent};
 ghost use Rattle.shell_lines.specs.inside.Reading.{SpellsCommand};
-ghost use Rattle.shell_lines.specs.Spelled.{command, condition as condition_meant, meaning, scope};
+ghost use Rattle.shell_lines.specs.Spelled.{command, condition as condition_meant, meaning, scope, stay_command};
 ghost use Rattle.expression_text.specs.Expression.{expression_of};
 ghost use Rattle.expression_text.specs.Faulty.{is_nested, lacks_node, names_variable};
 ghost use Rattle.expression_text.specs.Lexing.{is_blank};
 
-use crate::command::{DebuggerCommand, WhichNodes};
+use crate::command::{DebuggerCommand, StayCommand, WhichNodes};
 use crate::refusal::LineRefusal;
 use crate::verbs::read_command;
 use fri_bytes::Bytes;
@@ -99,36 +99,36 @@ fn condition_faults(condition: &Option<Expr>) -> Faults
 }
 
 // Whether an aggregate is in an aggregate.
-fn has_nested(spelled: &DebuggerCommand) -> bool
-    ensures { result ≡ has_nested (command spelled.now) }
+fn has_nested(spelled: &StayCommand) -> bool
+    ensures { result ≡ has_nested (stay_command spelled.now) }
 {
     match spelled {
-        DebuggerCommand::Print(expression) => find_faults(expression).nested,
-        DebuggerCommand::Watch(expression, condition) => {
+        StayCommand::Print(expression) => find_faults(expression).nested,
+        StayCommand::Watch(expression, condition) => {
             find_faults(expression).nested || condition_faults(condition).nested
         }
-        DebuggerCommand::Break(_, _, condition) => condition_faults(condition).nested,
-        DebuggerCommand::Set(_, expression) => find_faults(expression).nested,
-        DebuggerCommand::Do(_, program) => program_faults(program).nested,
+        StayCommand::Break(_, _, condition) => condition_faults(condition).nested,
+        StayCommand::Set(_, expression) => find_faults(expression).nested,
+        StayCommand::Do(_, program) => program_faults(program).nested,
         _ => false,
     }
 }
 
 // Whether the command names no node where it is to name one.
-fn names_none(spelled: &DebuggerCommand) -> bool
-    ensures { result ≡ names_none (command spelled.now) }
+fn names_none(spelled: &StayCommand) -> bool
+    ensures { result ≡ names_none (stay_command spelled.now) }
 {
     match spelled {
-        DebuggerCommand::Print(expression) => lacks_some_node(expression),
-        DebuggerCommand::Watch(expression, condition) => {
+        StayCommand::Print(expression) => lacks_some_node(expression),
+        StayCommand::Watch(expression, condition) => {
             lacks_some_node(expression) || condition_faults(condition).no_node
         }
-        DebuggerCommand::Set(_, expression) => lacks_some_node(expression),
-        DebuggerCommand::Do(_, program) => program_faults(program).no_node,
-        DebuggerCommand::Mem(node, ..) => node.is_none(),
-        DebuggerCommand::Threads(node) => node.is_none(),
-        DebuggerCommand::Frames(node, _) => node.is_none(),
-        DebuggerCommand::Break(scope, _, condition) => {
+        StayCommand::Set(_, expression) => lacks_some_node(expression),
+        StayCommand::Do(_, program) => program_faults(program).no_node,
+        StayCommand::Mem(node, ..) => node.is_none(),
+        StayCommand::Threads(node) => node.is_none(),
+        StayCommand::Frames(node, _) => node.is_none(),
+        StayCommand::Break(scope, _, condition) => {
             scopes_none(*scope) || condition_faults(condition).no_node
         }
         _ => false,
@@ -145,21 +145,30 @@ fn scopes_none(spelled: WhichNodes) -> bool
 }
 
 // Whether the command is a point whose expression or condition names a variable.
-fn watches_variable(spelled: &DebuggerCommand) -> bool
-    ensures { result ≡ watches_variable (command spelled.now) }
+fn watches_variable(spelled: &StayCommand) -> bool
+    ensures { result ≡ watches_variable (stay_command spelled.now) }
 {
     match spelled {
-        DebuggerCommand::Watch(expression, condition) => {
+        StayCommand::Watch(expression, condition) => {
             find_faults(expression).variable || condition_faults(condition).variable
         }
-        DebuggerCommand::Break(_, _, condition) => condition_faults(condition).variable,
+        StayCommand::Break(_, _, condition) => condition_faults(condition).variable,
         _ => false,
     }
 }
 
-// A command of the grammar, unless something is wrong with it.
+// A command of the grammar, unless something is wrong with it. With one that moves the group nothing is.
 fn judge(spelled: DebuggerCommand) -> Line
     ensures { meaning result ≡ judged_command (command spelled) }
+{
+    match spelled {
+        DebuggerCommand::Moves(_) => Line::Does(spelled),
+        DebuggerCommand::Stays(command) => judge_stay(command),
+    }
+}
+
+fn judge_stay(spelled: StayCommand) -> Line
+    ensures { meaning result ≡ judged_command (stay_command spelled) }
 {
     if has_nested(&spelled) {
         Line::Refused(LineRefusal::Nested)
@@ -168,7 +177,7 @@ fn judge(spelled: DebuggerCommand) -> Line
     } else if watches_variable(&spelled) {
         Line::Refused(LineRefusal::NamesVariable)
     } else {
-        Line::Does(spelled)
+        Line::Does(DebuggerCommand::Stays(spelled))
     }
 }
 

@@ -6,7 +6,8 @@ ghost use Rattle.shell_lines.specs.Reads.{ReadsAs};
 ghost use Rattle.shell_lines.specs.inside.Reading.{ReadsCommand};
 ghost use Rattle.expression_text.specs.Lexing.{token_texts};
 
-use crate::command::{DebuggerCommand, Verb};
+use crate::command::DebuggerCommand::{Moves, Stays};
+use crate::command::{DebuggerCommand, MoveCommand, StayCommand, Verb};
 use crate::read::{
     ending, read_calls, read_condition, read_count, read_expression, read_front_expression,
     read_node, read_number, read_scope, read_variable,
@@ -102,40 +103,40 @@ fn read_behind(
     match verb {
         Verb::Goto => {
             let position = read_number(tokens, 1, 0, MOST_NUMBER)?;
-            ending(tokens, 2, DebuggerCommand::Goto(position))
+            ending(tokens, 2, Moves(MoveCommand::Goto(position)))
         }
         Verb::Step => {
             let count = read_count(tokens, 0, MOST_NUMBER, 1)?;
-            ending(tokens, 2, DebuggerCommand::Step(count))
+            ending(tokens, 2, Moves(MoveCommand::Step(count)))
         }
         Verb::Back => {
             let count = read_count(tokens, 0, MOST_NUMBER, 1)?;
-            ending(tokens, 2, DebuggerCommand::Back(count))
+            ending(tokens, 2, Moves(MoveCommand::Back(count)))
         }
-        Verb::Print => Ok(DebuggerCommand::Print(read_expression(alloc, tokens, 1, names)?)),
+        Verb::Print => Ok(Stays(StayCommand::Print(read_expression(alloc, tokens, 1, names)?))),
         Verb::Mem => read_mem(tokens, names),
         Verb::Threads => {
             let node = read_node(tokens, 1, names)?;
-            ending(tokens, 2, DebuggerCommand::Threads(node))
+            ending(tokens, 2, Stays(StayCommand::Threads(node)))
         }
         Verb::Frames => read_frames(tokens, names),
         Verb::Events => {
             let count = read_count(tokens, 1, MOST_SHOWN_EVENTS, 10)?;
-            ending(tokens, 2, DebuggerCommand::Events(count))
+            ending(tokens, 2, Moves(MoveCommand::Events(count)))
         }
         Verb::Watch => read_watch(alloc, tokens, names),
         Verb::Break => read_break(alloc, tokens, names),
         Verb::Delete => {
             let number = read_number(tokens, 1, 0, MOST_NUMBER)?;
-            ending(tokens, 2, DebuggerCommand::Delete(number))
+            ending(tokens, 2, Stays(StayCommand::Delete(number)))
         }
         Verb::Do => read_do(alloc, tokens, names),
-        Verb::List => ending(tokens, 1, DebuggerCommand::List),
+        Verb::List => ending(tokens, 1, Stays(StayCommand::List)),
         Verb::Set => read_set(alloc, tokens, names),
-        Verb::Vars => ending(tokens, 1, DebuggerCommand::Vars),
+        Verb::Vars => ending(tokens, 1, Stays(StayCommand::Vars)),
         Verb::Continue => read_continue(tokens),
-        Verb::Rcontinue => ending(tokens, 1, DebuggerCommand::Rcontinue),
-        Verb::Quit => ending(tokens, 1, DebuggerCommand::Quit),
+        Verb::Rcontinue => ending(tokens, 1, Moves(MoveCommand::Rcontinue)),
+        Verb::Quit => ending(tokens, 1, Stays(StayCommand::Quit)),
     }
 }
 
@@ -147,7 +148,7 @@ fn read_mem(tokens: &Tokens<'_>, names: &[Bytes]) -> Result<DebuggerCommand, Exp
     let node = read_node(tokens, 1, names)?;
     let addr = read_number(tokens, 2, 0, MOST_NUMBER)?;
     let len = read_number(tokens, 3, 1, MOST_SHOWN_BYTES)?;
-    ending(tokens, 4, DebuggerCommand::Mem(node, addr, len))
+    ending(tokens, 4, Stays(StayCommand::Mem(node, addr, len)))
 }
 
 // A node and a thread.
@@ -157,7 +158,7 @@ fn read_frames(tokens: &Tokens<'_>, names: &[Bytes]) -> Result<DebuggerCommand, 
 {
     let node = read_node(tokens, 1, names)?;
     let thread = read_number(tokens, 2, 0, GREATEST_THREAD)?;
-    ending(tokens, 3, DebuggerCommand::Frames(node, thread))
+    ending(tokens, 3, Stays(StayCommand::Frames(node, thread)))
 }
 
 // An expression, and a condition that may be left out.
@@ -171,7 +172,7 @@ fn read_watch(
 {
     let (expression, next) = read_front_expression(alloc, tokens, 1, names)?;
     let condition = read_condition(alloc, tokens, next, names)?;
-    Ok(DebuggerCommand::Watch(expression, condition))
+    Ok(Stays(StayCommand::Watch(expression, condition)))
 }
 
 // A count that may be left out, which then is not bounded.
@@ -179,10 +180,10 @@ fn read_continue(tokens: &Tokens<'_>) -> Result<DebuggerCommand, ExprError>
     ensures { ReadsCommand tokens.now (continue_in (token_texts tokens.now)) result }
 {
     if tokens.count() <= 1 {
-        return Ok(DebuggerCommand::Continue(None));
+        return Ok(Moves(MoveCommand::Continue(None)));
     }
     let most = read_number(tokens, 1, 1, MOST_NUMBER)?;
-    ending(tokens, 2, DebuggerCommand::Continue(Some(most)))
+    ending(tokens, 2, Moves(MoveCommand::Continue(Some(most))))
 }
 
 // Which nodes, the kind of call, and a condition that may be left out.
@@ -197,7 +198,7 @@ fn read_break(
     let place = read_scope(tokens, 1, names)?;
     let kind = read_calls(tokens, 2)?;
     let condition = read_condition(alloc, tokens, 3, names)?;
-    Ok(DebuggerCommand::Break(place, kind, condition))
+    Ok(Stays(StayCommand::Break(place, kind, condition)))
 }
 
 // The number of a point, and a program.
@@ -211,7 +212,7 @@ fn read_do(
 {
     let number = read_number(tokens, 1, 0, MOST_NUMBER)?;
     let program = parse_program(alloc, tokens, 2, names)?;
-    Ok(DebuggerCommand::Do(number, program))
+    Ok(Stays(StayCommand::Do(number, program)))
 }
 
 // A variable, and an expression.
@@ -225,7 +226,7 @@ fn read_set(
 {
     let name = read_variable(alloc, tokens, 1)?;
     let value = read_expression(alloc, tokens, 3, names)?;
-    Ok(DebuggerCommand::Set(name, value))
+    Ok(Stays(StayCommand::Set(name, value)))
 }
 
 // The verb in front.

@@ -1,7 +1,8 @@
 -- Points as the code holds them, and as they are meant.
 use Rattle.std.proofs.Common.{◌≡◌, ◌∙◌, ℕ, zero, suc, ◌+◌, ◌<◌, Bool, true, false, not, cond, nat_eq, ◌||◌, List, [], ◌∷◌, ◌++◌, length, drop, filter, get_or, map, nat_lt, Some, None, refl, sym, ap, append_assoc, slice_index_or, arith}
-use Rattle.std.specs.Prelude.{slice_set}
+use Rattle.std.specs.Prelude.{IfSome, slice_set}
 use Rattle.std.specs.List.{flat_map, list_any, position, position_or_len, prefix_len}
+use Rattle.std.proofs.lemmas.Bool.{ltb-true}
 use Rattle.std.proofs.lemmas.List.{length-map, drop_more}
 use Rattle.point_programs.specs.declared.program.Program.{Program}
 use Rattle.point_programs.specs.Tree.{program_body}
@@ -31,6 +32,13 @@ places_same ps n =
     ap (λ (k : ℕ). cond (nat_lt k (length ps)) (Some k) None) (ahead_same ps n)
     ∙ ap (λ (l : ℕ). cond (nat_lt (position_or_len (λ (p : Point). nat_eq p.number n) (map {A = Held} point ps)) l) (Some (position_or_len (λ (p : Point). nat_eq p.number n) (map {A = Held} point ps))) None)
     (sym (length-map ps point))
+
+some_below : (k n : ℕ) (b : Bool) → nat_lt k n ≡ b → IfSome (cond b (Some k) None) (λ place. place < n)
+some_below k n true e = ltb-true k n e
+some_below k n false e = tt
+
+pub place_within : (ps : List Point) (n : ℕ) → IfSome (index_of_point ps n) (λ place. place < length ps)
+place_within ps n = some_below (position_or_len (λ (p : Point). nat_eq p.number n) ps) (length ps) _ refl
 
 -- one point's line more
 pub listed : (text next whole : List ℕ) (ps : List Held) (i : ℕ) (p d : Held) → i < length ps → p ≡ slice_index_or ps i d → next ≡ text ++ point_text (point p)

@@ -18,8 +18,9 @@ use Rattle.shell_points.specs.Points.{Point, Trigger}
 use Rattle.shell_points.specs.Returning.{is_stopping_point}
 use Rattle.shell_points.specs.inside.Reading.{point_readings, point_said_by, stops_by, treat_by}
 use Rattle.shell_points.specs.Meanings.{trigger}
-use Rattle.shell_points.specs.inside.Meanings.{WalksThere, point}
-use Rattle.shell_points.specs.Walking.{Walk, last_word, lines_in, most_walk_lines, positions_ahead, quiet_program, steps_of, treat_point, treat_points, walk_ended, walk_from, walk_on, walk_over}
+use Rattle.shell_points.specs.Meanings.{PointsWalk}
+use Rattle.shell_points.specs.inside.Meanings.{point}
+use Rattle.shell_points.specs.Walking.{Walk, last_word, lines_in, most_lines, positions_ahead, quiet_program, steps_of, treat_point, treat_points, walk_ended, walk_from, walk_on, walk_over}
 
 -- ---- at one position
 
@@ -205,7 +206,7 @@ next_place first old new event left some moves from =
 
 -- a walk that ended came there
 arrives : (first : GroupPlace) (ps : List Point) (before after : List Variable) (most : Option ℕ) (at : ℕ) (text : List ℕ) (there : GroupPlace) → walk_from first ps before most ≡ walk_ended at after text
-    → there ≡ place_at first.start at → WalksThere first ps before most there after text
+    → there ≡ place_at first.start at → PointsWalk first ps before most there after text
 arrives first ps before after most at text there is here = record {
   place = here ∙ ap (λ (w : Walk). place_at first.start w.at) (sym is);
   variables = ap (λ (w : Walk). w.variables) (sym is);
@@ -218,7 +219,7 @@ IsAhead first ps before most at left variables text = walk_over first.start ps a
 
 pub ends_there : (first : GroupPlace) (ps : List Point) (before after : List Variable) (most left : Option ℕ) (old : GroupPlace) (text : List ℕ)
     → (steps_of left (positions_ahead old) == 0) ≡ true → old.start ≡ first.start → IsAhead first ps before most old.at left after text
-    → WalksThere first ps before most old after (text ++ last_word old.start old.at)
+    → PointsWalk first ps before most old after (text ++ last_word old.start old.at)
 ends_there first ps before after most left old text over from ahead =
     let none : steps_of left (end_of first.start - old.at) ≡ 0 =
     ap (λ (s : List Replaying). steps_of left (end_of s - old.at)) (sym from) ∙ no_steps (steps_of left (positions_ahead old)) over in
@@ -239,10 +240,10 @@ module _ (first : GroupPlace) (ps : List Point) (before variables : List Variabl
       sym ahead ∙ step first.start ps at left variables text some
       ∙ ap (walk_on rest (suc at) text) (sym (did ∙ ap (λ (p : GroupPlace). treat_points p.start p.at (quiet_program variables) ps) here))
 
-  pub stops_there : r.stopped ≡ true → WalksThere first ps before most new r.variables (text ++ r.text)
+  pub stops_there : r.stopped ≡ true → PointsWalk first ps before most new r.variables (text ++ r.text)
   stops_there stops = arrives first ps before r.variables most (suc at) (text ++ r.text) new (follows ∙ stops_here rest (suc at) text r stops) here
 
-  pub pauses_there : r.stopped ≡ false → most_walk_lines ≤ lines_in text + lines_in r.text → WalksThere first ps before most new r.variables ((text ++ r.text) ++ codes "paused\n")
+  pub pauses_there : r.stopped ≡ false → most_lines ≤ lines_in text + lines_in r.text → PointsWalk first ps before most new r.variables ((text ++ r.text) ++ codes "paused\n")
   pauses_there goes many =
       arrives first ps before r.variables most (suc at) ((text ++ r.text) ++ codes "paused\n") new
       (follows ∙ pauses_here rest (suc at) text r goes (omega (arith, many, lines_append text r.text))) here

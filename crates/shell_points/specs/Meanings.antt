@@ -6,7 +6,6 @@ use Rattle.group_state.specs.Place.{GroupPlace}
 use Rattle.point_programs.specs.Variables.{Variable}
 use Rattle.shell_points.specs.declared.point.Trigger.{Trigger as HeldTrigger}
 use Rattle.shell_points.specs.declared.point.Trigger.TheVariants as held
-use Rattle.shell_points.specs.declared.walk.WalkEnd.{WalkEnd}
 use Rattle.shell_points.specs.Firing.{place_at}
 use Rattle.shell_points.specs.Points.{Break, Point, Trigger, Watch}
 use Rattle.shell_points.specs.Returning.{return_from}
@@ -19,11 +18,11 @@ trigger (held.Break of_node kind) = Break of_node kind
 abbrev pub held_condition : Option Expr → Option Expression
 held_condition x = option_map expression_of x
 
--- a walk from a place ended where it ends
-pub record PointsWalk (old : GroupPlace) (points : List Point) (before : List Variable) (most : Option ℕ) (done : WalkEnd) : Type 0 where
-  pub place : done.group ≡ place_at old.start (walk_from old points before most).at
-  pub variables : done.variables ≡ (walk_from old points before most).variables
-  pub text_is : done.text ≡ (walk_from old points before most).text
+-- a walk from a place came there, made this of the variables and said this
+pub record PointsWalk (old : GroupPlace) (points : List Point) (before : List Variable) (most : Option ℕ) (there : GroupPlace) (after : List Variable) (said : List ℕ) : Type 0 where
+  pub place : there ≡ place_at old.start (walk_from old points before most).at
+  pub variables : after ≡ (walk_from old points before most).variables
+  pub text_is : said ≡ (walk_from old points before most).text
 
 -- a walk back from a place ended where it ends
 pub record PointsReturn (old : GroupPlace) (points : List Point) (new : GroupPlace) (text : List ℕ) : Type 0 where

@@ -30,4 +30,3 @@ mod watching;
 
 pub use point::Trigger;
 pub use points::Points;
-pub use walk::WalkEnd;

@@ -1,5 +1,5 @@
 // The points that a session holds.
-ghost use Rattle.std.specs.Prelude.{◌≡◌, ◌+◌, ◌-◌, ◌<◌, ◌++◌, ◌∷◌, ◌==◌, [], IfOk, IfSome, OnErr, OnOk, length, map, position};
+ghost use Rattle.std.specs.Prelude.{◌≡◌, ◌+◌, ◌-◌, ◌<◌, ◌++◌, ◌∷◌, [], IfOk, IfSome, OnErr, OnOk, length};
 ghost use Rattle.std.specs.List.{flat_map};
 ghost use Rattle.point_programs.specs.Tree.{program_body};
 ghost use Rattle.group_state.specs.Touch.{watch_ticks};
@@ -10,7 +10,7 @@ ghost use Rattle.shell_points.specs.Watching.{watched_expressions};
 
 use crate::back::walk_back;
 use crate::point::{Point, Trigger};
-use crate::walk::{WalkEnd, walk};
+use crate::walk::walk;
 use fri_bytes::Bytes;
 use fri_text::Text;
 use group_state::Group;
@@ -89,14 +89,14 @@ impl Points {
     pub fn is_held(&self, number: u64) -> bool
         ensures { result ≡ has_point self.now number }
     {
-        is_held(&self.held, number)
+        self.held.iter().any(|point| point.number == number)
     }
 
     /// Takes away all points with this number.
     pub fn remove(&mut self, number: u64)
         ensures { self.new ≡ without_point self.old number }
     {
-        remove(&mut self.held, number);
+        self.held.retain(|point| point.number != number);
     }
 
     /// Where the first point with this number stands.
@@ -104,7 +104,7 @@ impl Points {
         ensures index { result ≡ index_of_point self.now number }
         ensures within { IfSome result (λ index. index < length self.now) }
     {
-        index_of_point(&self.held, number)
+        self.held.iter().position(|point| point.number == number)
     }
 
     /// Attaches a program to the point at this index, in place of an older one.
@@ -112,30 +112,34 @@ impl Points {
         requires { index < length self.old }
         ensures { self.new ≡ with_program self.old index (program_body program) }
     {
-        put(&mut self.held, index, program);
+        self.held[index].program = Some(program);
     }
 
     /// The number of each point, and the line that made it.
     pub fn list(&self, alloc: Global) -> Result<Text, AllocError>
         ensures { IfOk result (λ text. text ≡ flat_map point_text self.now) }
     {
-        list(alloc, &self.held)
+        let mut text = Text::new(alloc);
+        for point in &self.held {
+            push_point(&mut text, point)?;
+        }
+        Ok(text)
     }
 
     /// Goes to the first position after this one at which a point asks to stop or enough was said, or to the last; and over
-    /// so many positions at most, where that is given.
+    /// so many positions at most, where that is given. Gives what points said on the way; their programs may have set variables.
     /// Each watchpoint is evaluated once where the walk begins, which the counter does not count, and then where an event
     /// touched something that it reads.
     pub fn walk<'m, 'a, L: Ledger>(
         &self,
         alloc: Global,
         group: Group<'m, 'a>,
-        variables: Vars,
+        variables: &mut Vars,
         most: Option<u64>,
         steps: &mut Steps<L>,
-    ) -> Result<WalkEnd<'m, 'a>, AllocError>
-        ensures walks { IfOk result (λ done. PointsWalk group.entry self.now variables most done) }
-        ensures ticks { IfOk result (λ done. steps.new ≡ steps.old + watch_ticks group.entry.start (watched_expressions self.now) group.entry.at (done.group.at - group.entry.at)) }
+    ) -> Result<(Group<'m, 'a>, Text), AllocError>
+        ensures walks { IfOk result (λ done. PointsWalk group.entry self.now variables.old most done.0 variables.new done.1) }
+        ensures ticks { IfOk result (λ done. steps.new ≡ steps.old + watch_ticks group.entry.start (watched_expressions self.now) group.entry.at (done.0.at - group.entry.at)) }
     {
         walk(alloc, group, &self.held, variables, most, steps)
     }
@@ -154,47 +158,6 @@ impl Points {
     {
         walk_back(alloc, group, &self.held, steps)
     }
-}
-
-// Whether a point with this number is held.
-fn is_held(points: &[Point], number: u64) -> bool
-    ensures { result ≡ has_point (map point_meant points.now) number }
-{
-    points.iter().any(|point| point.number == number)
-}
-
-// Where the first point with this number stands.
-fn index_of_point(points: &[Point], number: u64) -> Option<usize>
-    ensures index { result ≡ position (λ p. p.number == number) points.now }
-    ensures within { IfSome result (λ index. index < length points.now) }
-{
-    points.iter().position(|point| point.number == number)
-}
-
-// The program is attached to the point at this index.
-fn put(points: &mut Vec<Point>, index: usize, program: Program)
-    requires { index < length points.now.items }
-    ensures { map point_meant points.new.items ≡ with_program (map point_meant points.old.items) index (program_body program) }
-{
-    points[index].program = Some(program);
-}
-
-// All points but those with this number.
-fn remove(points: &mut Vec<Point>, number: u64)
-    ensures { map point_meant points.new.items ≡ without_point (map point_meant points.old.items) number }
-{
-    points.retain(|point| point.number != number);
-}
-
-// The number of each point, and the line that made it.
-fn list(alloc: Global, points: &[Point]) -> Result<Text, AllocError>
-    ensures { IfOk result (λ text. text ≡ flat_map point_text (map point_meant points.now)) }
-{
-    let mut text = Text::new(alloc);
-    for point in points {
-        push_point(&mut text, point)?;
-    }
-    Ok(text)
 }
 
 fn push_point(text: &mut Text, point: &Point) -> Result<(), AllocError>

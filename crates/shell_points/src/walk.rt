@@ -2,7 +2,7 @@
 ghost use Rattle.std.specs.Prelude.{◌≡◌, ◌+◌, ◌-◌, ◌<◌, ◌++◌, ◌==◌, [], IfOk, OnOk, count_by, map, option_map};
 ghost use Rattle.group_state.specs.Touch.{is_met_by_event, watch_ticks};
 ghost use Rattle.shell_points.specs.Meanings.{PointsWalk};
-ghost use Rattle.shell_points.specs.inside.Meanings.{WalksThere, point as seen, run_so_far};
+ghost use Rattle.shell_points.specs.inside.Meanings.{point as seen, run_so_far};
 ghost use Rattle.shell_points.specs.inside.Watches.{IsWatching};
 ghost use Rattle.shell_points.specs.Walking.{last_word, lines_in, positions_ahead, quiet_program, steps_of, treat_points};
 ghost use Rattle.shell_points.specs.Watching.{watched_expressions};
@@ -21,35 +21,22 @@ use watch_expr::Steps;
 // A walk that has said so many lines pauses.
 const MOST_WALK_LINES: usize = 10_000;
 
-/// Where a walk ended, what it made of the variables, and what points said on the way.
-#[derive(Drop)]
-pub struct WalkEnd<'m, 'a> {
-    pub group: Group<'m, 'a>,
-    pub variables: Vars,
-    pub text: Text,
-}
-
 /// Goes to the first position after this one at which a point asks to stop or enough was said, or to the last; and over so
-/// many positions at most, where that is given.
+/// many positions at most, where that is given. Gives what points said on the way; their programs may have set variables.
 pub(crate) fn walk<'m, 'a, L: Ledger>(
     alloc: Global,
     group: Group<'m, 'a>,
     points: &[Point],
-    variables: Vars,
+    variables: &mut Vars,
     most: Option<u64>,
     steps: &mut Steps<L>,
-) -> Result<WalkEnd<'m, 'a>, AllocError>
-    ensures walks { IfOk result (λ done. PointsWalk group.entry (map {A = Held} seen points.now) variables most done) }
-    ensures ticks { IfOk result (λ done. steps.new ≡ steps.old + watch_ticks group.entry.start (watched_expressions (map {A = Held} seen points.now)) group.entry.at (done.group.at - group.entry.at)) }
+) -> Result<(Group<'m, 'a>, Text), AllocError>
+    ensures walks { IfOk result (λ done. PointsWalk group.entry (map {A = Held} seen points.now) variables.old most done.0 variables.new done.1) }
+    ensures ticks { IfOk result (λ done. steps.new ≡ steps.old + watch_ticks group.entry.start (watched_expressions (map {A = Held} seen points.now)) group.entry.at (done.0.at - group.entry.at)) }
 {
-    let mut variables = variables;
     let mut text = Text::new(alloc);
-    let group = walk_there(alloc, group, points, &mut variables, &mut text, most, steps)?;
-    Ok(WalkEnd {
-        group,
-        variables,
-        text,
-    })
+    let group = walk_there(alloc, group, points, variables, &mut text, most, steps)?;
+    Ok((group, text))
 }
 
 // The group there, what programs made of the variables on the way, and what was said.
@@ -63,7 +50,7 @@ fn walk_there<'m, 'a, L: Ledger>(
     steps: &mut Steps<L>,
 ) -> Result<Group<'m, 'a>, AllocError>
     requires { text.old ≡ [] }
-    ensures walks { IfOk result (λ there. WalksThere group.entry (map {A = Held} seen points.now) variables.old most there variables.new text.new) }
+    ensures walks { IfOk result (λ there. PointsWalk group.entry (map {A = Held} seen points.now) variables.old most there variables.new text.new) }
     ensures ticks { IfOk result (λ there. steps.new ≡ steps.old + watch_ticks group.entry.start (watched_expressions (map {A = Held} seen points.now)) group.entry.at (there.at - group.entry.at)) }
 {
     let _ = group.position();

@@ -1,8 +1,8 @@
-use Rattle.shell_lines.specs.Spelled.{command}
-use Rattle.friday_shell.specs.inside.Meanings.{session_state}
+use Rattle.shell_lines.specs.Spelled.{move_command}
+use Rattle.friday_shell.specs.inside.Meanings.{state_with}
 use Rattle.friday_shell.proofs.LineAnswers.{start_stays}
 use Rattle.friday_shell.proofs.answer.perform.Goals as goal
 
-pub returns-clause-start : goal.returns-clause-start
-returns-clause-start g c =
-    start_stays (session_state c.args.state) c.args.line.now (command c.args.command) c.run.result (λ done. session_state done.0) (λ done. done.1) c.run.ensures.answer
+pub returns-in-Moves-clause-start : goal.returns-in-Moves-clause-start
+returns-in-Moves-clause-start g c =
+    start_stays (state_with c.args.group c.args.kept.now) c.args.line.now (move_command c.in-Moves.command) c.go.result (λ done. state_with done.0 c.go.new.kept) (λ done. done.1) (c.go.ensures.answer c.args.line.now)

@@ -1,7 +1,8 @@
 use Rattle.std.proofs.Common.{◌≡◌, ◌-◌, ◌∙◌, ◌++◌, List, ℕ, codes, length, map, ap, subst, refl, sym, arith}
 use Rattle.group_state.specs.Place.{GroupPlace, events_of_replays}
 use Rattle.shell_points.specs.declared.point.Point.{Point as Held}
-use Rattle.shell_points.specs.inside.Meanings.{WalksThere, point, run_so_far}
+use Rattle.shell_points.specs.Meanings.{PointsWalk}
+use Rattle.shell_points.specs.inside.Meanings.{point, run_so_far}
 use Rattle.shell_points.specs.Walking.{lines_in, steps_of, walk_over}
 use Rattle.shell_points.specs.Watching.{watched_expressions}
 use Rattle.shell_points.proofs.PointWalks.{ends_there, goes_further, goes_on, lines_append, next_place, pauses_there, stops_there}
@@ -23,7 +24,7 @@ pub returns-then-is_over-clause-walks : goal.returns-then-is_over-clause-walks
 returns-then-is_over-clause-walks g c =
     let i = c.positions.invariant in
     let ps = map {A = Held} point c.args.points.now in
-    subst (WalksThere c.args.group ps c.args.variables.now c.args.most c.positions.group c.positions.variables) (sym c.in_ok-push_last_word.ensures)
+    subst (PointsWalk c.args.group ps c.args.variables.now c.args.most c.positions.group c.positions.variables) (sym c.in_ok-push_last_word.ensures)
     (ends_there c.args.group ps c.args.variables.now c.positions.variables c.args.most c.positions.left c.positions.group c.positions.text (sym c.is_over.ensures ∙ c.if-is_over.true) i.start i.ahead)
 
 pub meet_event-requires-clause-moved : goal.meet_event-requires-clause-moved
@@ -46,7 +47,7 @@ returns-then-treated-clause-walks g c =
     let r = run_so_far c.meet_event.new.variables c.in_ok-now.treated in
     let some = goes_further c.args.group c.positions.group c.positions.left (sym c.is_over.ensures ∙ c.if-is_over.false) i.start in
     let there = next_place c.args.group c.positions.group c.in_ok-next.next c.in_ok-next.field-0-1 c.positions.left some c.in_ok-next.ensures i.start in
-    subst (WalksThere c.args.group ps c.args.variables.now c.args.most c.in_ok-next.next c.meet_event.new.variables)
+    subst (PointsWalk c.args.group ps c.args.variables.now c.args.most c.in_ok-next.next c.meet_event.new.variables)
     (sym (c.in_ok-push_bytes.ensures.ok ∙ ap (λ (b : List ℕ). c.positions.text ++ b) c.bytes.ensures))
     (stops_there c.args.group ps c.args.variables.now c.positions.variables c.args.most c.positions.left c.positions.group.at c.in_ok-next.next c.positions.text r there.0 some i.ahead c.in_ok-now.ensures.treated c.if-treated.true)
 
@@ -65,7 +66,7 @@ returns-then-lines-room-clause-walks g c =
     let r = run_so_far c.meet_event.new.variables c.in_ok-now.treated in
     let some = goes_further c.args.group c.positions.group c.positions.left (sym c.is_over.ensures ∙ c.if-is_over.false) i.start in
     let there = next_place c.args.group c.positions.group c.in_ok-next.next c.in_ok-next.field-0-1 c.positions.left some c.in_ok-next.ensures i.start in
-    subst (WalksThere c.args.group ps c.args.variables.now c.args.most c.in_ok-next.next c.meet_event.new.variables)
+    subst (PointsWalk c.args.group ps c.args.variables.now c.args.most c.in_ok-next.next c.meet_event.new.variables)
     (sym (c.in_ok-push_str.ensures.ok ∙ ap (λ (t : List ℕ). t ++ codes "paused\n") (c.in_ok-push_bytes.ensures.ok ∙ ap (λ (b : List ℕ). c.positions.text ++ b) c.bytes.ensures)))
     (pauses_there c.args.group ps c.args.variables.now c.positions.variables c.args.most c.positions.left c.positions.group.at c.in_ok-next.next c.positions.text r there.0 some i.ahead c.in_ok-now.ensures.treated c.if-treated.false
     (omega (arith, i.few, c.lines_in-lines.ensures, c.if-lines-room.true)))

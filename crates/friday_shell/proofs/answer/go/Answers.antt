@@ -1,4 +1,4 @@
-use Rattle.friday_shell.proofs.answer.go_there.Goals as goal
+use Rattle.friday_shell.proofs.answer.go.Goals as goal
 
 pub returns-in-Goto-clause-answer : goal.returns-in-Goto-clause-answer
 returns-in-Goto-clause-answer g c = λ line. rw c.in-Goto.is (c.go_to.ensures c.args.kept.now)
