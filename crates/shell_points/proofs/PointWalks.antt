@@ -20,7 +20,7 @@ use Rattle.shell_points.specs.inside.Reading.{point_readings, point_said_by, sto
 use Rattle.shell_points.specs.Meanings.{trigger}
 use Rattle.shell_points.specs.Meanings.{PointsWalk}
 use Rattle.shell_points.specs.inside.Meanings.{point}
-use Rattle.shell_points.specs.Walking.{Walk, last_word, lines_in, most_lines, positions_ahead, quiet_program, steps_of, treat_point, treat_points, walk_ended, walk_from, walk_on, walk_over}
+use Rattle.shell_points.specs.Walking.{Walk, last_word, lines_in, most_walk_lines, positions_ahead, quiet_program, steps_of, treat_point, treat_points, walk_ended, walk_from, walk_on, walk_over}
 
 -- ---- at one position
 
@@ -243,7 +243,7 @@ module _ (first : GroupPlace) (ps : List Point) (before variables : List Variabl
   pub stops_there : r.stopped ≡ true → PointsWalk first ps before most new r.variables (text ++ r.text)
   stops_there stops = arrives first ps before r.variables most (suc at) (text ++ r.text) new (follows ∙ stops_here rest (suc at) text r stops) here
 
-  pub pauses_there : r.stopped ≡ false → most_lines ≤ lines_in text + lines_in r.text → PointsWalk first ps before most new r.variables ((text ++ r.text) ++ codes "paused\n")
+  pub pauses_there : r.stopped ≡ false → most_walk_lines ≤ lines_in text + lines_in r.text → PointsWalk first ps before most new r.variables ((text ++ r.text) ++ codes "paused\n")
   pauses_there goes many =
       arrives first ps before r.variables most (suc at) ((text ++ r.text) ++ codes "paused\n") new
       (follows ∙ pauses_here rest (suc at) text r goes (omega (arith, many, lines_append text r.text))) here
