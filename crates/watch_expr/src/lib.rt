@@ -27,7 +27,7 @@ mod view;
 
 pub use expression_text::{
     Agg, Binary, Expr, ExprError, Faults, MOST_NUMBER, NodeName, Tokens, Unary, Width, find_faults,
-    find_name, is_blank, is_word, lacks_some_node, lex, parse,
+    find_name, is_blank, is_word, lex, parse,
 };
 pub use reads::{Place, Reading, eval_reads};
 pub use steps::Steps;
