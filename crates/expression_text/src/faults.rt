@@ -1,7 +1,7 @@
 // What may be wrong with an expression that is of the grammar.
 ghost use Rattle.std.specs.Prelude.{◌≡◌, ◌||◌, ◌&&◌, false};
 ghost use Rattle.expression_text.specs.Expression.{expression_of};
-ghost use Rattle.expression_text.specs.Faulty.{has_aggregate, is_nested, is_of_event, is_unnamed, lacks_node, lacks_some_node, names_event, names_variable};
+ghost use Rattle.expression_text.specs.Faulty.{has_aggregate, is_nested, is_of_event, is_unnamed, lacks_node, names_event, names_variable};
 
 use crate::expr::{Expr, NodeName};
 
@@ -28,15 +28,6 @@ pub fn find_faults(e: &Expr) -> Faults
     faults_in(e, false)
 }
 
-/// Whether a name in an expression is that of no node, if no point has led to the position that it is asked at: there `@!`
-/// is none.
-pub fn lacks_some_node(e: &Expr) -> bool
-    ensures { result ≡ lacks_some_node (expression_of e.now) }
-{
-    let faults = find_faults(e);
-    faults.no_node || faults.event
-}
-
 const NONE: Faults = Faults {
     nested: false,
     no_node: false,
@@ -45,6 +36,14 @@ const NONE: Faults = Faults {
 };
 
 impl Faults {
+    /// Whether a name is that of no node, if no point has led to the position that the expression is asked at: there `@!` is
+    /// none.
+    pub fn lacks_some_node(self) -> bool
+        ensures { result ≡ (self.no_node || self.event) }
+    {
+        self.no_node || self.event
+    }
+
     /// The faults of either.
     fn or(self, other: Faults) -> Faults
         ensures { result ≡ record {

@@ -23,7 +23,7 @@ mod word;
 
 pub use error::ExprError;
 pub use expr::{Agg, Binary, Expr, NodeName, Unary, Width};
-pub use faults::{Faults, find_faults, lacks_some_node};
+pub use faults::{Faults, find_faults};
 pub use lexer::{is_blank, lex};
 pub use number::MOST_NUMBER;
 pub use parser::parse;

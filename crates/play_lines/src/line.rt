@@ -1,5 +1,5 @@
 // What a line of a play is.
-ghost use Rattle.std.specs.Prelude.{◌≡◌, ◌<◌, ◌≤◌, ◌^◌, IfOk, Ok, length, true};
+ghost use Rattle.std.specs.Prelude.{◌≡◌, ◌<◌, ◌≤◌, ◌^◌, IfOk, Ok, false, length, true};
 ghost use Rattle.play_lines.specs.Lines.{lacks_in_play, nests_in_play};
 ghost use Rattle.play_lines.specs.Meaning.{judged_play, play_meaning};
 ghost use Rattle.play_lines.specs.Spelled.{play_line_meaning, player_command};
@@ -14,7 +14,7 @@ use fri_bytes::Bytes;
 use schedule_text::{Item, is_item_line, read_item_line};
 use shell_lines::{LineRefusal, is_silent};
 use std::alloc::{AllocError, Global};
-use watch_expr::{ExprError, find_faults, lacks_some_node, lex};
+use watch_expr::{ExprError, find_faults, lex};
 
 // How many bytes a line has at most: enough for each item that a schedule of logs has.
 const MOST_ITEM_LINE_BYTES: usize = 131_072;
@@ -85,26 +85,39 @@ fn spelled(alloc: Global, bytes: &[u8], names: &[Bytes]) -> Result<PlayerCommand
     read_command(alloc, &tokens, names)
 }
 
-// Whether an aggregate is in an aggregate.
-fn has_nested(spelled: &PlayerCommand) -> bool
-    ensures { result ≡ nests_in_play (player_command spelled.now) }
+// What may be wrong with a command: an aggregate is in an aggregate, a name is that of no node.
+#[derive(Clone, Copy)]
+struct CommandFaults {
+    nested: bool,
+    no_node: bool,
+}
+
+// Only that a node is none.
+fn node_faults(no_node: bool) -> CommandFaults
+    ensures { result ≡ record { nested = false; no_node = no_node } }
 {
-    match spelled {
-        PlayerCommand::Print(expression) => find_faults(expression).nested,
-        _ => false,
+    CommandFaults {
+        nested: false,
+        no_node,
     }
 }
 
-// Whether the command names no node where it is to name one.
-fn names_none(spelled: &PlayerCommand) -> bool
-    ensures { result ≡ lacks_in_play (player_command spelled.now) }
+fn command_faults(spelled: &PlayerCommand) -> CommandFaults
+    ensures nested { result.nested ≡ nests_in_play (player_command spelled.now) }
+    ensures no_node { result.no_node ≡ lacks_in_play (player_command spelled.now) }
 {
     match spelled {
-        PlayerCommand::Print(expression) => lacks_some_node(expression),
-        PlayerCommand::Threads(node) => node.is_none(),
-        PlayerCommand::Printed(node, _) => node.is_none(),
-        PlayerCommand::Mem(node, ..) => node.is_none(),
-        _ => false,
+        PlayerCommand::Print(expression) => {
+            let faults = find_faults(expression);
+            CommandFaults {
+                nested: faults.nested,
+                no_node: faults.lacks_some_node(),
+            }
+        }
+        PlayerCommand::Threads(node) => node_faults(node.is_none()),
+        PlayerCommand::Printed(node, _) => node_faults(node.is_none()),
+        PlayerCommand::Mem(node, ..) => node_faults(node.is_none()),
+        _ => node_faults(false),
     }
 }
 
@@ -113,9 +126,10 @@ fn names_none(spelled: &PlayerCommand) -> bool
 fn judge(spelled: PlayerCommand) -> PlayLine
     ensures { play_line_meaning result ≡ judged_play (player_command spelled) }
 {
-    if has_nested(&spelled) {
+    let faults = command_faults(&spelled);
+    if faults.nested {
         refuses(LineRefusal::Nested)
-    } else if names_none(&spelled) {
+    } else if faults.no_node {
         refuses(LineRefusal::NoNode)
     } else {
         PlayLine::Does(spelled)

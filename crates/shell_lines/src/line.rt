@@ -1,5 +1,5 @@
 // What a line of a session is.
-ghost use Rattle.std.specs.Prelude.{◌≡◌, ◌<◌, ◌≤◌, ◌^◌, IfOk, Ok, false, length, not, true};
+ghost use Rattle.std.specs.Prelude.{◌≡◌, ◌<◌, ◌≤◌, ◌^◌, ◌||◌, IfOk, Ok, false, length, not, true};
 ghost use Rattle.std.specs.List.{find};
 ghost use Rattle.shell_lines.specs.Lines.{has_nested, is_in_condition, names_none, scopes_none, watches_variable};
 ghost use Rattle.shell_lines.specs.Meaning.{is_silent, judged_command, line_meaning, trimmed, without_end_blanks, without_front_blanks};
@@ -7,7 +7,7 @@ ghost use Rattle.shell_lines.specs.declared.line.Line.TheVariants.{Silent};
 ghost use Rattle.shell_lines.specs.inside.Reading.{SpellsCommand};
 ghost use Rattle.shell_lines.specs.Spelled.{command, condition as condition_meant, meaning, scope, stay_command};
 ghost use Rattle.expression_text.specs.Expression.{expression_of};
-ghost use Rattle.expression_text.specs.Faulty.{is_nested, lacks_node, names_variable};
+ghost use Rattle.expression_text.specs.Faulty.{is_nested, lacks_node, lacks_some_node, names_variable};
 ghost use Rattle.expression_text.specs.Lexing.{is_blank};
 
 use crate::command::{DebuggerCommand, StayCommand, WhichNodes};
@@ -16,7 +16,7 @@ use crate::verbs::read_command;
 use fri_bytes::Bytes;
 use point_programs::program_faults;
 use std::alloc::{AllocError, Global};
-use watch_expr::{Expr, ExprError, Faults, find_faults, is_blank, lacks_some_node, lex};
+use watch_expr::{Expr, ExprError, find_faults, is_blank, lex};
 
 // How many bytes a line has at most.
 const MOST_LINE_BYTES: usize = 4096;
@@ -79,60 +79,73 @@ fn front(bytes: &[u8]) -> Option<u8>
     bytes.iter().copied().find(|b| !is_blank(*b))
 }
 
-const NONE: Faults = Faults {
+// What may be wrong with a command: an aggregate is in an aggregate, a name is that of no node, a point names a variable.
+#[derive(Clone, Copy)]
+struct CommandFaults {
+    nested: bool,
+    no_node: bool,
+    variable: bool,
+}
+
+const NONE: CommandFaults = CommandFaults {
     nested: false,
     no_node: false,
     variable: false,
-    event: false,
 };
 
+impl CommandFaults {
+    // The faults of either.
+    fn or(self, other: CommandFaults) -> CommandFaults
+        ensures { result ≡ record {
+          nested = self.nested || other.nested;
+          no_node = self.no_node || other.no_node;
+          variable = self.variable || other.variable;
+        } }
+    {
+        CommandFaults {
+            nested: self.nested || other.nested,
+            no_node: self.no_node || other.no_node,
+            variable: self.variable || other.variable,
+        }
+    }
+}
+
+// What may be wrong with an expression that is asked at a position to which no point has led.
+fn expression_faults(expression: &Expr) -> CommandFaults
+    ensures nested { result.nested ≡ is_nested (expression_of expression.now) }
+    ensures no_node { result.no_node ≡ lacks_some_node (expression_of expression.now) }
+    ensures variable { result.variable ≡ names_variable (expression_of expression.now) }
+{
+    let faults = find_faults(expression);
+    CommandFaults {
+        nested: faults.nested,
+        no_node: faults.lacks_some_node(),
+        variable: faults.variable,
+    }
+}
+
 // What may be wrong with a condition, in which the node of the position's event may be named.
-fn condition_faults(condition: &Option<Expr>) -> Faults
+fn condition_faults(condition: &Option<Expr>) -> CommandFaults
     ensures nested { result.nested ≡ is_in_condition is_nested (condition_meant condition.now) }
     ensures no_node { result.no_node ≡ is_in_condition (lacks_node false) (condition_meant condition.now) }
     ensures variable { result.variable ≡ is_in_condition names_variable (condition_meant condition.now) }
 {
-    match condition {
-        Some(expression) => find_faults(expression),
-        None => NONE,
+    let Some(expression) = condition else {
+        return NONE;
+    };
+    let faults = find_faults(expression);
+    CommandFaults {
+        nested: faults.nested,
+        no_node: faults.no_node,
+        variable: faults.variable,
     }
 }
 
-// Whether an aggregate is in an aggregate.
-fn has_nested(spelled: &StayCommand) -> bool
-    ensures { result ≡ has_nested (stay_command spelled.now) }
+// Only that a node is none.
+fn node_faults(no_node: bool) -> CommandFaults
+    ensures { result ≡ record { nested = false; no_node = no_node; variable = false } }
 {
-    match spelled {
-        StayCommand::Print(expression) => find_faults(expression).nested,
-        StayCommand::Watch(expression, condition) => {
-            find_faults(expression).nested || condition_faults(condition).nested
-        }
-        StayCommand::Break(_, _, condition) => condition_faults(condition).nested,
-        StayCommand::Set(_, expression) => find_faults(expression).nested,
-        StayCommand::Do(_, program) => program_faults(program).nested,
-        _ => false,
-    }
-}
-
-// Whether the command names no node where it is to name one.
-fn names_none(spelled: &StayCommand) -> bool
-    ensures { result ≡ names_none (stay_command spelled.now) }
-{
-    match spelled {
-        StayCommand::Print(expression) => lacks_some_node(expression),
-        StayCommand::Watch(expression, condition) => {
-            lacks_some_node(expression) || condition_faults(condition).no_node
-        }
-        StayCommand::Set(_, expression) => lacks_some_node(expression),
-        StayCommand::Do(_, program) => program_faults(program).no_node,
-        StayCommand::Mem(node, ..) => node.is_none(),
-        StayCommand::Threads(node) => node.is_none(),
-        StayCommand::Frames(node, _) => node.is_none(),
-        StayCommand::Break(scope, _, condition) => {
-            scopes_none(*scope) || condition_faults(condition).no_node
-        }
-        _ => false,
-    }
+    CommandFaults { no_node, ..NONE }
 }
 
 fn scopes_none(spelled: WhichNodes) -> bool
@@ -144,16 +157,39 @@ fn scopes_none(spelled: WhichNodes) -> bool
     }
 }
 
-// Whether the command is a point whose expression or condition names a variable.
-fn watches_variable(spelled: &StayCommand) -> bool
-    ensures { result ≡ watches_variable (stay_command spelled.now) }
+// What may be wrong with a command. Variables are refused in points only.
+fn command_faults(spelled: &StayCommand) -> CommandFaults
+    ensures nested { result.nested ≡ has_nested (stay_command spelled.now) }
+    ensures no_node { result.no_node ≡ names_none (stay_command spelled.now) }
+    ensures variable { result.variable ≡ watches_variable (stay_command spelled.now) }
 {
     match spelled {
+        StayCommand::Print(expression) => CommandFaults {
+            variable: false,
+            ..expression_faults(expression)
+        },
+        StayCommand::Set(_, expression) => CommandFaults {
+            variable: false,
+            ..expression_faults(expression)
+        },
         StayCommand::Watch(expression, condition) => {
-            find_faults(expression).variable || condition_faults(condition).variable
+            expression_faults(expression).or(condition_faults(condition))
         }
-        StayCommand::Break(_, _, condition) => condition_faults(condition).variable,
-        _ => false,
+        StayCommand::Break(scope, _, condition) => {
+            node_faults(scopes_none(*scope)).or(condition_faults(condition))
+        }
+        StayCommand::Do(_, program) => {
+            let faults = program_faults(program);
+            CommandFaults {
+                nested: faults.nested,
+                no_node: faults.no_node,
+                variable: false,
+            }
+        }
+        StayCommand::Mem(node, ..) => node_faults(node.is_none()),
+        StayCommand::Threads(node) => node_faults(node.is_none()),
+        StayCommand::Frames(node, _) => node_faults(node.is_none()),
+        _ => NONE,
     }
 }
 
@@ -170,11 +206,12 @@ fn judge(spelled: DebuggerCommand) -> Line
 fn judge_stay(spelled: StayCommand) -> Line
     ensures { meaning result ≡ judged_command (stay_command spelled) }
 {
-    if has_nested(&spelled) {
+    let faults = command_faults(&spelled);
+    if faults.nested {
         Line::Refused(LineRefusal::Nested)
-    } else if names_none(&spelled) {
+    } else if faults.no_node {
         Line::Refused(LineRefusal::NoNode)
-    } else if watches_variable(&spelled) {
+    } else if faults.variable {
         Line::Refused(LineRefusal::NamesVariable)
     } else {
         Line::Does(DebuggerCommand::Stays(spelled))

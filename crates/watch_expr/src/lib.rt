@@ -29,7 +29,7 @@ mod view;
 
 pub use expression_text::{
     Agg, Binary, Expr, ExprError, Faults, MOST_NUMBER, NodeName, Tokens, Unary, Width, find_faults,
-    find_name, is_blank, is_word, lacks_some_node, lex, parse,
+    find_name, is_blank, is_word, lex, parse,
 };
 pub use parts::{Reading, part_count, read_part, read_parts, value_of_parts};
 pub use reads::Place;
