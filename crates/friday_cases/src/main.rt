@@ -18,6 +18,7 @@
 //! | `fail files N` | lets the call of this number fail, of those on files that the case makes |
 //! | `fail input N`, `fail output N` | lets the read or the write of this number fail, of those that the next command makes |
 //! | `run WORDS` | makes the call with these words |
+//! | `both WORDS ; WORDS` | makes the call with the first words, and if its work is done the one with the second, by `record_and_show` |
 //! | `sum WORDS` | makes the call with these words, and tells the SHA-256 of what it prints |
 //! | `cuts NAME A B WORDS` | makes the call for each N from A to B, with the first N bytes of a file in its place |
 //! | `turns NAME A B WORDS` | makes the call for each N from A to B, with all bits turned in the byte at N of a file |
@@ -25,6 +26,9 @@
 //! | `show NAME` | tells what a file holds: all of a short one, and the SHA-256 of a long one |
 //!
 //! A line that is none of these, or cannot be done, is told with its number, and the script goes on.
+//!
+//! A `both` whose first words record is an instance of the main theorem: the contract of `record_and_show` says that what the
+//! second call shows is what the first recorded.
 #![tactic(auto)]
 
 mod bytes;

@@ -51,6 +51,10 @@ pub enum Order<'a> {
         call: u64,
     },
     Run(&'a str),
+    Both {
+        first: &'a str,
+        second: &'a str,
+    },
     Sum(&'a str),
     Each {
         change: Change,
@@ -117,6 +121,11 @@ fn cut(rest: &str) -> anyhow::Result<Order<'_>> {
     })
 }
 
+fn both(rest: &str) -> anyhow::Result<Order<'_>> {
+    let (first, second) = rest.split_once(" ; ").context("there is no second call")?;
+    Ok(Order::Both { first, second })
+}
+
 fn input(rest: &str) -> anyhow::Result<Order<'_>> {
     let (piece, pieces) = split_word(rest);
     Ok(Order::Input {
@@ -139,6 +148,7 @@ pub fn read_order(line: &str) -> anyhow::Result<Order<'_>> {
         "input" => input(rest),
         "fail" => fail(rest),
         "run" => Ok(Order::Run(rest)),
+        "both" => both(rest),
         "sum" => Ok(Order::Sum(rest)),
         "cuts" => each(Change::Cut, rest),
         "turns" => each(Change::Turn(0xff), rest),

@@ -5,7 +5,7 @@ use crate::order::{Change, Order, Side, read_order};
 use crate::outcome::Outcome;
 use anyhow::{Context, ensure};
 use fri_outside::{MemFiles, MemSink, MemSource, MemTerminal};
-use friday_app::friday;
+use friday_app::{friday, record_and_show};
 use sha2::{Digest, Sha256};
 use std::alloc::{AllocError, Global};
 use std::fmt::Write;
@@ -59,6 +59,7 @@ impl Session {
             Order::Input { piece, pieces } => self.hand_in(piece, pieces),
             Order::Fail { side, call } => self.fail(side, call),
             Order::Run(words) => self.run(words),
+            Order::Both { first, second } => self.both(first, second),
             Order::Sum(words) => self.sum(words),
             Order::Each {
                 change,
@@ -159,6 +160,13 @@ impl Session {
         Ok(format!(in self.alloc; "run {words}: {told}")?)
     }
 
+    fn both(&mut self, first: &str, second: &str) -> anyhow::Result<String> {
+        let (is_shown, outcome) = self.call_both(first, second)?;
+        let told = outcome.tell(self.alloc)?;
+        let by = if is_shown { "" } else { "first " };
+        Ok(format!(in self.alloc; "both {first} ; {second}: {by}{told}")?)
+    }
+
     // Makes the call, and tells the length and the SHA-256 of what it prints.
     fn sum(&mut self, words: &str) -> anyhow::Result<String> {
         let outcome = self.call(words)?;
@@ -189,13 +197,30 @@ impl Session {
         Ok(output)
     }
 
+    fn terminal(&mut self) -> Result<MemTerminal, AllocError> {
+        let input = self.source()?;
+        Ok(MemTerminal::new(self.alloc, input, self.sink()?))
+    }
+
     fn call(&mut self, words: &str) -> Result<Outcome, AllocError> {
         let words = split_words(self.alloc, words)?;
-        let input = self.source()?;
-        let mut terminal = MemTerminal::new(self.alloc, input, self.sink()?);
+        let mut terminal = self.terminal()?;
         let status = friday(self.alloc, &words, &mut self.files, &mut terminal);
         let printed = Vec::from_slice(self.alloc, terminal.bytes())?;
         Ok(Outcome { status, printed })
+    }
+
+    // Makes both calls over one terminal. Gives whether the second was made, and what they came to.
+    fn call_both(&mut self, first: &str, second: &str) -> Result<(bool, Outcome), AllocError> {
+        let first = split_words(self.alloc, first)?;
+        let second = split_words(self.alloc, second)?;
+        let mut terminal = self.terminal()?;
+        let ended = record_and_show(self.alloc, &first, &second, &mut self.files, &mut terminal);
+        let printed = Vec::from_slice(self.alloc, terminal.bytes())?;
+        let status = match ended {
+            Ok(status) | Err(status) => status,
+        };
+        Ok((ended.is_ok(), Outcome { status, printed }))
     }
 
     // Makes the call with these bytes as those of a file, and tells its outcome in a line.

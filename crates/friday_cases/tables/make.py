@@ -14,7 +14,7 @@ import guests, hostile, images, large_memories, large_modules, limits, long_byte
 import many_events, migrates, most_events, over_inputs, pair_refusals, pairs, play_inputs, play_refusals, plays, point_refusals, program_limits
 import program_refusals, program_values
 import program_walks, refusals, replays, schedule_refusals, schedules, schedules_of_calls, schedules_of_logs
-import shell_refusals, shell_values, stopped, streams, threads, turned
+import shell_refusals, shell_values, stopped, streams, threads, turned, two_calls
 from script import Script
 
 PARTS = (
@@ -22,7 +22,7 @@ PARTS = (
     *(schedules_of_logs, schedules_of_calls, schedule_refusals, cuts, cut_refusals, over_inputs, streams),
     *(debugger, debug_points, debug_returns, debug_conditions, debug_frames, shell_values, shell_refusals, point_refusals, debug_inputs),
     *(debug_programs, program_walks, program_values, program_refusals, program_limits, debug_pauses),
-    *(plays, play_refusals, play_inputs),
+    *(plays, play_refusals, play_inputs, two_calls),
     *(long_schedules, long_sessions, long_bytes, long_streams, many_datagrams, crowds, large_modules, large_memories, many_events, most_events, drills),
 )
 HERE = os.path.dirname(os.path.abspath(__file__))

@@ -105,6 +105,12 @@ class Script:
         self.told.append("run %s: %s" % (words, status))
         self.told += ["    " + line for line in printed]
 
+    def both(self, first, second, ended, *printed):
+        """Two calls by record_and_show, and what both print. The end is the status of the second, or `first` and that of the first."""
+        self.lines.append("both %s ; %s" % (first, second))
+        self.told.append("both %s ; %s: %s" % (first, second, ended))
+        self.told += ["    " + line for line in printed]
+
     def sum(self, words, status, printed):
         """A run of which the length and the SHA-256 of these bytes are told, and not the lines."""
         self.lines.append("sum " + words)
