@@ -4,7 +4,7 @@ import logs
 from common import begin, replays, summary
 from script import digits
 from sessions import ALONE, session
-from threads import NOTED, calls, guest, recorded
+from threads import NOTED, TYPES, calls, guest, recorded
 
 SIGNALS = range(1, 32)
 # Of the last one 64 are made in all.
@@ -52,10 +52,13 @@ def all_threads(script):
     rows = (
         ("goto %d" % at, "at %d: %d a 1 lock 1 = 0" % (at, at)),
         ("threads a", "a running", "0 at lock 63", *live),
+        # The imports stand before the function of the table and that of the first thread.
+        *(("frames a %d" % t, "%d: %d" % (t, len(TYPES) + (t == 0))) for t in (0, *MADE)),
         ("step 3", "at %d: %d a 1 note 1" % (at + 3, at + 3)),
         ("threads a", "a running", "0 at lock 63", "1 ended", *live[1:]),
         ("step 999", "at %d: %d a 63 note 63" % (len(events), len(events))),
         ("threads a", "a running", "0 at lock 63", *("%d ended" % t for t in MADE)),
+        *(("frames a %d" % t, "%d: ended" % t) for t in MADE),
     )
     session(script, ALONE, rows)
 

@@ -1,6 +1,6 @@
 """Points with conditions, points on any call, walks over so many positions at most, and the node of the position's event."""
 
-from debug_points import LAST, PING, PING_EVENTS, POINTS, PONG, PONG_EVENTS, UNDEF, Point, broken, makes, numbered, runs
+from debug_points import LAST, PING, PING_EVENTS, POINTS, PONG, PONG_EVENTS, TOO_MANY, UNDEF, Point, broken, makes, numbered, runs
 from debug_returns import runs as returns
 from sessions import PAIRS, PLACES, files, session
 
@@ -52,6 +52,14 @@ def conditions(script):
     files(script, "points on any call")
     for point in ANY:
         session(script, PAIRS, [*makes([point]), *runs(numbered([point]), 0), *returns(numbered([point]), LAST)])
+
+
+def many(script):
+    files(script, "64 points with conditions, one of which is as long as a line may be, to the end and back")
+    longest = "break ping send if " + "1".zfill(4096 - len("break ping send if "))
+    points = [Point(longest, broken("ping send", 3, 9, 11).fires)]
+    points += [conditioned(point, written) for point in SOME for written in CONDITIONS][:63]
+    session(script, PAIRS, [*makes(points), ("watch 1 if 1", TOO_MANY), *runs(numbered(points), 0), *returns(numbered(points), LAST)])
 
 
 def arrives_within(points, position, most):
@@ -138,5 +146,5 @@ def written(script):
 
 def table(script):
     script.title("Points with conditions")
-    for part in (conditions, bounded, written):
+    for part in (conditions, many, bounded, written):
         part(script)

@@ -10,7 +10,7 @@ import os
 import sys
 
 import commands, crowds, cut_refusals, cuts, debug_conditions, debug_frames, debug_inputs, debug_pauses, debug_points, debug_programs, debug_returns, debugger, drills, groups
-import guests, hostile, images, large_memories, large_modules, limits, long_bytes, long_schedules, long_sessions, long_streams, many_datagrams
+import guests, hostile, images, large_memories, large_modules, limits, long_bytes, long_plays, long_schedules, long_sessions, long_streams, many_datagrams
 import many_events, migrates, most_events, over_inputs, pair_refusals, pairs, play_inputs, play_refusals, plays, point_refusals, program_limits
 import program_refusals, program_values
 import program_walks, refusals, replays, schedule_refusals, schedules, schedules_of_calls, schedules_of_logs
@@ -23,7 +23,7 @@ PARTS = (
     *(debugger, debug_points, debug_returns, debug_conditions, debug_frames, shell_values, shell_refusals, point_refusals, debug_inputs),
     *(debug_programs, program_walks, program_values, program_refusals, program_limits, debug_pauses),
     *(plays, play_refusals, play_inputs, two_calls),
-    *(long_schedules, long_sessions, long_bytes, long_streams, many_datagrams, crowds, large_modules, large_memories, many_events, most_events, drills),
+    *(long_schedules, long_sessions, long_bytes, long_plays, long_streams, many_datagrams, crowds, large_modules, large_memories, many_events, most_events, drills),
 )
 HERE = os.path.dirname(os.path.abspath(__file__))
 

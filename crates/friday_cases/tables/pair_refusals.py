@@ -155,6 +155,18 @@ def segments(script):
     script.show("two.out", None)
 
 
+def each_place(script):
+    script.case("a process that does not begin, at each place of a group of sixteen")
+    script.file("m", digits(LEAST))
+    script.file("far", digits(start("", FAR)))
+    for process in range(16):
+        script.file("l%d" % process, begun(16, process, b"p%d" % process))
+    for place in range(16):
+        pairs = ["%s l%d" % ("far" if process == place else "m", process) for process in range(16)]
+        judged(script, pairs, refused("far", "7 BadSegment"))
+        script.run("streams " + " ".join(pairs), *refused("far", "7 BadSegment"))
+
+
 def begin_apart(script, name):
     """The same, and the module in three files."""
     begin(script, name)
@@ -189,5 +201,5 @@ def failing_reads(script):
 
 def table(script):
     script.title("Several pairs that are refused")
-    for part in (at_each_pair, clashes, in_turn, segments, failing_reads):
+    for part in (at_each_pair, clashes, in_turn, segments, each_place, failing_reads):
         part(script)
