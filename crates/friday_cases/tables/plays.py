@@ -254,6 +254,18 @@ def worlds(script):
         ("mem a 65532 4", "01020304"),
     ]
     alone(script, "datagrams from outside in a play", Guest("taker").module, rows)
+    takes = "(drop (call $recv (i32.const 4094) (i32.const 8) (i32.const 4092)))"
+    taker = start(takes * 2, '(import "liblog" "recv" (func $recv (param i32 i32 i32) (result i32))) (memory 1)')
+    rows = [
+        ("run 0 0", event(1, "begin"), counts(1)),
+        ("inject 0 d74c4f470000000005000000000000006162636465", counts(1)),
+        ("inject 0 6162636465", counts(1)),
+        ("run 0 0", event(6, "recv 4094 8 4092 = 5"), counts(1)),
+        ("mem a 4092 8", "0000000063646500"),
+        ("run 0 0", event(7, "recv 4094 8 4092 = 5"), counts(1)),
+        ("mem a 4092 8", "ffffffff63646500"),
+    ]
+    alone(script, "a sender's number that lies over the payload, and over an edge of pages", taker, rows)
     rows = [
         ("run 0 0", event(1, "begin"), counts(1)),
         ("inject 0 6869", counts(1)),
