@@ -34,11 +34,4 @@ class Reached:
             if definition in self.met:
                 continue
             self.met[definition] = there
-            left += [cited for word in definition.words for cited in self.cited(file, word) if word not in definition.names]
-
-    @staticmethod
-    def cited(file, word):
-        if word in file.definitions:
-            yield Home(file.crate, file.file, word)
-        elif word in file.imported:
-            yield file.imported[word]
+            left += [cited for word in definition.words if (cited := file.cited(word)) and cited.name not in definition.names]
