@@ -1,5 +1,5 @@
 -- The replay that begins with the log of a pair.
-use Rattle.std.proofs.Common.{◌≡◌, ◌∙◌, ◌≤◌, ℕ, List, length, length-append, Option, Some, Result, Ok, ap, arith, subst, sym}
+use Rattle.std.proofs.Common.{◌≡◌, ◌∙◌, ℕ, List, length, length-append, Some, Result, Ok, ap, arith, subst, sym}
 use Rattle.std.proofs.lemmas.Option.{same_Some}
 use Rattle.wasm_types.specs.Modules.{Module}
 use Rattle.call_log.specs.Head.{Head, head_bytes}

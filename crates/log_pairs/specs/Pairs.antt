@@ -1,5 +1,5 @@
 -- The modules and logs of a group, as they are read, and the replays of the logs.
-use Rattle.std.specs.Prelude.{◌≡◌, ℕ, List, [], ◌∷◌, ◌++◌, ◌==◌, Bool, false, not, nat_lt, bytes_eq, Option, Some, None, Result, Ok, Err, if◌then◌else◌}
+use Rattle.std.specs.Prelude.{◌≡◌, ℕ, List, [], ◌∷◌, ◌++◌, ◌==◌, Bool, false, not, nat_lt, bytes_eq, Option, Some, None, Result, Ok, if◌then◌else◌}
 use Rattle.std.specs.List.{flat_map, list_any}
 use Rattle.fri_outside.specs.Outside.{Folder, WhenTold}
 use Rattle.wasm_types.specs.Modules.{Module}
@@ -12,7 +12,7 @@ use Rattle.command_run.specs.Inputs.{first_state_of, module_in}
 use Rattle.command_run.specs.Logs.{log_in}
 use Rattle.command_run.specs.declared.refusal.StopCause.{StopCause}
 use Rattle.command_run.specs.Call.{StopsAsCause}
-use Rattle.command_run.specs.Outcome.{CommandStop, and_then, refuses_at_once, unless_refused}
+use Rattle.command_run.specs.Outcome.{CommandStop, and_then, unless_refused}
 
 -- the files of a module and of a log of its process
 pub record Pair : Type 0 where

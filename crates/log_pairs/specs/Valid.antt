@@ -1,5 +1,5 @@
 -- Modules and logs that are those of one group.
-use Rattle.std.specs.Prelude.{◌≡◌, ◌≢◌, ℕ, AllPairs, List, [], ◌∷◌}
+use Rattle.std.specs.Prelude.{◌≡◌, ◌≢◌, AllPairs, List, [], ◌∷◌}
 use Rattle.fri_outside.specs.Outside.{Folder}
 use Rattle.call_log.specs.Head.{Head}
 use Rattle.command_run.specs.Valid.{IsModuleFile, ProcessBegins}
