@@ -4,11 +4,12 @@ from definitions.reading import Home
 
 
 class Reached:
-    """The definitions that some reach, in the order in which a reader meets them, and the leaves at which that ends."""
+    """The definitions that some reach, in the order in which a reader meets them, and the leaves at which that ends. Those of `later`
+    are put off with all that only they reach."""
 
-    def __init__(self, files, leaves):
-        self.files, self.leaf_crates = files, leaves
-        self.met, self.leaves = {}, {}
+    def __init__(self, files, leaves, later=()):
+        self.files, self.leaf_crates, self.later = files, leaves, set(later)
+        self.met, self.leaves, self.put_off = {}, {}, []
 
     def found(self, home):
         """The file that declares a name, also where a crate hands on the files of one below."""
@@ -18,9 +19,9 @@ class Reached:
         others = [it for (_, name), it in self.files.items() if name == home.file and home.name in it.definitions]
         return others[0] if others else None
 
-    def follow(self, home):
-        """Meets a definition and then what it cites, line by line."""
-        left = [home]
+    def follow(self, left):
+        """Meets definitions and then what they cite, line by line."""
+        left = list(left)
         while left:
             home = left.pop(0)
             file = self.found(home)
@@ -29,16 +30,14 @@ class Reached:
             there = Home(file.crate, file.file, home.name)
             if file.crate in self.leaf_crates:
                 self.leaves.setdefault(there)
-                continue
-            definition = file.definitions[home.name]
-            if definition in self.met:
-                continue
-            self.met[definition] = there
-            left += [cited for word in definition.words for cited in self.cited(file, word) if word not in definition.names]
+            elif there in self.later:
+                self.put_off.append(there)
+            elif file.definitions[home.name] not in self.met:
+                definition = file.definitions[home.name]
+                self.met[definition] = there
+                left += [cited for word in definition.words if (cited := file.cited(word)) and cited.name not in definition.names]
 
-    @staticmethod
-    def cited(file, word):
-        if word in file.definitions:
-            yield Home(file.crate, file.file, word)
-        elif word in file.imported:
-            yield file.imported[word]
+    def follow_rest(self):
+        """Meets those that were put off, too."""
+        left, self.later, self.put_off = self.put_off, set(), []
+        self.follow(left)

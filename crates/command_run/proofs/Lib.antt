@@ -1,4 +1,5 @@
 pub mod Clashes
+pub mod FoundFiles
 pub mod CommandEnds
 pub mod ModuleFaults
 pub mod KeptModules

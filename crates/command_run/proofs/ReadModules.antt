@@ -12,13 +12,15 @@ use Rattle.wasm_validate.specs.Fault.{ExactFault, fault}
 use Rattle.wasm_validate.specs.declared.invalid.Invalid.{Invalid}
 use Rattle.wasm_validate.specs.declared.invalid.Invalid.TheVariants.{HasFloat, BadImport, Untyped, OverLimit, NoStart}
 use Rattle.command_run.specs.declared.refusal.Reason.{Reason}
+use Rattle.command_run.specs.declared.refusal.Reason.TheVariants as reason
 use Rattle.command_run.specs.Fault.{fault_of, reason_of}
-use Rattle.command_run.specs.Inputs.{module_in, module_unless_refused, spelled_module, valid_module}
+use Rattle.command_run.specs.Inputs.{module_in, valid_module}
 use Rattle.command_run.specs.Laws.{ReadsModules}
 use Rattle.command_run.specs.Limits.{most_module}
-use Rattle.command_run.specs.Outcome.{CommandStop, and_then, bytes_or_stop, file_of}
+use Rattle.command_run.specs.Outcome.{CommandStop, and_then, file_of, some_or_refused, unless_refused}
 use Rattle.command_run.specs.OutcomeLaws.{result_follows, same_Ok_value}
 use Rattle.command_run.specs.Valid.{IsFileWithin}
+use Rattle.command_run.proofs.FoundFiles.{held_file}
 use Rattle.command_run.proofs.ModuleFaults.{no_fault}
 
 -- ---- a module of a file is valid
@@ -38,28 +40,28 @@ no_fault_found : (m : Module) → fault_of m ≡ None → fault m ≡ None
 unfolding fault_of fault
 no_fault_found m none = no_reason (is_with_floats m) _ _ (is_over_limit m) (has_no_start m) none
 
-passed : (name : List ℕ) (m given : Module) (why : Option Reason) → module_unless_refused name m why ≡ Ok given → (why ≡ None) × (m ≡ given)
-passed name m given None is = (refl, same_Ok_value (module_unless_refused name m None) m given refl is)
+passed : (name : List ℕ) (m given : Module) (why : Option Reason) → unless_refused name m why ≡ Ok given → (why ≡ None) × (m ≡ given)
+passed name m given None is = (refl, same_Ok_value (unless_refused name m None) m given refl is)
 passed name m given (Some why) is = cc
 
 module_valid : ExactFault → (folder : Folder) (name : List ℕ) (m : Module) → module_in folder name ≡ Ok m → IsValid m
 module_valid exact folder name m is =
     let bytes = result_follows (file_of folder name most_module) _ m is in
-    let spelled = result_follows (spelled_module name (module_of_bytes bytes.given)) (valid_module name) m bytes.comes in
+    let spelled = result_follows (some_or_refused name reason.Malformed (module_of_bytes bytes.given)) (valid_module name) m bytes.comes in
     let p = passed name spelled.given m (fault_of spelled.given) spelled.comes in
     subst IsValid p.1 ((exact.none spelled.given).0 (no_fault_found spelled.given p.0))
 
 -- ---- a file that is a valid module is read as that
 
 within_limit : KeepsFiles → (folder : Folder) (name : List ℕ) (limit : ℕ) (bytes : List ℕ) → IsFileWithin folder name limit bytes → file_of folder name limit ≡ Ok bytes
-within_limit keeps folder name limit bytes h = ap (bytes_or_stop name) (ap (found_within limit) h.held ∙ keeps.within limit bytes h.within)
+within_limit keeps folder name limit bytes h = held_file folder name limit bytes (ap (found_within limit) h.held ∙ keeps.within limit bytes h.within)
 
 pub modules_read : KeepsFiles → ((bytes : List ℕ) (m : Module) → (module_of_bytes bytes ≡ Some m) ↔ SpellsModule bytes m) → ExactFault → ReadsModules
 modules_read keeps spelled exact = record {
   files = within_limit keeps;
   modules = λ folder name file.
-      ap (λ (r : Result (List ℕ) CommandStop). and_then r (λ bytes. and_then (spelled_module name (module_of_bytes bytes)) (valid_module name))) (within_limit keeps folder name most_module file.bytes file.stands)
-      ∙ ap (λ (m : Option Module). and_then (spelled_module name m) (valid_module name)) ((spelled file.bytes file.«module»).1 file.spelled)
-      ∙ ap (module_unless_refused name file.«module») (no_fault exact file.«module» file.valid);
+      ap (λ (r : Result (List ℕ) CommandStop). and_then r (λ bytes. and_then (some_or_refused name reason.Malformed (module_of_bytes bytes)) (valid_module name))) (within_limit keeps folder name most_module file.bytes file.stands)
+      ∙ ap (λ (m : Option Module). and_then (some_or_refused name reason.Malformed m) (valid_module name)) ((spelled file.bytes file.«module»).1 file.spelled)
+      ∙ ap (unless_refused name file.«module») (no_fault exact file.«module» file.valid);
   valid = module_valid exact;
 }

@@ -1,6 +1,7 @@
 -- The outcome of a command: the work that it does, or the stop at which it ends.
-use Rattle.std.specs.Prelude.{ℕ, List, [], ◌++◌, Bool, false, map, decimal, codes, Result, Ok, Err, if◌then◌else◌}
-use Rattle.fri_outside.specs.Outside.{Folder, FoundFile, Missing, Over, Held, found_file}
+use Rattle.std.specs.Prelude.{ℕ, List, [], ◌++◌, Bool, false, nat_le, map, length, decimal, codes, Option, Some, None, Result, Ok, Err, if◌then◌else◌}
+use Rattle.std.specs.FinMap.{get}
+use Rattle.fri_outside.specs.Outside.{Folder}
 use Rattle.command_run.specs.declared.status.Status.{Status}
 use Rattle.command_run.specs.declared.status.Status.TheVariants as status
 use Rattle.command_run.specs.declared.refusal.Reason.{Reason}
@@ -12,10 +13,6 @@ pub record CommandWork : Type 0 where
   pub writes : List (List ℕ × List ℕ)
   pub diverged : Bool
 
--- what was done before a stop, where it comes before all work
-abbrev pub no_work_done : CommandWork
-no_work_done = record { text = []; writes = []; diverged = false }
-
 -- why a command does not do its work. A refusal says what was printed and written before it
 pub data CommandStop : Type 0 where
   NotACommand : CommandStop
@@ -24,7 +21,7 @@ pub data CommandStop : Type 0 where
 
 -- a refusal before all work
 abbrev pub refuses_at_once : List ℕ → Reason → CommandStop
-refuses_at_once file why = Refuses file why no_work_done
+refuses_at_once file why = Refuses file why (record { text = []; writes = []; diverged = false })
 
 abbrev pub CommandOutcome : Type 0
 CommandOutcome = Result CommandWork CommandStop
@@ -34,14 +31,23 @@ abbrev pub and_then : {A B : Type 0} → Result A CommandStop → (A → Result 
 and_then (Ok value) next = next value
 and_then (Err stop) next = Err stop
 
+-- what there is, or a refusal of the file if there is nothing
+abbrev pub some_or_refused : {A : Type 0} → List ℕ → Reason → Option A → Result A CommandStop
+some_or_refused name why None = Err (refuses_at_once name why)
+some_or_refused name why (Some value) = Ok value
+
+-- a value, unless there is a reason to refuse the file
+abbrev pub unless_refused : {A : Type 0} → List ℕ → A → Option Reason → Result A CommandStop
+unless_refused name value None = Ok value
+unless_refused name value (Some why) = Err (refuses_at_once name why)
+
 -- the bytes of a file, where it is there and within its limit
-abbrev pub bytes_or_stop : List ℕ → FoundFile → Result (List ℕ) CommandStop
-bytes_or_stop name Missing = Err (Lacks name)
-bytes_or_stop name Over = Err (refuses_at_once name reason.TooLarge)
-bytes_or_stop name (Held bytes) = Ok bytes
+abbrev pub file_within : List ℕ → ℕ → Option (List ℕ) → Result (List ℕ) CommandStop
+file_within name limit None = Err (Lacks name)
+file_within name limit (Some bytes) = if nat_le (length bytes) limit then Ok bytes else Err (refuses_at_once name reason.TooLarge)
 
 abbrev pub file_of : Folder → List ℕ → ℕ → Result (List ℕ) CommandStop
-file_of folder name limit = bytes_or_stop name (found_file folder name limit)
+file_of folder name limit = file_within name limit (get folder name)
 
 -- why a file is refused, as it is printed
 abbrev pub reason_text : Reason → List ℕ

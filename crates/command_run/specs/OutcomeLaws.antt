@@ -1,5 +1,5 @@
 -- What follows from an outcome by computing, which crates above need too.
-use Rattle.std.specs.Prelude.{◌≡◌, ℕ, List, [], length, option_map, Option, Some, None, IfSome, Result, Ok, Err, IfErr}
+use Rattle.std.specs.Prelude.{◌≡◌, ℕ, List, [], length, option_map, Option, Some, None, IfSome, Result, Ok, Err, IfErr, false}
 use Rattle.std.specs.Io.KnownBytes.{append_known}
 use Rattle.std.proofs.Common.{refl, sym, ap, subst, ◌∙◌}
 use Rattle.std.proofs.Math.Seq.{take-length}
@@ -11,7 +11,7 @@ use Rattle.command_run.specs.declared.refusal.StopCause.{StopCause}
 use Rattle.command_run.specs.declared.refusal.StopCause.TheVariants as refusal
 use Rattle.command_run.specs.Call.{LeavesFiles, MakesWholeFiles, MakesWorkFiles, PrintsText, StopsAsCause, TellsOutcome}
 use Rattle.command_run.specs.FileLaws.{same_changes}
-use Rattle.command_run.specs.Outcome.{CommandOutcome, CommandStop, and_then, no_work_done, writes_of}
+use Rattle.command_run.specs.Outcome.{CommandOutcome, CommandStop, and_then, writes_of}
 
 -- ---- values of results
 
@@ -44,7 +44,7 @@ stops_before_next r next refusal.NoMemory is = tt
 
 -- a refusal that a command stops at tells its outcome, and no file was to be made
 pub stops_tell_outcome : (o : CommandOutcome) (e : StopCause) → StopsAsCause o e → TellsOutcome o (Err e)
-stops_tell_outcome o (refusal.Refused file why) is = (no_work_done, is, refl)
+stops_tell_outcome o (refusal.Refused file why) is = (record { text = []; writes = []; diverged = false }, is, refl)
 stops_tell_outcome o (refusal.Absent file) is = is
 stops_tell_outcome o refusal.ReadFault is = tt
 stops_tell_outcome o refusal.WriteFault is = tt

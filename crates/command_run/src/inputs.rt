@@ -4,9 +4,10 @@ ghost use Rattle.lamport_tag.specs.Limits.{most_processes};
 ghost use Rattle.fri_outside.specs.Outside.{WhenTold, Counts};
 ghost use Rattle.wasm_types.specs.Modules.{module_of as shown};
 ghost use Rattle.wasm_decode.specs.Sections.{module_of_bytes};
-ghost use Rattle.command_run.specs.Outcome.{and_then, file_of};
+ghost use Rattle.command_run.specs.declared.refusal.Reason.TheVariants as reason;
+ghost use Rattle.command_run.specs.Outcome.{and_then, file_of, some_or_refused};
 ghost use Rattle.guest_process.specs.EventCount.{IsFresh};
-ghost use Rattle.command_run.specs.Inputs.{first_state_of, module_in, spelled_module, valid_module};
+ghost use Rattle.command_run.specs.Inputs.{first_state_of, module_in, valid_module};
 ghost use Rattle.command_run.specs.Call.{CountsFaults, RaisesCount, TellsResult, reads_after, writes_after};
 
 use crate::refusal::{Reason, StopCause};
@@ -22,6 +23,7 @@ use wasm_validate::{Invalid, validate};
 const MOST_MODULE: usize = 4_194_304;
 
 /// All bytes of a file, within its limit.
+#[tactic(auto, using(crate::proofs::FoundFiles::held_file, crate::proofs::FoundFiles::missing_file, crate::proofs::FoundFiles::large_file))]
 pub fn take_file<F: Files>(
     alloc: Global,
     name: &str,
@@ -45,7 +47,7 @@ pub fn take_file<F: Files>(
 
 // The module that the bytes of a file spell.
 fn spelled(alloc: Global, name: &str, bytes: &[u8]) -> Result<Module, StopCause>
-    ensures answer { TellsResult shown (spelled_module name.now (module_of_bytes bytes.now)) result }
+    ensures answer { TellsResult shown (some_or_refused name.now reason.Malformed (module_of_bytes bytes.now)) result }
     ensures cause { (old new : Counts) → IfErr result (RaisesCount old new) }
     ensures still { (n : ℕ) → (reads_after n result ≡ n) × (writes_after n result ≡ n) }
 {
@@ -77,7 +79,7 @@ fn valid(alloc: Global, name: &str, module: Module) -> Result<ValidModule, StopC
 
 // The valid module that the bytes of a file spell.
 fn read_module(alloc: Global, name: &str, bytes: &[u8]) -> Result<ValidModule, StopCause>
-    ensures answer { TellsResult shown (and_then (spelled_module name.now (module_of_bytes bytes.now)) (valid_module name.now)) result }
+    ensures answer { TellsResult shown (and_then (some_or_refused name.now reason.Malformed (module_of_bytes bytes.now)) (valid_module name.now)) result }
     ensures cause { (old new : Counts) → IfErr result (RaisesCount old new) }
     ensures still { (n : ℕ) → (reads_after n result ≡ n) × (writes_after n result ≡ n) }
 {

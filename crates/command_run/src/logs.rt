@@ -4,9 +4,9 @@ ghost use Rattle.fri_outside.specs.Outside.{WhenTold, Counts};
 ghost use Rattle.call_log.specs.Head.{IsHead, head_bytes};
 ghost use Rattle.call_log.specs.Limits.{most_log};
 ghost use Rattle.call_log.specs.Log.{head_at};
+ghost use Rattle.command_run.specs.declared.refusal.Reason.TheVariants as reason;
 ghost use Rattle.command_run.specs.Call.{CountsFaults, RaisesCount, TellsResult, reads_after, writes_after};
-ghost use Rattle.command_run.specs.Outcome.{file_of};
-ghost use Rattle.command_run.specs.Logs.{log_or_bad_head};
+ghost use Rattle.command_run.specs.Outcome.{file_of, some_or_refused};
 
 use crate::inputs::take_file;
 use crate::refusal::{Reason, StopCause};
@@ -29,7 +29,7 @@ pub fn take_log<F: Files>(alloc: Global, name: &str, files: &mut F) -> Result<Ve
 pub fn begin_log(alloc: Global, name: &str, bytes: Vec<u8>) -> Result<LogBuf, StopCause>
     ensures head { IfOk result (λ log. IsHead log.head) }
     ensures spelled { IfOk result (λ log. bytes.items ≡ head_bytes log.head ++ log.left.bytes) }
-    ensures answer { TellsResult (λ log. (log.head, log.left)) (log_or_bad_head name.now (head_at bytes.items)) result }
+    ensures answer { TellsResult (λ log. (log.head, log.left)) (some_or_refused name.now reason.BadHead (head_at bytes.items)) result }
     ensures cause { (old new : Counts) → IfErr result (RaisesCount old new) }
     ensures still { (n : ℕ) → (reads_after n result ≡ n) × (writes_after n result ≡ n) }
 {

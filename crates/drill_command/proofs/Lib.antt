@@ -1,3 +1,4 @@
+pub mod FewerRounds
 pub mod ProcessesBegin
 pub mod Instructions
 pub mod DrillOutcome

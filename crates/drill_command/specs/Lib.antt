@@ -1,4 +1,5 @@
 pub mod Ring
 pub mod Rounds
 pub mod Drill
+pub mod Laws
 pub mod inside

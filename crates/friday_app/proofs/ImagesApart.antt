@@ -1,6 +1,6 @@
 -- No file that a recording names or makes has the name of an image of a replay.
 use Rattle.std.proofs.Common.{◌≡◌, ◌⊎◌, ◌∙◌, ◌<◌, ◌-◌, ℕ, zero, suc, Bool, true, false, List, [], ◌∷◌, ◌++◌, length, drop, map, ap, arith, inl, inr, refl, subst, sym}
-use Rattle.std.specs.Prelude.{Contains, slice_index_or}
+use Rattle.std.specs.Prelude.{Contains, slice_index_or, if◌then◌else◌}
 use Rattle.std.specs.List.{AllByRecursion}
 use Rattle.std.proofs.Math.Seq.{drop-append_seam}
 use Rattle.std.proofs.lemmas.List.{length-append}
@@ -9,9 +9,9 @@ use Rattle.schedule_text.specs.Schedule.{IsWellFormed, Schedule}
 use Rattle.group_record.specs.Logs.{log_name}
 use Rattle.log_pairs.specs.Pairs.{names_of_pairs}
 use Rattle.record_command.specs.Expected.{module_name}
-use Rattle.headline.specs.Headline.{ImagesApart}
 use Rattle.headline.specs.Shown.{RecordedRun, recorded_images}
 use Rattle.friday_app.specs.TwoCalls.{pairs_of_processes}
+use Rattle.command_run.specs.Apart.{AreApart}
 use Rattle.friday_app.proofs.LeftByRecording.{module_is_not_made, module_named}
 
 -- ---- the name of an image
@@ -62,8 +62,8 @@ each_of P (first ∷ names) name all (zero, below, at) = subst P at all.0
 each_of P (first ∷ names) name all (suc k, below, at) = each_of P names name all.1 (k, omega (arith, below), at)
 
 pub images_apart : (images : Bool) (run : RecordedRun) (sorted : List ℕ) (schedule : Schedule) → IsWellFormed schedule → (ps : List ℕ) → AllByRecursion (λ p. p < length schedule.processes) ps
-    → ImagesApart images run sorted (pairs_of_processes schedule ps)
-images_apart false run sorted schedule formed ps below = tt
+    → AreApart (names_of_pairs (pairs_of_processes schedule ps)) (map (λ file. file.0) (if images then recorded_images run sorted else []))
+images_apart false run sorted schedule formed ps below = λ name here there. absurd (omega (arith, there.1.0))
 images_apart true run sorted schedule formed ps below = λ name here there.
     each_of NoImage (names_of_pairs (pairs_of_processes schedule ps)) name (no_images schedule formed ps below) here
     (each_of IsImage (map (λ file. file.0) (recorded_images run sorted)) name (are_images run sorted) there)

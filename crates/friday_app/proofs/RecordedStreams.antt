@@ -1,7 +1,7 @@
 -- Of a recording no datagram is stranger to the streams where it is taken than where it was sent.
 use Rattle.std.proofs.Common.{◌≡◌, ◌∙◌, ◌⊎◌, ◌<◌, ◌≤◌, ◌+◌, ◌++◌, ℕ, zero, suc, Bool, true, false, cond, List, [], ◌∷◌, length, map, take, Option, Some, None, ap, arith, append_assoc, inl, inr, refl, subst, sym}
 use Rattle.std.specs.Prelude.{◌==◌, ◌&&◌, ◌||◌, nat_lt, filter, reverse, slice_get}
-use Rattle.std.specs.List.{AllByRecursion, flat_map, range_with_len, slice_index_or}
+use Rattle.std.specs.List.{AllByRecursion, flat_map, range_with_len, slice_index_or, AllZip, list_any}
 use Rattle.std.proofs.lemmas.Bool.{cases_lt, eq-eqb, eqb-true}
 use Rattle.std.proofs.lemmas.Bool.Decides.{nat_tests}
 use Rattle.std.proofs.lemmas.Grind.{flat_map-append}
@@ -17,10 +17,11 @@ use Rattle.group_state.specs.Place.{entry_clock, events_of_replays, group_count}
 use Rattle.proc_replay.specs.Replaying.{Replaying}
 use Rattle.byte_streams.specs.Laws.{IsTakenOf, IsUnsent, StrangeBySend, is_send_at}
 use Rattle.byte_streams.specs.Traffic.{Sent, SendOrReceive, mark_of_receive}
-use Rattle.headline.specs.Headline.{is_among, sorted_of}
-use Rattle.headline.specs.Shown.{AreShown, FromOutside, FromSend, RecordedRun}
+use Rattle.headline.specs.Headline.{sorted_of}
+use Rattle.headline.specs.Shown.{FromOutside, FromSend, RecordedRun, ShowsProcess}
 use Rattle.streams_command.specs.Streams.{process_at, received_traffic, traffic_by, traffic_of_events, traffic_of_event}
-use Rattle.friday_app.specs.Streams.{RecordedStreams, receiving_of, sending_of, tag_of, traffic_before}
+use Rattle.streams_command.specs.Positions.{traffic_before}
+use Rattle.friday_app.specs.Streams.{RecordedStreams, receiving_of, sending_of, tag_of}
 
 and_false : (b : Bool) → (b && false) ≡ false
 and_false true = refl
@@ -113,7 +114,7 @@ filter_ascends test a (suc n) = by_test (test a) (filter_above a test (a + 1) n 
   by_test false above rest = rest
 
 sorted_ascend : (count : ℕ) (ps : List ℕ) → Ascend (sorted_of count ps)
-sorted_ascend count ps = filter_ascends (is_among ps) 0 count
+sorted_ascend count ps = filter_ascends (λ p. list_any (λ q. q == p) ps) 0 count
 
 -- a number after the first is above it
 above_first : (first : ℕ) (ps : List ℕ) → AllByRecursion (λ q. first < q) ps → (node : ℕ) → node < length ps → first < slice_index_or ps node 0
@@ -189,14 +190,14 @@ split_traffic f front mid e t is =
 -- ---- the recording
 
 module _ (strange : StrangeBySend) where
-  processes_are : (run : RecordedRun) (cut : ℕ → List ℕ) (ps : List ℕ) (rs : List Replaying) → AreShown run cut ps rs → map (λ (r : Replaying). r.head.process) rs ≡ ps
+  processes_are : (run : RecordedRun) (cut : ℕ → List ℕ) (ps : List ℕ) (rs : List Replaying) → AllZip (ShowsProcess run cut) ps rs → map (λ (r : Replaying). r.head.process) rs ≡ ps
   processes_are run cut [] [] each = refl
   processes_are run cut (p ∷ ps) (r ∷ rs) each =
       ap (λ (h : Head). h.process ∷ map (λ (r : Replaying). r.head.process) rs) each.0.head ∙ ap (λ (qs : List ℕ). p ∷ qs) (processes_are run cut ps rs each.1)
   processes_are run cut [] (r ∷ rs) each = absurd each
   processes_are run cut (p ∷ ps) [] each = absurd each
 
-  count_is : (run : RecordedRun) (cut : ℕ → List ℕ) (ps : List ℕ) (rs : List Replaying) → AreShown run cut ps rs → (node p : ℕ) → slice_get ps node ≡ Some p → group_count rs ≡ processes_in_group run.group
+  count_is : (run : RecordedRun) (cut : ℕ → List ℕ) (ps : List ℕ) (rs : List Replaying) → AllZip (ShowsProcess run cut) ps rs → (node p : ℕ) → slice_get ps node ≡ Some p → group_count rs ≡ processes_in_group run.group
   count_is run cut [] rs each node p at = cc
   count_is run cut (q ∷ ps) [] each node p at = absurd each
   count_is run cut (q ∷ ps) (r ∷ rs) each node p at = ap (λ (h : Head). h.count) each.0.head

@@ -3,7 +3,7 @@ use Rattle.std.proofs.Common.{◌≡◌, ◌∙◌, ◌<◌, ℕ, Bool, List, []
 use Rattle.std.specs.Prelude.{option_and_then}
 use Rattle.std.specs.Io.KnownBytes.{append_known}
 use Rattle.std.specs.FinMap.{get}
-use Rattle.std.specs.List.{AllByRecursion}
+use Rattle.std.specs.List.{AllByRecursion, AllZip}
 use Rattle.std.proofs.lemmas.List.{length-map}
 use Rattle.fri_outside.specs.Outside.{Folder}
 use Rattle.fri_outside.specs.Several.{with_files}
@@ -26,7 +26,7 @@ use Rattle.friday_app.specs.Command.{Command, Debug, Record, Replay}
 use Rattle.friday_app.specs.Expected.{expected}
 use Rattle.friday_app.specs.Run.{CommandRun}
 use Rattle.friday_app.specs.TwoCalls.{HasOutcome, ShowsRecorded, ShowsThese, pairs_of_processes, printed_by}
-use Rattle.headline.specs.Headline.{AreHeld, AreProcesses, ShowsSteps, logs_in, run_to, sorted_of}
+use Rattle.headline.specs.Headline.{AreProcesses, ShowsSteps, logs_in, run_to, sorted_of, HoldsPair}
 use Rattle.headline.specs.Shown.{no_cut, recorded_report}
 use Rattle.friday_app.proofs.ImagesApart.{images_apart}
 use Rattle.friday_app.proofs.LeftByRecording.{IsDone, is_done, module_not_written, schedule_formed}
@@ -68,7 +68,7 @@ recorded gives images before name r old middle is run =
 
 -- the folder then has the files of each process
 has_all : (images : Bool) {before : Folder} {name : List ℕ} (r : IsRecordable before name) (old middle : Outside) (rec : Recorded images r old middle) (ps : List ℕ) → AllByRecursion (λ p. p < processes_in_group (group_in r)) ps
-    → AreHeld r (logs_in (group_in r) rec.folder) rec.folder ps (pairs_of_processes r.schedule ps)
+    → AllZip (HoldsPair r (logs_in (group_in r) rec.folder) rec.folder) ps (pairs_of_processes r.schedule ps)
 has_all images r old middle rec [] below = tt
 has_all images r old middle rec (p ∷ ps) below = (record { «module» = rec.modules p below.0; log = refl }, has_all images r old middle rec ps below.1)
 

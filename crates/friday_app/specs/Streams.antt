@@ -1,5 +1,5 @@
 -- What `streams` says of the logs of a recording.
-use Rattle.std.specs.Prelude.{◌≡◌, ◌≢◌, ◌<◌, ◌≤◌, ℕ, IsTrue, List, take, slice_get, Some}
+use Rattle.std.specs.Prelude.{◌≡◌, ◌≢◌, ◌<◌, ◌≤◌, ℕ, IsTrue, List, slice_get, Some}
 use Rattle.fri_outside.specs.Outside.{Folder}
 use Rattle.lamport_tag.specs.declared.Tag.{Tag}
 use Rattle.lib_calls.specs.Traffic.{is_taken}
@@ -11,11 +11,11 @@ use Rattle.group_state.specs.Tally.{AcceptedEvent}
 use Rattle.proc_replay.specs.Replaying.{Replaying}
 use Rattle.log_pairs.specs.Pairs.{Pair}
 use Rattle.byte_streams.specs.declared.mark.PayloadMark.TheVariants.{Strange}
-use Rattle.byte_streams.specs.Traffic.{ReceivedPayload, SentPayload, SendOrReceive, mark_of_receive, mark_of_send}
+use Rattle.byte_streams.specs.Traffic.{ReceivedPayload, SentPayload, mark_of_receive, mark_of_send}
 use Rattle.headline.specs.Headline.{IsShown, sorted_of}
 use Rattle.headline.specs.Shown.{FromOutside, FromSend, ReceivedDatagram, RecordedRun}
 use Rattle.lamport_tag.specs.Limits.{most_clock}
-use Rattle.streams_command.specs.Streams.{traffic_of_events}
+use Rattle.streams_command.specs.Positions.{traffic_before}
 
 -- what process q sent by this event
 abbrev pub sending_of : ℕ → Entry → SentPayload
@@ -28,10 +28,6 @@ tag_of q e = record { sender = q; clock = e.clock }
 -- what process p took by this event, after this tag
 abbrev pub receiving_of : ℕ → Tag → Entry → ReceivedPayload
 receiving_of p tag e = record { by = p; tag = tag; payload = e.incoming }
-
--- the sends and receives of the first k events
-abbrev pub traffic_before : List Replaying → ℕ → List SendOrReceive
-traffic_before start k = traffic_of_events start (take k (events_of_replays start))
 
 -- The send, an event of a node, comes before place j of the order. There what it sent was taken, under its name; and to the
 -- streams this is not strange, unless the send is.

@@ -1,6 +1,6 @@
 -- What a recording leaves is shown.
 use Rattle.std.proofs.Common.{◌⊎◌, ◌∙◌, ◌<◌, ℕ, List, [], ◌∷◌, Some, ap, append-nil, inl, inr, refl, subst, sym}
-use Rattle.std.specs.List.{AllByRecursion}
+use Rattle.std.specs.List.{AllByRecursion, AllZip}
 use Rattle.fri_outside.specs.Outside.{Folder}
 use Rattle.group_record.specs.Run.{IsMoment, RunStep, log_of, processes_in_group}
 use Rattle.record_command.specs.Agreement.{IsAtMomentOfRun, IsStoppedInHeads, IsRecordable, LeavesTruncatedLogs, IsPartialEntry, Nothing, group_in, steps_in}
@@ -9,7 +9,7 @@ use Rattle.record_command.specs.Expected.{KeepsSchedule}
 use Rattle.record_command.specs.ExpectedLaws.{done_is_kept}
 use Rattle.record_command.specs.Laws.{RecordingsLeaveLogs, RecordingsStand}
 use Rattle.log_pairs.specs.Pairs.{Pair}
-use Rattle.headline.specs.Headline.{AreHeld, Headline, LeftIsShown, ShowsMoment, ShowsSteps, logs_in, logs_of_run, run_to}
+use Rattle.headline.specs.Headline.{Headline, LeftIsShown, ShowsMoment, ShowsSteps, logs_in, logs_of_run, run_to, HoldsPair}
 use Rattle.headline.specs.Shown.{no_cut}
 
 module _ {before : Folder} {name : List ℕ} (r : IsRecordable before name) (steps : List RunStep) (cut : ℕ → List ℕ) (after folder : Folder) where
@@ -17,7 +17,7 @@ module _ {before : Folder} {name : List ℕ} (r : IsRecordable before name) (ste
   Below ps = AllByRecursion (λ p. p < processes_in_group (group_in r)) ps
 
   -- a folder that has the logs that were left has those of the run
-  holds : LeavesTruncatedLogs (group_in r) steps cut after → (ps : List ℕ) (pairs : List Pair) → Below ps → AreHeld r (logs_in (group_in r) after) folder ps pairs → AreHeld r (logs_of_run (run_to r steps) cut) folder ps pairs
+  holds : LeavesTruncatedLogs (group_in r) steps cut after → (ps : List ℕ) (pairs : List Pair) → Below ps → AllZip (HoldsPair r (logs_in (group_in r) after) folder) ps pairs → AllZip (HoldsPair r (logs_of_run (run_to r steps) cut) folder) ps pairs
   holds left [] [] below has = tt
   holds left (p ∷ ps) (pair ∷ pairs) below has = (record { «module» = has.0.«module»; log = has.0.log ∙ left p below.0 }, holds left ps pairs below.1 has.1)
   holds left [] (pair ∷ pairs) below has = absurd has

@@ -16,11 +16,11 @@ use Rattle.guest_process.specs.State.{State}
 use Rattle.proc_replay.specs.Replaying.{Replaying}
 use Rattle.command_run.specs.declared.refusal.Reason.{Reason}
 use Rattle.command_run.specs.declared.refusal.Reason.TheVariants as reason
-use Rattle.command_run.specs.Inputs.{module_in, state_or_bad_segment}
+use Rattle.command_run.specs.Inputs.{module_in}
 use Rattle.command_run.specs.Laws.{ReadsModules}
-use Rattle.command_run.specs.Outcome.{CommandStop, and_then}
-use Rattle.command_run.specs.Logs.{log_in, log_or_bad_head}
-use Rattle.log_pairs.specs.Pairs.{Loaded, Pair, clash_of_logs, has_name, has_process, is_other_group, loaded_pair, loaded_pairs, replay_of_log, replays_of, unless_clash}
+use Rattle.command_run.specs.Outcome.{CommandStop, and_then, some_or_refused, unless_refused}
+use Rattle.command_run.specs.Logs.{log_in}
+use Rattle.log_pairs.specs.Pairs.{Loaded, Pair, clash_of_logs, has_name, has_process, is_other_group, loaded_pair, loaded_pairs, replay_of_log, replays_of}
 use Rattle.log_pairs.specs.Valid.{AreOfOneGroup}
 
 -- ---- a log that clashes with none before it
@@ -75,14 +75,14 @@ loaded_of {pair = pair} {r = r} s = record { module_name = pair.module_name; «m
 loads : (folder : Folder) (earlier : List Loaded) (pair : Pair) (r : Replaying) → (s : PairStands folder pair r) → GoWith earlier r.head → loaded_pair folder earlier pair ≡ Ok (loaded_of s)
 loads folder earlier pair r s goes =
     ap (λ (m : Result Module CommandStop). and_then m (λ m. and_then (log_in folder pair.log_name) (λ log.
-    unless_clash pair.log_name (record { module_name = pair.module_name; «module» = m; head = log.0; left = log.1 }) (clash_of_logs earlier log.0)))) s.reads
+    unless_refused pair.log_name (record { module_name = pair.module_name; «module» = m; head = log.0; left = log.1 }) (clash_of_logs earlier log.0)))) s.reads
     ∙ ap (λ (log : Result (Head × Unread) CommandStop). and_then log (λ log.
-    unless_clash pair.log_name (record { module_name = pair.module_name; «module» = s.«module»; head = log.0; left = log.1 }) (clash_of_logs earlier log.0))) s.log
-    ∙ ap (unless_clash pair.log_name (loaded_of s)) (clashes_not earlier r.head goes)
+    unless_refused pair.log_name (record { module_name = pair.module_name; «module» = s.«module»; head = log.0; left = log.1 }) (clash_of_logs earlier log.0))) s.log
+    ∙ ap (unless_refused pair.log_name (loaded_of s)) (clashes_not earlier r.head goes)
 
 begins : (folder : Folder) (pair : Pair) (r : Replaying) → (s : PairStands folder pair r) → replay_of_log (loaded_of s) ≡ Ok r
 begins folder pair r s =
-    ap (λ (o : Option State). and_then (state_or_bad_segment pair.module_name o) (λ begun. Ok (record { head = r.head; state = begun; left = r.left }))) s.begins
+    ap (λ (o : Option State). and_then (some_or_refused pair.module_name reason.BadSegment o) (λ begun. Ok (record { head = r.head; state = begun; left = r.left }))) s.begins
 
 -- ---- all pairs
 
@@ -142,5 +142,5 @@ opened folder pairs rs stand together = opened_from folder [] pairs rs stand tog
 pub log_stands : ReadsModules → (folder : Folder) (name bytes : List ℕ) (head : Head) (left : Unread) → get folder name ≡ Some bytes → length bytes ≤ most_log → head_at bytes ≡ Some (head, left)
     → log_in folder name ≡ Ok (head, left)
 log_stands reads folder name bytes head left held within is =
-    ap (λ (r : Result (List ℕ) CommandStop). and_then r (λ bytes. log_or_bad_head name (head_at bytes))) (reads.files folder name most_log bytes (record { held = held; within = within }))
-    ∙ ap (log_or_bad_head name) is
+    ap (λ (r : Result (List ℕ) CommandStop). and_then r (λ bytes. some_or_refused name reason.BadHead (head_at bytes))) (reads.files folder name most_log bytes (record { held = held; within = within }))
+    ∙ ap (some_or_refused name reason.BadHead) is

@@ -1,9 +1,9 @@
 -- A recording's group, and each of its processes: its module, its first state, and its log.
-use Rattle.std.proofs.Common.{◌≡◌, ◌≢◌, ◌⊎◌, ◌∙◌, ◌<◌, ◌+◌, ℕ, zero, suc, List, [], ◌∷◌, ◌++◌, length, map, slice_get, Option, Some, None, Result, Ok, Err, inl, inr, ap, arith, refl, subst, sym}
-use Rattle.std.specs.Prelude.{All, AllPairs, slice_index_or}
+use Rattle.std.proofs.Common.{◌≡◌, ◌≢◌, ◌⊎◌, ◌∙◌, ◌<◌, ◌+◌, ℕ, zero, suc, List, [], ◌∷◌, ◌++◌, length, map, slice_get, Option, Some, None, Result, Ok, Err, inl, inr, ap, arith, refl, subst, sym, Bool, true, false, cond}
+use Rattle.std.specs.Prelude.{All, AllPairs, slice_index_or, nat_le}
 use Rattle.std.specs.FinMap.{get}
 use Rattle.std.proofs.lemmas.List.{length-map}
-use Rattle.fri_outside.specs.Outside.{Folder, FoundFile, Held, Missing, Over, found_file, found_within}
+use Rattle.fri_outside.specs.Outside.{Folder}
 use Rattle.wasm_types.specs.Modules.{Module}
 use Rattle.guest_module.specs.Valid.{IsValid}
 use Rattle.wasm_decode.specs.Sections.{module_of_bytes}
@@ -18,12 +18,13 @@ use Rattle.group_record.specs.Answer.{first_states_from, group_of, with_first_st
 use Rattle.group_record.specs.Laws.{Beginning, IsBegun}
 use Rattle.group_record.specs.Logs.{IsLogWithTail}
 use Rattle.group_record.specs.Run.{GroupStart, RunStep, head_of_log, log_of, name_of_process, processes_in_group}
+use Rattle.command_run.specs.declared.refusal.Reason.TheVariants as reason
 use Rattle.command_run.specs.declared.refusal.Reason.{Reason}
 use Rattle.command_run.specs.Fault.{fault_of}
-use Rattle.command_run.specs.Inputs.{module_in, module_unless_refused, spelled_module, valid_module}
+use Rattle.command_run.specs.Inputs.{module_in, valid_module}
 use Rattle.command_run.specs.Laws.{ReadsModules}
 use Rattle.command_run.specs.Limits.{most_module}
-use Rattle.command_run.specs.Outcome.{CommandStop, and_then, bytes_or_stop, file_of}
+use Rattle.command_run.specs.Outcome.{CommandStop, and_then, file_of, some_or_refused, unless_refused, file_within, refuses_at_once}
 use Rattle.command_run.specs.OutcomeLaws.{result_follows, same_Ok_value, ok_value_or}
 use Rattle.log_pairs.specs.Pairs.{Pair}
 use Rattle.log_pairs.specs.Valid.{AreOfOneGroup}
@@ -146,26 +147,33 @@ begins_in {folder} r p S at =
 
 -- ---- its pair, in a folder that holds it
 
-valid_again : (name other : List ℕ) (x m : Module) (why : Option Reason) → module_unless_refused name x why ≡ Ok m → module_unless_refused other x why ≡ Ok m
+valid_again : (name other : List ℕ) (x m : Module) (why : Option Reason) → unless_refused name x why ≡ Ok m → unless_refused other x why ≡ Ok m
 valid_again name other x m None is = is
 valid_again name other x m (Some why) is = cc
 
-spelled_again : (name other : List ℕ) (o : Option Module) (m : Module) → and_then (spelled_module name o) (valid_module name) ≡ Ok m → and_then (spelled_module other o) (valid_module other) ≡ Ok m
+spelled_again : (name other : List ℕ) (o : Option Module) (m : Module) → and_then (some_or_refused name reason.Malformed o) (valid_module name) ≡ Ok m → and_then (some_or_refused other reason.Malformed o) (valid_module other) ≡ Ok m
 spelled_again name other None m is = cc
 spelled_again name other (Some x) m is = valid_again name other x m (fault_of x) is
 
-abbrev module_by : List ℕ → FoundFile → Result Module CommandStop
-module_by name file = and_then (bytes_or_stop name file) (λ bytes. and_then (spelled_module name (module_of_bytes bytes)) (valid_module name))
+abbrev module_by : List ℕ → Option (List ℕ) → Result Module CommandStop
+module_by name file = and_then (file_within name most_module file) (λ bytes. and_then (some_or_refused name reason.Malformed (module_of_bytes bytes)) (valid_module name))
 
-found_again : (name other : List ℕ) (file : FoundFile) (m : Module) → module_by name file ≡ Ok m → module_by other file ≡ Ok m
-found_again name other Missing m is = cc
-found_again name other Over m is = cc
-found_again name other (Held bytes) m is = spelled_again name other (module_of_bytes bytes) m is
+abbrev module_if : List ℕ → List ℕ → Bool → Result Module CommandStop
+module_if name bytes fits =
+    and_then (cond fits (Ok bytes) (Err (refuses_at_once name reason.TooLarge))) (λ bytes. and_then (some_or_refused name reason.Malformed (module_of_bytes bytes)) (valid_module name))
+
+fitting_again : (name other bytes : List ℕ) (fits : Bool) (m : Module) → module_if name bytes fits ≡ Ok m → module_if other bytes fits ≡ Ok m
+fitting_again name other bytes true m is = spelled_again name other (module_of_bytes bytes) m is
+fitting_again name other bytes false m is = cc
+
+found_again : (name other : List ℕ) (file : Option (List ℕ)) (m : Module) → module_by name file ≡ Ok m → module_by other file ≡ Ok m
+found_again name other None m is = cc
+found_again name other (Some bytes) m is = fitting_again name other bytes (nat_le (length bytes) most_module) m is
 
 -- what is a module under one name is that module under another
 same_module : (before folder : Folder) (name other : List ℕ) (m : Module) → module_in before name ≡ Ok m → get folder other ≡ get before name → module_in folder other ≡ Ok m
 same_module before folder name other m is same =
-    ap (λ (held : Option (List ℕ)). module_by other (found_within most_module held)) same ∙ found_again name other (found_file before name most_module) m is
+    ap (module_by other) same ∙ found_again name other (get before name) m is
 
 pub pair_stands : ReadsModules → {before : Folder} {name : List ℕ} (r : IsRecordable before name) (steps : List RunStep) (cut : ℕ → List ℕ) (folder : Folder) (p : ℕ) (pair : Pair)
     → HoldsPair r (logs_of_run (run_to r steps) cut) folder p pair → (t : IsLogWithTail (group_in r) steps p (cut p)) → PairStands folder pair (replay_of (run_to r steps) cut p t)

@@ -1,6 +1,7 @@
 -- The order of recorded events, and the group at each of its positions.
 use Rattle.std.proofs.Common.{◌≡◌, ◌≢◌, ◌⊎◌, ◌∙◌, ◌≤◌, ◌+◌, ℕ, zero, suc, Bool, true, false, cond, eqb, inl, inr, List, [], ◌∷◌, length, map, take, slice_get, Some, ap, arith, refl, subst, sym}
 use Rattle.std.specs.Prelude.{◌==◌, filter}
+use Rattle.std.specs.List.{AllZip}
 use Rattle.std.proofs.lemmas.Bool.{eqb-true}
 use Rattle.std.proofs.lemmas.Bool.Decides.{eqb_tells}
 use Rattle.std.proofs.lemmas.Option.{same_Some}
@@ -12,7 +13,7 @@ use Rattle.guest_process.specs.State.{State}
 use Rattle.group_record.specs.Run.{RunStep, entries_of_steps}
 use Rattle.group_state.specs.Laws.{Ordered}
 use Rattle.group_state.specs.Place.{ReplaysFit, after_entries, entry_clock, events_of_replays, node_event_count, states_of_nodes, states_from}
-use Rattle.headline.specs.Shown.{AreRecordedAt, AreShown, RecordedRun, ShowsProcess}
+use Rattle.headline.specs.Shown.{AreRecordedAt, RecordedRun, ShowsProcess}
 
 -- ---- the replay of a process
 
@@ -21,7 +22,7 @@ pub record Node (run : RecordedRun) (cut : ℕ → List ℕ) (start : List Repla
   pub at : slice_get start node ≡ Some replay
   pub shows : ShowsProcess run cut p replay
 
-pub node_at : (run : RecordedRun) (cut : ℕ → List ℕ) (ps : List ℕ) (rs : List Replaying) → AreShown run cut ps rs → (node p : ℕ) → slice_get ps node ≡ Some p → Node run cut rs node p
+pub node_at : (run : RecordedRun) (cut : ℕ → List ℕ) (ps : List ℕ) (rs : List Replaying) → AllZip (ShowsProcess run cut) ps rs → (node p : ℕ) → slice_get ps node ≡ Some p → Node run cut rs node p
 node_at run cut [] [] shown node p at = cc
 node_at run cut (q ∷ ps) (r ∷ rs) shown zero p at =
     record { replay = r; at = refl; shows = subst (λ (n : ℕ). ShowsProcess run cut n r) (same_Some q p at) shown.0 }
@@ -30,7 +31,7 @@ node_at run cut (q ∷ ps) (r ∷ rs) shown (suc node) p at =
 node_at run cut [] (r ∷ rs) shown node p at = absurd shown
 node_at run cut (q ∷ ps) [] shown node p at = absurd shown
 
-pub aheads : (run : RecordedRun) (cut : ℕ → List ℕ) (ps : List ℕ) (rs : List Replaying) → AreShown run cut ps rs → map entries_ahead rs ≡ map (entries_of_steps run.steps) ps
+pub aheads : (run : RecordedRun) (cut : ℕ → List ℕ) (ps : List ℕ) (rs : List Replaying) → AllZip (ShowsProcess run cut) ps rs → map entries_ahead rs ≡ map (entries_of_steps run.steps) ps
 aheads run cut [] [] shown = refl
 aheads run cut (p ∷ ps) (r ∷ rs) shown =
     ap (λ (es : List Entry). es ∷ map entries_ahead rs) shown.0.accepted ∙ ap (λ (lists : List (List Entry)). entries_of_steps run.steps p ∷ lists) (aheads run cut ps rs shown.1)
@@ -77,13 +78,13 @@ states_count : (a : ℕ) (rs : List Replaying) (es : List (NodeEvent Entry)) →
 states_count a [] es = refl
 states_count a (r ∷ rs) es = ap suc (states_count (suc a) rs es)
 
-shown_count : (run : RecordedRun) (cut : ℕ → List ℕ) (ps : List ℕ) (rs : List Replaying) → AreShown run cut ps rs → length rs ≡ length ps
+shown_count : (run : RecordedRun) (cut : ℕ → List ℕ) (ps : List ℕ) (rs : List Replaying) → AllZip (ShowsProcess run cut) ps rs → length rs ≡ length ps
 shown_count run cut [] [] shown = refl
 shown_count run cut (p ∷ ps) (r ∷ rs) shown = ap suc (shown_count run cut ps rs shown.1)
 shown_count run cut [] (r ∷ rs) shown = absurd shown
 shown_count run cut (p ∷ ps) [] shown = absurd shown
 
-pub are_recorded : (run : RecordedRun) (cut : ℕ → List ℕ) (ps : List ℕ) (start : List Replaying) → AreShown run cut ps start → IsOrder entry_clock (map (entries_of_steps run.steps) ps) (events_of_replays start)
+pub are_recorded : (run : RecordedRun) (cut : ℕ → List ℕ) (ps : List ℕ) (start : List Replaying) → AllZip (ShowsProcess run cut) ps start → IsOrder entry_clock (map (entries_of_steps run.steps) ps) (events_of_replays start)
     → (k : ℕ) → AreRecordedAt run ps (events_of_replays start) k (states_of_nodes start k)
 are_recorded run cut ps start shown order k = record {
   count = states_count 0 start (take k (events_of_replays start)) ∙ shown_count run cut ps start shown;
@@ -168,7 +169,7 @@ own_of (x ∷ es) j node e at = by_test (λ j here. own_of es j node e here) (x.
 
 -- ---- the order is that of the recorded events
 
-pub order_is : Ordered → (run : RecordedRun) (cut : ℕ → List ℕ) (ps : List ℕ) (start : List Replaying) → ReplaysFit start → AreShown run cut ps start
+pub order_is : Ordered → (run : RecordedRun) (cut : ℕ → List ℕ) (ps : List ℕ) (start : List Replaying) → ReplaysFit start → AllZip (ShowsProcess run cut) ps start
     → IsOrder entry_clock (map (entries_of_steps run.steps) ps) (events_of_replays start) × ((es : List (NodeEvent Entry)) → IsOrder entry_clock (map (entries_of_steps run.steps) ps) es → es ≡ events_of_replays start)
 order_is ordered run cut ps start fits shown =
     let known = ordered start fits in

@@ -1,7 +1,7 @@
 -- The recording is shown.
 use Rattle.std.proofs.Common.{◌≡◌, ◌≢◌, ◌∙◌, ◌<◌, ◌≤◌, ℕ, zero, suc, List, [], ◌∷◌, ◌++◌, length, map, take, slice_get, Some, None, Result, Ok, ap, append-nil, append_assoc, arith, subst, sym}
 use Rattle.std.specs.Prelude.{IsTrue}
-use Rattle.std.specs.List.{AllByRecursion}
+use Rattle.std.specs.List.{AllByRecursion, AllZip}
 use Rattle.std.proofs.lemmas.Option.{same_Some}
 use Rattle.fri_outside.specs.Outside.{Folder}
 use Rattle.schedule_text.specs.Laws.{GivesSchedules}
@@ -40,8 +40,8 @@ use Rattle.replay_command.specs.Report.{replay_work}
 use Rattle.conversation.specs.Opening.{opened_outcome}
 use Rattle.debug_command.specs.Debug.{debug_opener}
 use Rattle.debug_command.specs.Laws.{SessionsOfOneGroup}
-use Rattle.headline.specs.Headline.{AreDistinct, AreHeld, AreProcesses, Headline, IsShown, logs_of_run, run_to, sorted_of}
-use Rattle.headline.specs.Shown.{AreShown, RecordedRun, ShowsGroup, ShowsProcess}
+use Rattle.headline.specs.Headline.{AreProcesses, Headline, IsShown, logs_of_run, run_to, sorted_of, HoldsPair}
+use Rattle.headline.specs.Shown.{RecordedRun, ShowsGroup, ShowsProcess}
 use Rattle.headline.proofs.RecordedGroup.{HasBegun, has_begun, pair_stands, schedule_formed, together}
 use Rattle.headline.proofs.LoadedPairs.{AllStand, AllTogether, opened}
 use Rattle.headline.proofs.RecordedOrder.{are_recorded, one_recorded, order_is}
@@ -49,7 +49,7 @@ use Rattle.headline.proofs.ReceivedDatagrams.{received}
 use Rattle.headline.proofs.ReplayReport.{AllCome, all_of_them, report_is, report_made}
 use Rattle.headline.proofs.SameRecording.{one_group}
 use Rattle.headline.proofs.ShownReplays.{ComesTo, comes_to, replay_of, shows}
-use Rattle.headline.proofs.SortedReplays.{Are, all_numbered, all_sorted, in_order, sorted_count}
+use Rattle.headline.proofs.SortedReplays.{Are, AreDistinct, all_numbered, all_sorted, are_distinct, in_order, sorted_count}
 
 -- ---- each process and its replay
 
@@ -65,7 +65,7 @@ process_is run cut p r known = ap (λ h. h.process) known.shows.head
 abbrev AreKnown : RecordedRun → (ℕ → List ℕ) → List ℕ → List Replaying → Type 0
 AreKnown run cut ps rs = Are (Known run cut) (process_is run cut) ps rs
 
-are_shown : (run : RecordedRun) (cut : ℕ → List ℕ) (ps : List ℕ) (rs : List Replaying) → AreKnown run cut ps rs → AreShown run cut ps rs
+are_shown : (run : RecordedRun) (cut : ℕ → List ℕ) (ps : List ℕ) (rs : List Replaying) → AreKnown run cut ps rs → AllZip (ShowsProcess run cut) ps rs
 are_shown run cut [] [] all = tt
 are_shown run cut (p ∷ ps) (r ∷ rs) all = (all.0.shows, are_shown run cut ps rs all.1)
 are_shown run cut [] (r ∷ rs) all = absurd all
@@ -167,7 +167,7 @@ module _ (reads : ReadsModules) (gives : GivesSchedules) (beginning : Beginning)
   all_known [] below follow = tt
   all_known (p ∷ ps) below follow = (known p below.0 follow.0, all_known ps below.1 follow.1)
 
-  all_stand : (ps : List ℕ) (pairs : List Pair) (below : Below ps) (follow : AllFollow ps) → AreHeld r (logs_of_run run cut) folder ps pairs → AllStand folder pairs (replays ps below follow)
+  all_stand : (ps : List ℕ) (pairs : List Pair) (below : Below ps) (follow : AllFollow ps) → AllZip (HoldsPair r (logs_of_run run cut) folder) ps pairs → AllStand folder pairs (replays ps below follow)
   all_stand [] [] below follow held = tt
   all_stand (p ∷ ps) (pair ∷ pairs) below follow held =
       (pair_stands reads r steps cut folder p pair held.0 (tells p below.0 follow.0), all_stand ps pairs below.1 follow.1 held.1)
@@ -206,7 +206,7 @@ module _ (reads : ReadsModules) (gives : GivesSchedules) (beginning : Beginning)
         prints = λ variables x k none. (unseen (nodes_at (place_at start k)) (variable_value variables) no_variables None x none).0;
       }
 
-  pub is_shown : (ps : List ℕ) (pairs : List Pair) → AreProcesses count ps → AllFollow ps → AreHeld r (logs_of_run run cut) folder ps pairs → IsShown run cut folder ps pairs
+  pub is_shown : (ps : List ℕ) (pairs : List Pair) → AreProcesses count ps → AllFollow ps → AllZip (HoldsPair r (logs_of_run run cut) folder) ps pairs → IsShown run cut folder ps pairs
   is_shown ps pairs are follow held =
       let unsorted = replays ps are.within follow in
       let sorted = sorted_of count ps in
@@ -215,7 +215,7 @@ module _ (reads : ReadsModules) (gives : GivesSchedules) (beginning : Beginning)
       subst (λ (ns : List ℕ). AreKnown run cut ns start) (in_order count ps are)
       (all_sorted (Known run cut) (process_is run cut) [] ps [] unsorted tt (all_known ps are.within follow)) in
       let shown = are_shown run cut sorted start all in
-      let read = opened folder pairs unsorted (all_stand ps pairs are.within follow held) (all_together ps are.within follow are.apart) in
+      let read = opened folder pairs unsorted (all_stand ps pairs are.within follow held) (all_together ps are.within follow (are_distinct ps are.apart)) in
       let group = group_is sorted start all in
       let opens : replays_of_pairs folder pairs ≡ Ok start =
       ap (λ (o : Result (List Loaded) CommandStop). and_then o (λ ls. and_then (replays_of ls) (λ rs. Ok (sort_replays [] rs)))) read.loaded

@@ -1,6 +1,7 @@
 -- What a replay of recorded logs reports, and its images.
 use Rattle.std.proofs.Common.{◌≡◌, ◌∙◌, ◌<◌, ◌+◌, ◌||◌, ℕ, suc, Bool, true, false, cond, List, [], ◌∷◌, ◌++◌, length, map, slice_get, Some, Ok, ap, arith, refl, sym}
 use Rattle.std.specs.Prelude.{slice_index_or}
+use Rattle.std.specs.List.{AllZip}
 use Rattle.std.proofs.lemmas.Option.{same_Some}
 use Rattle.lib_calls.specs.Traffic.{prints}
 use Rattle.call_log.specs.Head.{Head}
@@ -16,13 +17,12 @@ use Rattle.group_state.specs.Image.{memory_of_image, print_of_image}
 use Rattle.group_state.specs.Place.{group_count}
 use Rattle.group_state.specs.Report.{accepted_in, all_accepted_events, report_line}
 use Rattle.group_state.specs.Tally.{AcceptedEvent, of_process, tally_of_events}
-use Rattle.command_run.specs.Apart.{apart_work, unless_over_input}
+use Rattle.command_run.specs.Apart.{apart_work, unless_over_input, AreApart}
 use Rattle.command_run.specs.ApartLaws.{apart_goes_on, apart_works}
 use Rattle.command_run.specs.Outcome.{CommandWork}
 use Rattle.log_pairs.specs.Pairs.{Pair, names_of_pairs}
-use Rattle.replay_command.specs.Report.{some_log_diverges, images_in, images_if, is_divergence, replay_work, report_text}
-use Rattle.headline.specs.Headline.{ImagesApart}
-use Rattle.headline.specs.Shown.{AreShown, RecordedRun, ShowsProcess, recorded_events, recorded_images, recorded_line, recorded_report}
+use Rattle.replay_command.specs.Report.{some_log_diverges, images_in, is_divergence, replay_work, report_text, images_if}
+use Rattle.headline.specs.Shown.{RecordedRun, ShowsProcess, recorded_events, recorded_images, recorded_line, recorded_report}
 use Rattle.headline.proofs.ShownReplays.{ComesTo}
 
 -- the outcome of so many processes is that of their replays
@@ -52,14 +52,14 @@ accepted_is : (run : RecordedRun) (cut : ℕ → List ℕ) (p : ℕ) (r : Replay
 accepted_is run cut p r shows =
     ap (λ (h : Head). of_process h.process (entries_ahead r)) shows.head ∙ ap (of_process p) shows.accepted
 
-events_are : (run : RecordedRun) (cut : ℕ → List ℕ) (ps : List ℕ) (rs : List Replaying) → AreShown run cut ps rs → all_accepted_events rs ≡ recorded_events run ps
+events_are : (run : RecordedRun) (cut : ℕ → List ℕ) (ps : List ℕ) (rs : List Replaying) → AllZip (ShowsProcess run cut) ps rs → all_accepted_events rs ≡ recorded_events run ps
 events_are run cut [] [] all = refl
 events_are run cut (p ∷ ps) (r ∷ rs) all =
     ap (λ (es : List AcceptedEvent). es ++ all_accepted_events rs) (accepted_is run cut p r all.0) ∙ ap (λ (es : List AcceptedEvent). of_process p (entries_of_steps run.steps p) ++ es) (events_are run cut ps rs all.1)
 events_are run cut [] (r ∷ rs) all = absurd all
 events_are run cut (p ∷ ps) [] all = absurd all
 
-tally_is : (run : RecordedRun) (cut : ℕ → List ℕ) (ps : List ℕ) (rs : List Replaying) → AreShown run cut ps rs → tally_of_events (group_count rs) (recorded_events run ps) ≡ tally_of_events (processes_in_group run.group) (recorded_events run ps)
+tally_is : (run : RecordedRun) (cut : ℕ → List ℕ) (ps : List ℕ) (rs : List Replaying) → AllZip (ShowsProcess run cut) ps rs → tally_of_events (group_count rs) (recorded_events run ps) ≡ tally_of_events (processes_in_group run.group) (recorded_events run ps)
 tally_is run cut [] [] all = refl
 tally_is run cut (p ∷ ps) (r ∷ rs) all = ap (λ (h : Head). tally_of_events h.count (recorded_events run (p ∷ ps))) all.0.head
 tally_is run cut [] (r ∷ rs) all = absurd all
@@ -72,7 +72,7 @@ image_is run cut p r shows comes =
     ∙ ap (λ (bytes : List ℕ). image_files (name_of_process run.group p) bytes (print_of_image r)) comes.memory
     ∙ ap (image_files (name_of_process run.group p) (memory_of_process (process_after run.group run.steps p))) comes.printed
 
-images_are : (run : RecordedRun) (cut : ℕ → List ℕ) (ps : List ℕ) (rs : List Replaying) → AreShown run cut ps rs → AllCome run cut ps rs → images_in rs ≡ recorded_images run ps
+images_are : (run : RecordedRun) (cut : ℕ → List ℕ) (ps : List ℕ) (rs : List Replaying) → AllZip (ShowsProcess run cut) ps rs → AllCome run cut ps rs → images_in rs ≡ recorded_images run ps
 images_are run cut [] [] shown all = refl
 images_are run cut (p ∷ ps) (r ∷ rs) shown all =
     ap (λ (files : List (List ℕ × List ℕ)). files ++ images_in rs) (image_is run cut p r shown.0 all.0)
@@ -83,7 +83,7 @@ images_are run cut (p ∷ ps) [] shown all = absurd shown
 abbrev work_of : List ReportLine → GroupCounts → List (List ℕ × List ℕ) → Bool → CommandWork
 work_of ls counts files diverged = record { text = report_text ls counts; writes = files; diverged = diverged }
 
-pub report_is : (images : Bool) (run : RecordedRun) (cut : ℕ → List ℕ) (ps : List ℕ) (rs : List Replaying) → AreShown run cut ps rs → AllCome run cut ps rs
+pub report_is : (images : Bool) (run : RecordedRun) (cut : ℕ → List ℕ) (ps : List ℕ) (rs : List Replaying) → AllZip (ShowsProcess run cut) ps rs → AllCome run cut ps rs
     → replay_work images rs ≡ recorded_report images run cut ps
 report_is images run cut ps rs shown all =
     let counts = ap (tally_of_events (group_count rs)) (events_are run cut ps rs shown) ∙ tally_is run cut ps rs shown in
@@ -93,11 +93,10 @@ report_is images run cut ps rs shown all =
     ∙ ap (work_of (map (recorded_line run cut) ps) (tally_of_events (processes_in_group run.group) (recorded_events run ps)) (cond images (recorded_images run ps) [])) (none_diverges run cut ps)
 
 -- its images are made, where none has the name of a file of the pairs
-kept : (images : Bool) (run : RecordedRun) (cut : ℕ → List ℕ) (ps : List ℕ) (pairs : List Pair) → ImagesApart images run ps pairs → unless_over_input (names_of_pairs pairs) (map (λ file. file.0) (recorded_report images run cut ps).writes) ≡ Ok tt
-kept false run cut ps pairs apart = refl
-kept true run cut ps pairs apart = apart_goes_on (names_of_pairs pairs) (map (λ file. file.0) (recorded_images run ps)) apart
+kept : (images : Bool) (run : RecordedRun) (cut : ℕ → List ℕ) (ps : List ℕ) (pairs : List Pair) → AreApart (names_of_pairs pairs) (map (λ file. file.0) (recorded_report images run cut ps).writes) → unless_over_input (names_of_pairs pairs) (map (λ file. file.0) (recorded_report images run cut ps).writes) ≡ Ok tt
+kept images run cut ps pairs apart = apart_goes_on (names_of_pairs pairs) (map (λ file. file.0) (recorded_report images run cut ps).writes) apart
 
-pub report_made : (images : Bool) (run : RecordedRun) (cut : ℕ → List ℕ) (ps : List ℕ) (pairs : List Pair) → ImagesApart images run ps pairs → apart_work (names_of_pairs pairs) (recorded_report images run cut ps) ≡ Ok (recorded_report images run cut ps)
+pub report_made : (images : Bool) (run : RecordedRun) (cut : ℕ → List ℕ) (ps : List ℕ) (pairs : List Pair) → AreApart (names_of_pairs pairs) (map (λ file. file.0) (recorded_report images run cut ps).writes) → apart_work (names_of_pairs pairs) (recorded_report images run cut ps) ≡ Ok (recorded_report images run cut ps)
 report_made images run cut ps pairs apart =
     apart_works (names_of_pairs pairs) (Ok (recorded_report images run cut ps)) (recorded_report images run cut ps) refl (kept images run cut ps pairs apart)
 

@@ -6,18 +6,19 @@ use Rattle.group_record.specs.Run.{name_of_process}
 use Rattle.group_state.specs.Place.{events_of_replays, node_names, states_of_nodes}
 use Rattle.proc_replay.specs.Replaying.{Replaying}
 use Rattle.friday_shell.specs.SameGroup.{SameGroup}
-use Rattle.headline.specs.Shown.{AreOfRecording, AreRecordedAt, AreShown, RecordedRun, ShowsGroup}
+use Rattle.headline.specs.Shown.{AreOfRecording, AreRecordedAt, RecordedRun, ShowsGroup, ShowsProcess}
+use Rattle.std.specs.List.{AllZip}
 use Rattle.headline.proofs.RecordedOrder.{one_recorded}
 
 -- the nodes of replays that show a recording have the names of its processes
-pub names_are : (run : RecordedRun) (cut : ℕ → List ℕ) (ps : List ℕ) (rs : List Replaying) → AreShown run cut ps rs → node_names rs ≡ map (name_of_process run.group) ps
+pub names_are : (run : RecordedRun) (cut : ℕ → List ℕ) (ps : List ℕ) (rs : List Replaying) → AllZip (ShowsProcess run cut) ps rs → node_names rs ≡ map (name_of_process run.group) ps
 names_are run cut [] [] each = refl
 names_are run cut (p ∷ ps) (r ∷ rs) each = λ i. (each.0.head i).name ∷ names_are run cut ps rs each.1 i
 names_are run cut [] (r ∷ rs) each = absurd each
 names_are run cut (p ∷ ps) [] each = absurd each
 
 -- any two such lists of replays are of one group
-pub one_group : (run : RecordedRun) (cut : ℕ → List ℕ) (ps : List ℕ) (start others : List Replaying) → AreShown run cut ps start → ShowsGroup run ps start → AreOfRecording run ps others
+pub one_group : (run : RecordedRun) (cut : ℕ → List ℕ) (ps : List ℕ) (start others : List Replaying) → AllZip (ShowsProcess run cut) ps start → ShowsGroup run ps start → AreOfRecording run ps others
     → SameGroup others start
 one_group run cut ps start others each shows are =
     let events = shows.only (events_of_replays others) are.order in

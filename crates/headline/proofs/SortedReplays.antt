@@ -1,13 +1,16 @@
 -- Replays are put in order by their processes' numbers as those numbers are.
 use Rattle.std.proofs.Common.{◌≡◌, ◌≢◌, ◌⊎◌, ◌∙◌, ◌≤◌, ◌<◌, ◌+◌, ◌||◌, ℕ, zero, suc, Bool, true, false, cond, List, [], ◌∷◌, length, slice_get, Some, inl, inr, ap, arith, refl, sym}
-use Rattle.std.specs.Prelude.{◌==◌, filter, if◌then◌else◌, nat_lt}
-use Rattle.std.specs.List.{AllByRecursion, range_with_len}
+use Rattle.std.specs.Prelude.{◌==◌, AllPairs, filter, if◌then◌else◌, nat_lt}
+use Rattle.std.specs.List.{AllByRecursion, list_any, range_with_len, slice_index_or}
 use Rattle.std.proofs.Math.Bool.{or-false, or_assoc}
 use Rattle.std.proofs.lemmas.Bool.{cases_lt, eq-eqb, le-ltb, lt-ltb, ne_eqb}
 use Rattle.std.proofs.lemmas.List.FromFn.{length-range_with_len}
 use Rattle.proc_replay.specs.Replaying.{Replaying}
 use Rattle.log_pairs.specs.Pairs.{insert_replay, sort_replays}
-use Rattle.headline.specs.Headline.{AreDistinct, AreProcesses, is_among, sorted_of}
+use Rattle.headline.specs.Headline.{AreProcesses, sorted_of}
+
+abbrev is_among : List ℕ → ℕ → Bool
+is_among ps p = list_any (λ q. q == p) ps
 
 abbrev pub insert_number : ℕ → List ℕ → List ℕ
 insert_number p [] = p ∷ []
@@ -16,6 +19,22 @@ insert_number p (q ∷ qs) = if nat_lt q p then q ∷ insert_number p qs else p 
 abbrev pub sort_numbers : List ℕ → List ℕ → List ℕ
 sort_numbers sorted [] = sorted
 sort_numbers sorted (p ∷ ps) = sort_numbers (insert_number p sorted) ps
+
+-- ---- numbers that differ from each other
+
+-- each from those after it
+abbrev pub AreDistinct : List ℕ → Type 0
+AreDistinct [] = Unit {0}
+AreDistinct (p ∷ ps) = AllByRecursion (λ q. p ≢ q) ps × AreDistinct ps
+
+differs : (p : ℕ) (ps : List ℕ) → ((j d : ℕ) → j < length ps → p ≢ slice_index_or ps j d) → AllByRecursion (λ q. p ≢ q) ps
+differs p [] apart = tt
+differs p (q ∷ ps) apart = (apart 0 0 (omega arith), differs p ps (λ j d below. apart (suc j) d (omega (arith, below))))
+
+pub are_distinct : (ps : List ℕ) → AllPairs (λ p q. p ≢ q) ps → AreDistinct ps
+are_distinct [] apart = tt
+are_distinct (p ∷ ps) apart =
+    (differs p ps (λ j d below. apart 0 (suc j) d (omega arith) (omega (arith, below))), are_distinct ps (λ i j d before within. apart (suc i) (suc j) d (omega (arith, before)) (omega (arith, within))))
 
 -- ---- replays go where their numbers go
 
@@ -138,7 +157,7 @@ all_new count (p ∷ ps) below = ((below.0, refl), all_new count ps below.1)
 
 pub in_order : (count : ℕ) (ps : List ℕ) → AreProcesses count ps → sort_numbers [] ps ≡ sorted_of count ps
 in_order count ps are =
-    ap (λ (ns : List ℕ). sort_numbers ns ps) (sym (none_passes (range_with_len 0 count))) ∙ sorts (λ n. false) count ps (all_new count ps are.within) are.apart
+    ap (λ (ns : List ℕ). sort_numbers ns ps) (sym (none_passes (range_with_len 0 count))) ∙ sorts (λ n. false) count ps (all_new count ps are.within) (are_distinct ps are.apart)
 
 -- ---- all numbers
 

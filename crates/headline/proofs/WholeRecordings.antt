@@ -1,11 +1,13 @@
 -- Whole recordings are shown, since all processes at the last moment are some at some moment.
-use Rattle.std.proofs.Common.{◌≢◌, ◌∙◌, ◌≤◌, ◌<◌, ◌+◌, ℕ, zero, suc, List, [], ◌∷◌, Some, ap, append-nil, arith, refl, sym}
-use Rattle.std.specs.List.{AllByRecursion, range_with_len}
+use Rattle.std.proofs.Common.{◌≢◌, ◌∙◌, ◌≤◌, ◌<◌, ◌+◌, ℕ, zero, suc, List, [], ◌∷◌, Some, ap, append-nil, arith, refl, sym, length}
+use Rattle.std.specs.List.{AllByRecursion, range_with_len, AllZip}
+use Rattle.std.specs.Prelude.{AllPairs}
+use Rattle.std.proofs.lemmas.List.FromFn.{length-range_with_len, get_or-range_with_len}
 use Rattle.fri_outside.specs.Outside.{Folder}
 use Rattle.group_record.specs.Run.{log_of, processes_in_group}
 use Rattle.log_pairs.specs.Pairs.{Pair}
 use Rattle.record_command.specs.Agreement.{IsRecordable, IsPartialEntry, Nothing, group_in, steps_in}
-use Rattle.headline.specs.Headline.{AreDistinct, AreHeld, AreProcesses, Headline, WholeRecordings, logs_of_run, processes_of, run_to, whole_logs}
+use Rattle.headline.specs.Headline.{AreProcesses, Headline, WholeRecordings, logs_of_run, processes_of, run_to, whole_logs, HoldsPair}
 use Rattle.headline.specs.Shown.{no_cut}
 
 -- ---- all numbers
@@ -14,22 +16,19 @@ below_end : (a n limit : ℕ) → a + n ≤ limit → AllByRecursion (λ p. p < 
 below_end a zero limit within = tt
 below_end a (suc n) limit within = (omega (arith, within), below_end (a + 1) n limit (omega (arith, within)))
 
-new_before : (p a n : ℕ) → p < a → AllByRecursion (λ q. p ≢ q) (range_with_len a n)
-new_before p a zero low = tt
-new_before p a (suc n) low = (omega (arith, low), new_before p (a + 1) n (omega (arith, low)))
-
-are_distinct : (a n : ℕ) → AreDistinct (range_with_len a n)
-are_distinct a zero = tt
-are_distinct a (suc n) = (new_before a (a + 1) n (omega arith), are_distinct (a + 1) n)
+are_apart : (a n : ℕ) → AllPairs (λ p q. p ≢ q) (range_with_len a n)
+are_apart a n i j d before within same =
+    let inside : j < n = omega (arith, within, length-range_with_len a n) in
+    omega (arith, before, inside, same, get_or-range_with_len a n i d (omega (arith, before, inside)), get_or-range_with_len a n j d inside)
 
 all_processes : (count : ℕ) → AreProcesses count (range_with_len 0 count)
-all_processes count = record { within = below_end 0 count count (omega arith); apart = are_distinct 0 count }
+all_processes count = record { within = below_end 0 count count (omega arith); apart = are_apart 0 count }
 
 -- ---- whole logs
 
 module _ {before : Folder} {name : List ℕ} (r : IsRecordable before name) (folder : Folder) where
   -- nothing comes after them
-  whole : (ps : List ℕ) (pairs : List Pair) → AreHeld r (whole_logs r) folder ps pairs → AreHeld r (logs_of_run (run_to r (steps_in r)) no_cut) folder ps pairs
+  whole : (ps : List ℕ) (pairs : List Pair) → AllZip (HoldsPair r (whole_logs r) folder) ps pairs → AllZip (HoldsPair r (logs_of_run (run_to r (steps_in r)) no_cut) folder) ps pairs
   whole [] [] held = tt
   whole (p ∷ ps) (pair ∷ pairs) held =
       (record { «module» = held.0.«module»; log = held.0.log ∙ ap (λ (bytes : List ℕ). Some bytes) (sym (append-nil (log_of (group_in r) (steps_in r) p))) }, whole ps pairs held.1)

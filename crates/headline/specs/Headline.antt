@@ -1,7 +1,7 @@
 -- The main theorem: the modules and the logs of a recording, and these alone, make `replay` and `debug` show what was recorded.
-use Rattle.std.specs.Prelude.{◌≡◌, ◌≢◌, ◌⊎◌, ◌<◌, ◌==◌, ℕ, Bool, true, false, List, [], ◌∷◌, ◌++◌, length, map, filter, Option, Some, Ok}
+use Rattle.std.specs.Prelude.{◌≡◌, ◌≢◌, ◌⊎◌, ◌<◌, ◌==◌, ℕ, AllPairs, Bool, List, ◌++◌, length, map, filter, Option, Some, Ok}
 use Rattle.std.specs.FinMap.{get}
-use Rattle.std.specs.List.{AllByRecursion, list_any, range_with_len}
+use Rattle.std.specs.List.{AllByRecursion, AllZip, list_any, range_with_len}
 use Rattle.fri_outside.specs.Outside.{Folder}
 use Rattle.fri_outside.specs.Several.{with_files}
 use Rattle.group_record.specs.Images.{images as all_images}
@@ -18,7 +18,7 @@ use Rattle.record_command.specs.Agreement.{IsAtMomentOfRun, IsStoppedInHeads, Is
 use Rattle.record_command.specs.Expected.{KeepsSchedule, module_name, record_outcome}
 use Rattle.replay_command.specs.Report.{replay_outcome}
 use Rattle.debug_command.specs.Debug.{debug_outcome, session_outcome}
-use Rattle.headline.specs.Shown.{AreOfRecording, AreShown, RecordedRun, ShowsGroup, no_cut, recorded_images, recorded_report}
+use Rattle.headline.specs.Shown.{AreOfRecording, RecordedRun, ShowsGroup, ShowsProcess, no_cut, recorded_images, recorded_report}
 
 -- ---- the files of a recording, in any folder and under any names
 
@@ -29,37 +29,21 @@ pub record HoldsPair {before : Folder} {schedule_name : List ℕ} (r : IsRecorda
   pub «module» : get folder pair.module_name ≡ get before (module_name r.schedule p)
   pub log : get folder pair.log_name ≡ logs p
 
--- so it has those of each of these processes, in the same order
-abbrev pub AreHeld : {before : Folder} {schedule_name : List ℕ} → IsRecordable before schedule_name → (ℕ → Option (List ℕ)) → Folder → List ℕ → List Pair → Type 0
-AreHeld r logs folder [] [] = Unit {0}
-AreHeld r logs folder (p ∷ ps) (pair ∷ pairs) = HoldsPair r logs folder p pair × AreHeld r logs folder ps pairs
-AreHeld r logs folder [] (pair ∷ pairs) = ⊥
-AreHeld r logs folder (p ∷ ps) [] = ⊥
-
 -- ---- what is shown of them
-
--- the number is one of these
-abbrev pub is_among : List ℕ → ℕ → Bool
-is_among ps p = list_any (λ q. q == p) ps
 
 -- those of so many processes that are among these, in the order of their numbers
 abbrev pub sorted_of : ℕ → List ℕ → List ℕ
-sorted_of count ps = filter (is_among ps) (range_with_len 0 count)
-
--- where images are asked for, no file of the pairs has the name of one of these processes' images
-abbrev pub ImagesApart : Bool → RecordedRun → List ℕ → List Pair → Type 0
-ImagesApart false run ps pairs = Unit {0}
-ImagesApart true run ps pairs = AreApart (names_of_pairs pairs) (map (λ file. file.0) (recorded_images run ps))
+sorted_of count ps = filter (λ p. list_any (λ q. q == p) ps) (range_with_len 0 count)
 
 -- the pairs of these processes are read to replays, which show what was recorded
 pub record IsShown (run : RecordedRun) (cut : ℕ → List ℕ) (folder : Folder) (ps : List ℕ) (pairs : List Pair) : Type 0 where
   -- the replays of the processes in the order of their numbers
   pub start : List Replaying
   pub opened : replays_of_pairs folder pairs ≡ Ok start
-  pub each : AreShown run cut (sorted_of (processes_in_group run.group) ps) start
-  -- `replay` says what was recorded, and leaves the images of it: with all processes those of the recording. It refuses to make one in
-  -- the place of a file of the pairs
-  pub replay : (images : Bool) → ImagesApart images run (sorted_of (processes_in_group run.group) ps) pairs
+  pub each : AllZip (ShowsProcess run cut) (sorted_of (processes_in_group run.group) ps) start
+  -- `replay` says what was recorded, and leaves the images of it, if none has the name of a file of the pairs: with all processes
+  -- those of the recording
+  pub replay : (images : Bool) → AreApart (names_of_pairs pairs) (map (λ file. file.0) (recorded_report images run cut (sorted_of (processes_in_group run.group) ps)).writes)
       → replay_outcome images pairs folder ≡ Ok (recorded_report images run cut (sorted_of (processes_in_group run.group) ps))
   pub images : length ps ≡ processes_in_group run.group → recorded_images run (sorted_of (processes_in_group run.group) ps) ≡ all_images run.group run.steps
   -- `debug` comes to what a session over these replays does, and to what one does over any others with the recorded names,
@@ -87,37 +71,26 @@ whole_logs r p = Some (log_of (group_in r) (steps_in r) p)
 -- processes, under whatever names, these files make `replay` and `debug` show the whole run
 abbrev pub WholeRecordings : Type 0
 WholeRecordings = (before : Folder) (schedule_name : List ℕ) (r : IsRecordable before schedule_name) (folder : Folder) (pairs : List Pair)
-    → AreHeld r (whole_logs r) folder (processes_of r) pairs → IsShown (run_to r (steps_in r)) no_cut folder (processes_of r) pairs
+    → AllZip (HoldsPair r (whole_logs r) folder) (processes_of r) pairs → IsShown (run_to r (steps_in r)) no_cut folder (processes_of r) pairs
 
 -- ---- the theorem for some of the processes, at any moment of a recording
-
--- the numbers differ from each other
-abbrev pub AreDistinct : List ℕ → Type 0
-AreDistinct [] = Unit {0}
-AreDistinct (p ∷ ps) = AllByRecursion (λ q. p ≢ q) ps × AreDistinct ps
 
 -- some of so many processes, each once, in any order
 pub record AreProcesses (count : ℕ) (ps : List ℕ) : Type 0 where
   pub within : AllByRecursion (λ p. p < count) ps
-  pub apart : AreDistinct ps
+  pub apart : AllPairs (λ p q. p ≢ q) ps
 
 -- the log of each process, by what was recorded, and what stands after it
 abbrev pub logs_of_run : RecordedRun → (ℕ → List ℕ) → ℕ → Option (List ℕ)
 logs_of_run run cut p = Some (log_of run.group run.steps p ++ cut p)
 
--- in every folder that has the modules and these logs of these processes, under whatever names, and whatever else, these are
--- shown as they were after these steps
-abbrev pub ShowsLogs : {before : Folder} {schedule_name : List ℕ} → IsRecordable before schedule_name → List RunStep → (ℕ → List ℕ) → (ℕ → Option (List ℕ)) → List ℕ → Type 0
-ShowsLogs r steps cut logs ps =
-    (folder : Folder) (pairs : List Pair) → AreHeld r logs folder ps pairs → IsShown (run_to r steps) cut folder ps pairs
-
--- At each moment of the run of a schedule that can be recorded, so also where the recording was stopped or a log was full:
--- the logs of some processes are shown as they were recorded. After each log there may stand a first part of one more entry,
--- as a recording leaves it that was stopped
+-- At each moment of the run of a schedule that can be recorded, so also where the recording was stopped or a log was full: in
+-- every folder that has the modules and the logs of some processes, under whatever names, and whatever else, these are shown as
+-- they were recorded. After each log there may stand a first part of one more entry, as a recording leaves it that was stopped
 abbrev pub Headline : Type 0
 Headline = (before : Folder) (schedule_name : List ℕ) (r : IsRecordable before schedule_name) (steps : List RunStep) → IsMoment steps (steps_in r)
     → (cut : ℕ → List ℕ) (ps : List ℕ) → AreProcesses (processes_in_group (group_in r)) ps → AllByRecursion (λ p. IsPartialEntry (group_in r) (steps_in r) steps p (cut p)) ps
-    → ShowsLogs r steps cut (logs_of_run (run_to r steps) cut) ps
+    → (folder : Folder) (pairs : List Pair) → AllZip (HoldsPair r (logs_of_run (run_to r steps) cut) folder) ps pairs → IsShown (run_to r steps) cut folder ps pairs
 
 -- ---- what a recording leaves
 
@@ -128,7 +101,8 @@ logs_in group folder p = get folder (log_name (name_of_process group p))
 -- the logs of some processes, as a folder has them, are shown so
 abbrev pub ShowsSteps : {before : Folder} {schedule_name : List ℕ} → IsRecordable before schedule_name → List RunStep → (ℕ → List ℕ) → Folder → Type 0
 ShowsSteps r steps cut after =
-    (ps : List ℕ) → AreProcesses (processes_in_group (group_in r)) ps → ShowsLogs r steps cut (logs_in (group_in r) after) ps
+    (ps : List ℕ) → AreProcesses (processes_in_group (group_in r)) ps
+    → (folder : Folder) (pairs : List Pair) → AllZip (HoldsPair r (logs_in (group_in r) after) folder) ps pairs → IsShown (run_to r steps) cut folder ps pairs
 
 -- a moment of the run, which is shown
 pub record ShowsMoment {before : Folder} {schedule_name : List ℕ} (r : IsRecordable before schedule_name) (after : Folder) : Type 0 where

@@ -54,13 +54,6 @@ pub record ShowsProcess (run : RecordedRun) (cut : ℕ → List ℕ) (p : ℕ) (
   pub accepted : entries_ahead r ≡ entries_of_steps run.steps p
   pub moments : (n : ℕ) → n ≤ length (entries_of_steps run.steps p) → slice_get (recorded_states run.group run.steps p) n ≡ Some (after_entries r n)
 
--- so are these replays those of these processes
-abbrev pub AreShown : RecordedRun → (ℕ → List ℕ) → List ℕ → List Replaying → Type 0
-AreShown run cut [] [] = Unit {0}
-AreShown run cut (p ∷ ps) (r ∷ rs) = ShowsProcess run cut p r × AreShown run cut ps rs
-AreShown run cut [] (r ∷ rs) = ⊥
-AreShown run cut (p ∷ ps) [] = ⊥
-
 -- ---- what `replay` says
 
 -- the line of a process: how many events were recorded, how it stood after them, and that its log is whole, unless bytes stand

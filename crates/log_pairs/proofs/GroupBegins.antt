@@ -8,9 +8,10 @@ use Rattle.call_log.specs.Head.{Head}
 use Rattle.call_log.specs.Log.{Unread, unread_after_head}
 use Rattle.guest_process.specs.State.{State}
 use Rattle.proc_replay.specs.Replaying.{Replaying}
-use Rattle.command_run.specs.Inputs.{first_state_of, state_or_bad_segment}
+use Rattle.command_run.specs.declared.refusal.Reason.TheVariants as reason
+use Rattle.command_run.specs.Inputs.{first_state_of}
 use Rattle.command_run.specs.Laws.{ReadsModules}
-use Rattle.command_run.specs.Outcome.{CommandStop, and_then}
+use Rattle.command_run.specs.Outcome.{CommandStop, and_then, some_or_refused}
 use Rattle.command_run.specs.Valid.{ProcessBegins}
 use Rattle.log_pairs.specs.Laws.{OpensGroups}
 use Rattle.command_run.specs.LogLaws.{FindsLogs}
@@ -20,7 +21,7 @@ use Rattle.log_pairs.proofs.LoadedPairs.{pair_stands, read_as}
 use Rattle.log_pairs.proofs.PairsTogether.{no_clash}
 
 begins_at : (name : List ℕ) (m : Module) (who count : ℕ) (h : ProcessBegins m who count) → first_state_of name m who count ≡ Ok h.0
-begins_at name m who count h = ap (state_or_bad_segment name) h.1
+begins_at name m who count h = ap (some_or_refused name reason.BadSegment) h.1
 
 module _ (modules : ReadsModules) (finds : FindsLogs) where
   -- what the log of a pair has after its head

@@ -8,12 +8,13 @@ use Rattle.call_log.specs.Limits.{most_log}
 use Rattle.call_log.specs.Log.{Unread, head_at}
 use Rattle.log_pairs.specs.declared.pairs.Pair.{Pair as PairOfWords}
 use Rattle.log_pairs.specs.declared.pairs.Loaded.{Loaded as LoadedFiles}
+use Rattle.command_run.specs.declared.refusal.Reason.TheVariants as reason
 use Rattle.command_run.specs.declared.refusal.StopCause.{StopCause}
 use Rattle.command_run.specs.Call.{StopsAsCause}
-use Rattle.log_pairs.specs.Pairs.{Pair, Loaded, clash_of_logs, loaded_pair, loaded_pairs, unless_clash}
-use Rattle.command_run.specs.Logs.{log_in, log_or_bad_head}
+use Rattle.log_pairs.specs.Pairs.{Pair, Loaded, clash_of_logs, loaded_pair, loaded_pairs}
+use Rattle.command_run.specs.Logs.{log_in}
 use Rattle.command_run.specs.Inputs.{module_in}
-use Rattle.command_run.specs.Outcome.{CommandStop, and_then, file_of}
+use Rattle.command_run.specs.Outcome.{CommandStop, and_then, file_of, some_or_refused, unless_refused}
 use Rattle.log_pairs.specs.Meanings.{AreLoadedPairs, AreOneGroup, IsLoadedPair, pair_of}
 use Rattle.log_pairs.proofs.LogClashes.{apart_more}
 use Rattle.command_run.specs.OutcomeLaws.{stops_before_next}
@@ -24,15 +25,15 @@ use Rattle.command_run.specs.OutcomeLaws.{stops_before_next}
 abbrev pub read_as : Pair → Module → Head × Unread → Loaded
 read_as pair m log = record { module_name = pair.module_name; «module» = m; head = log.0; left = log.1 }
 
-head_found : (name bytes : List ℕ) (log : Head × Unread) → log_or_bad_head name (head_at bytes) ≡ Ok log → head_at bytes ≡ Some log
+head_found : (name bytes : List ℕ) (log : Head × Unread) → some_or_refused name reason.BadHead (head_at bytes) ≡ Ok log → head_at bytes ≡ Some log
 head_found name bytes log is = found (head_at bytes) is where
-  found : (o : Option (Head × Unread)) → log_or_bad_head name o ≡ Ok log → o ≡ Some log
+  found : (o : Option (Head × Unread)) → some_or_refused name reason.BadHead o ≡ Ok log → o ≡ Some log
   found None is = cc
   found (Some l) is = cc
 
 -- a pair with a log of these bytes holds that
 pub is_loaded : ExactLogs → (x : LoadedFiles) (pair : Pair) (bytes : List ℕ) → x.module_file.now ≡ pair.module_name → bytes ≡ head_bytes x.log.head ++ x.log.left.bytes
-    → log_or_bad_head pair.log_name (head_at bytes) ≡ Ok (x.log.head, x.log.left) → length bytes ≤ most_log → IsLoadedPair x (read_as pair (shown x.«module») (x.log.head, x.log.left))
+    → some_or_refused pair.log_name reason.BadHead (head_at bytes) ≡ Ok (x.log.head, x.log.left) → length bytes ≤ most_log → IsLoadedPair x (read_as pair (shown x.«module») (x.log.head, x.log.left))
 is_loaded exact x pair bytes named spelled found few =
     let log = (exact.heads bytes x.log.head x.log.left).0 (head_found pair.log_name bytes (x.log.head, x.log.left) found) in
     record {
@@ -46,23 +47,23 @@ is_loaded exact x pair bytes named spelled found few =
 
 -- from the module on
 module_read : (folder : Folder) (ls : List Loaded) (pair : Pair) (m : Module) → module_in folder pair.module_name ≡ Ok m
-    → loaded_pair folder ls pair ≡ and_then (log_in folder pair.log_name) (λ log. unless_clash pair.log_name (read_as pair m log) (clash_of_logs ls log.0))
+    → loaded_pair folder ls pair ≡ and_then (log_in folder pair.log_name) (λ log. unless_refused pair.log_name (read_as pair m log) (clash_of_logs ls log.0))
 module_read folder ls pair m is =
-    ap (λ (r : Result Module CommandStop). and_then r (λ m. and_then (log_in folder pair.log_name) (λ log. unless_clash pair.log_name (read_as pair m log) (clash_of_logs ls log.0)))) is
+    ap (λ (r : Result Module CommandStop). and_then r (λ m. and_then (log_in folder pair.log_name) (λ log. unless_refused pair.log_name (read_as pair m log) (clash_of_logs ls log.0)))) is
 
-log_is : (folder : Folder) (name bytes : List ℕ) (log : Head × Unread) → file_of folder name most_log ≡ Ok bytes → log_or_bad_head name (head_at bytes) ≡ Ok log → log_in folder name ≡ Ok log
-log_is folder name bytes log read head = ap (λ (r : Result (List ℕ) CommandStop). and_then r (λ bytes. log_or_bad_head name (head_at bytes))) read ∙ head
+log_is : (folder : Folder) (name bytes : List ℕ) (log : Head × Unread) → file_of folder name most_log ≡ Ok bytes → some_or_refused name reason.BadHead (head_at bytes) ≡ Ok log → log_in folder name ≡ Ok log
+log_is folder name bytes log read head = ap (λ (r : Result (List ℕ) CommandStop). and_then r (λ bytes. some_or_refused name reason.BadHead (head_at bytes))) read ∙ head
 
 -- a pair whose files stand, and whose log does not clash
 pub pair_stands : (folder : Folder) (ls : List Loaded) (pair : Pair) (m : Module) (log : Head × Unread) → module_in folder pair.module_name ≡ Ok m → log_in folder pair.log_name ≡ Ok log → clash_of_logs ls log.0 ≡ None
     → loaded_pair folder ls pair ≡ Ok (read_as pair m log)
 pair_stands folder ls pair m log is stands none =
     module_read folder ls pair m is
-    ∙ ap (λ (r : Result (Head × Unread) CommandStop). and_then r (λ log. unless_clash pair.log_name (read_as pair m log) (clash_of_logs ls log.0))) stands
-    ∙ ap (unless_clash pair.log_name (read_as pair m log)) none
+    ∙ ap (λ (r : Result (Head × Unread) CommandStop). and_then r (λ log. unless_refused pair.log_name (read_as pair m log) (clash_of_logs ls log.0))) stands
+    ∙ ap (unless_refused pair.log_name (read_as pair m log)) none
 
 pub pair_read : (folder : Folder) (ls : List Loaded) (pair : Pair) (m : Module) (bytes : List ℕ) (log : Head × Unread) → module_in folder pair.module_name ≡ Ok m → file_of folder pair.log_name most_log ≡ Ok bytes
-    → log_or_bad_head pair.log_name (head_at bytes) ≡ Ok log → clash_of_logs ls log.0 ≡ None → loaded_pair folder ls pair ≡ Ok (read_as pair m log)
+    → some_or_refused pair.log_name reason.BadHead (head_at bytes) ≡ Ok log → clash_of_logs ls log.0 ≡ None → loaded_pair folder ls pair ≡ Ok (read_as pair m log)
 pair_read folder ls pair m bytes log is read head none = pair_stands folder ls pair m log is (log_is folder pair.log_name bytes log read head) none
 
 -- ---- pair after pair

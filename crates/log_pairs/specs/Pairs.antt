@@ -1,5 +1,5 @@
 -- The modules and logs of a group, as they are read, and the replays of the logs.
-use Rattle.std.specs.Prelude.{◌≡◌, ℕ, List, [], ◌∷◌, ◌++◌, ◌==◌, Bool, false, not, nat_lt, bytes_eq, Option, Some, None, Result, Ok, Err, if◌then◌else◌}
+use Rattle.std.specs.Prelude.{◌≡◌, ℕ, List, [], ◌∷◌, ◌++◌, ◌==◌, Bool, false, not, nat_lt, bytes_eq, Option, Some, None, Result, Ok, if◌then◌else◌}
 use Rattle.std.specs.List.{flat_map, list_any}
 use Rattle.fri_outside.specs.Outside.{Folder, WhenTold}
 use Rattle.wasm_types.specs.Modules.{Module}
@@ -12,7 +12,7 @@ use Rattle.command_run.specs.Inputs.{first_state_of, module_in}
 use Rattle.command_run.specs.Logs.{log_in}
 use Rattle.command_run.specs.declared.refusal.StopCause.{StopCause}
 use Rattle.command_run.specs.Call.{StopsAsCause}
-use Rattle.command_run.specs.Outcome.{CommandStop, and_then, refuses_at_once}
+use Rattle.command_run.specs.Outcome.{CommandStop, and_then, unless_refused}
 
 -- the files of a module and of a log of its process
 pub record Pair : Type 0 where
@@ -51,17 +51,13 @@ clash_of_logs earlier head =
     else if has_name earlier head.name then Some reason.SameName
     else None
 
-abbrev pub unless_clash : List ℕ → Loaded → Option Reason → Result Loaded CommandStop
-unless_clash log_name l None = Ok l
-unless_clash log_name l (Some why) = Err (refuses_at_once log_name why)
-
 -- ---- the files, pair after pair
 
 -- the module's, then the log's, then the log against the pairs before it
 abbrev pub loaded_pair : Folder → List Loaded → Pair → Result Loaded CommandStop
 loaded_pair folder earlier pair =
     and_then (module_in folder pair.module_name) (λ m. and_then (log_in folder pair.log_name) (λ log.
-    unless_clash pair.log_name (record { module_name = pair.module_name; «module» = m; head = log.0; left = log.1 }) (clash_of_logs earlier log.0)))
+    unless_refused pair.log_name (record { module_name = pair.module_name; «module» = m; head = log.0; left = log.1 }) (clash_of_logs earlier log.0)))
 
 abbrev pub loaded_pairs : Folder → List Loaded → List Pair → Result (List Loaded) CommandStop
 loaded_pairs folder earlier [] = Ok earlier

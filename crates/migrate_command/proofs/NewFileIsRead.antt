@@ -12,10 +12,10 @@ use Rattle.call_log.specs.Limits.{most_log}
 use Rattle.call_log.specs.Log.{Unread, unread_after_head, entries_of, head_at, rest_of_log}
 use Rattle.command_run.specs.declared.refusal.Reason.TheVariants as reason
 use Rattle.command_run.specs.Laws.{ReadsModules}
-use Rattle.command_run.specs.Outcome.{CommandStop, CommandWork, and_then, file_of, refuses_at_once}
+use Rattle.command_run.specs.Outcome.{CommandStop, CommandWork, and_then, file_of, refuses_at_once, some_or_refused}
 use Rattle.command_run.specs.OutcomeLaws.{result_follows, same_Ok_value}
 use Rattle.command_run.specs.LogLaws.{FindsLogs}
-use Rattle.command_run.specs.Logs.{log_in, log_or_bad_head}
+use Rattle.command_run.specs.Logs.{log_in}
 use Rattle.migrate_command.specs.Laws.{KeepsLog, MigrationsKeep, MigrationsWork, newer_head}
 use Rattle.migrate_command.specs.Migrate.{migrate_work, new_log, work_unless_grown}
 
@@ -36,7 +36,7 @@ not_grown : (b : Bool) (wanted work : CommandWork) (stop : CommandStop) → cond
 not_grown true wanted work stop is = (refl, same_Ok_value (Ok wanted) work wanted is refl)
 not_grown false wanted work stop is = cc
 
-log_found : (name bytes : List ℕ) (o : Option (Head × Unread)) (log : Head × Unread) → log_or_bad_head name o ≡ Ok log → o ≡ Some log
+log_found : (name bytes : List ℕ) (o : Option (Head × Unread)) (log : Head × Unread) → some_or_refused name reason.BadHead o ≡ Ok log → o ≡ Some log
 log_found name bytes None log is = cc
 log_found name bytes (Some l) log is = cc
 
@@ -44,7 +44,7 @@ module _ (keeps : KeepsFiles) (exact : ExactLogs) (rewritten_read : RewrittenIsR
   -- the head of a log that was read is one
   head_read : (folder : Folder) (name : List ℕ) (log : Head × Unread) → log_in folder name ≡ Ok log → IsHead log.0
   head_read folder name log is =
-      let f = result_follows (file_of folder name most_log) (λ bytes. log_or_bad_head name (head_at bytes)) log is in
+      let f = result_follows (file_of folder name most_log) (λ bytes. some_or_refused name reason.BadHead (head_at bytes)) log is in
       ((exact.heads f.given log.0 log.1).0 (log_found name f.given (head_at f.given) log f.comes)).0
 
   -- the new file is read as its head in version 2 and its entries, and nothing follows them
@@ -57,9 +57,9 @@ module _ (keeps : KeepsFiles) (exact : ExactLogs) (rewritten_read : RewrittenIsR
   newer_read : (folder : Folder) (new_name : List ℕ) (log : Head × Unread) → (is : IsHead log.0) → length (new_log log) ≤ most_log
       → log_in (insert folder new_name (new_log log)) new_name ≡ Ok (newer_head log.0, (newer_found log is).left)
   newer_read folder new_name log is few =
-      ap (λ (r : Result (List ℕ) CommandStop). and_then r (λ bytes. log_or_bad_head new_name (head_at bytes)))
+      ap (λ (r : Result (List ℕ) CommandStop). and_then r (λ bytes. some_or_refused new_name reason.BadHead (head_at bytes)))
       (reads.files (insert folder new_name (new_log log)) new_name most_log (new_log log) (record { held = keeps.made folder new_name (new_log log); within = few }))
-      ∙ ap (log_or_bad_head new_name) (newer_found log is).found
+      ∙ ap (some_or_refused new_name reason.BadHead) (newer_found log is).found
 
   pub migration_keeps : MigrationsKeep
   migration_keeps log_name new_name folder work is =

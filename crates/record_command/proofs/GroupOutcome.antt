@@ -23,7 +23,7 @@ use Rattle.command_run.specs.declared.refusal.StopCause.{StopCause}
 use Rattle.command_run.specs.declared.refusal.StopCause.TheVariants as refusal
 use Rattle.command_run.specs.Call.{MakesWorkFiles, TellsOutcome}
 use Rattle.record_command.specs.Expected.{group_outcome}
-use Rattle.command_run.specs.Outcome.{Refuses, no_work_done, writes_of}
+use Rattle.command_run.specs.Outcome.{Refuses, writes_of}
 use Rattle.record_command.specs.Record.{outcome_by_room, recorded_work, run_outcome, summary_text, written_before}
 use Rattle.record_command.specs.Gathering.{IsRefusalOf}
 use Rattle.record_command.proofs.FileFronts.{all_made}
@@ -107,7 +107,7 @@ full_tells images name schedule states item file before after (first, is, full) 
 pub error_tells : (images : Bool) (name : List ℕ) (schedule : Schedule) (states : Result (List State) ℕ) (error : RecordError) (e : StopCause) (before after : Option Folder) → RecordAnswers schedule images states (Err error) (change before after) → IsRefusalOf name schedule error e
     → TellsOutcome (group_outcome images name schedule states) (Err e)
 error_tells images name schedule states (errors.BadSegment p) (refusal.Refused file why) before after answers (named, is) =
-    (no_work_done, rw (named, is) (ap (group_outcome images name schedule) answers.0), refl)
+    (record { text = []; writes = []; diverged = false }, rw (named, is) (ap (group_outcome images name schedule) answers.0), refl)
 error_tells images name schedule states (errors.BadSegment p) refusal.NoMemory before after answers named = tt
 error_tells images name schedule states (errors.BadSegment p) other before after answers named = absurd named
 error_tells images name schedule states (errors.LogFull item) (refusal.Refused file why) before after answers (named, is) =

@@ -41,14 +41,11 @@ report_line_text line =
     line.name ++ (codes ": " ++ (decimal line.events ++ (codes " events, "
     ++ (end_text line.end ++ (codes ", " ++ (verdict_text line.verdict ++ codes "\n"))))))
 
-abbrev pub count_text : ℕ → List ℕ → List ℕ
-count_text number what = decimal number ++ what
-
 -- what the events of the group's logs say of datagrams
 abbrev pub group_text : GroupCounts → List ℕ
 group_text c =
-    codes "group: " ++ (count_text c.sends (codes " sends, ") ++ (count_text c.receives (codes " receives, ")
-    ++ (count_text c.unmatched (codes " unmatched, ") ++ count_text c.untagged (codes " untagged\n"))))
+    codes "group: " ++ ((decimal c.sends ++ codes " sends, ") ++ ((decimal c.receives ++ codes " receives, ")
+    ++ ((decimal c.unmatched ++ codes " unmatched, ") ++ (decimal c.untagged ++ codes " untagged\n"))))
 
 -- a line for each log, and the counts
 abbrev pub report_text : List ReportLine → GroupCounts → List ℕ

@@ -1,7 +1,7 @@
 // The report of a replay.
-ghost use Rattle.std.specs.Prelude.{◌≡◌, ◌++◌, IfOk, OnOk};
+ghost use Rattle.std.specs.Prelude.{◌≡◌, ◌++◌, IfOk, OnOk, decimal};
 ghost use Rattle.group_state.specs.Report.{counts_in};
-ghost use Rattle.replay_command.specs.Report.{count_text, divergence_text, some_log_diverges, group_text, is_divergence, report_line_text, report_text, verdict_text};
+ghost use Rattle.replay_command.specs.Report.{divergence_text, some_log_diverges, group_text, is_divergence, report_line_text, report_text, verdict_text};
 ghost use Rattle.replay_command.specs.inside.Ending.{PrintsAtEnd};
 
 use command_run::WorkText;
@@ -61,7 +61,7 @@ fn push_line(alloc: Global, text: &mut Text, line: &ReportLine) -> Result<(), Al
 
 // A number, and what it is that is so many.
 fn push_count(text: &mut Text, number: u64, what: &str) -> Result<(), AllocError>
-    ensures { OnOk result (text.new ≡ text.old ++ count_text number what.now) }
+    ensures { OnOk result (text.new ≡ text.old ++ (decimal number ++ what.now)) }
 {
     text.push_u64(number)?;
     text.push_str(what)?;

@@ -3,7 +3,7 @@ use Rattle.std.proofs.Common.{◌≡◌, ◌∙◌, ◌+◌, ℕ, zero, suc, Boo
 use Rattle.std.specs.Prelude.{slice_get}
 use Rattle.std.specs.FinMap.{get}
 use Rattle.std.proofs.lemmas.Option.{same_Some}
-use Rattle.fri_outside.specs.Outside.{Folder, found_within}
+use Rattle.fri_outside.specs.Outside.{Folder}
 use Rattle.wasm_types.specs.Modules.{Module}
 use Rattle.wasm_decode.specs.Sections.{module_of_bytes}
 use Rattle.guest_process.specs.Start.{start}
@@ -18,10 +18,11 @@ use Rattle.schedule_text.specs.Schedule.{Schedule}
 use Rattle.schedule_text.specs.declared.process.ProcessLine.{ProcessLine}
 use Rattle.schedule_back.specs.Back.{back}
 use Rattle.schedule_back.specs.Laws.{RecordsBack, back_group, back_run}
-use Rattle.command_run.specs.Inputs.{module_in, spelled_module, valid_module}
+use Rattle.command_run.specs.declared.refusal.Reason.TheVariants as reason
+use Rattle.command_run.specs.Inputs.{module_in, valid_module}
 use Rattle.command_run.specs.Laws.{ReadsModules}
 use Rattle.command_run.specs.Limits.{most_module}
-use Rattle.command_run.specs.Outcome.{CommandStop, and_then, bytes_or_stop}
+use Rattle.command_run.specs.Outcome.{CommandStop, and_then, some_or_refused, file_within}
 use Rattle.record_command.specs.Agreement.{IsRecordable, group_in, run_in}
 use Rattle.record_command.specs.Expected.{KeepsSchedule, modules_of, record_outcome, schedule_in, schedule_or_refusal}
 use Rattle.record_command.specs.ExpectedLaws.{outcome_is_run}
@@ -32,7 +33,7 @@ use Rattle.record_command.specs.Record.{outcome_by_room, recorded_work}
 -- a module is read of the file's bytes alone
 pub module_again : (folder later : Folder) (name : List ℕ) → get later name ≡ get folder name → module_in later name ≡ module_in folder name
 module_again folder later name same =
-    ap (λ (o : Option (List ℕ)). and_then (bytes_or_stop name (found_within most_module o)) (λ bytes. and_then (spelled_module name (module_of_bytes bytes)) (valid_module name))) same
+    ap (λ (o : Option (List ℕ)). and_then (file_within name most_module o) (λ bytes. and_then (some_or_refused name reason.Malformed (module_of_bytes bytes)) (valid_module name))) same
 
 -- a replay begins as process p of so many, of the module of this line
 pub record BeginsAs (later : Folder) (count p : ℕ) (line : ProcessLine) (r : Replaying) : Type 0 where

@@ -11,10 +11,11 @@ use Rattle.guest_process.specs.State.{State}
 use Rattle.proc_replay.specs.Replaying.{Replaying}
 use Rattle.command_run.specs.declared.refusal.Reason.{Reason}
 use Rattle.command_run.specs.declared.refusal.Reason.TheVariants as reason
-use Rattle.command_run.specs.Inputs.{first_state_of, module_in, state_or_bad_segment}
+use Rattle.command_run.specs.Inputs.{first_state_of, module_in}
 use Rattle.command_run.specs.OutcomeLaws.{result_follows, same_Ok_value}
 use Rattle.command_run.specs.Logs.{log_in}
-use Rattle.log_pairs.specs.Pairs.{Loaded, Pair, clash_of_logs, has_name, has_process, is_other_group, loaded_pair, loaded_pairs, replay_of_log, replays_of, unless_clash}
+use Rattle.command_run.specs.Outcome.{some_or_refused, unless_refused}
+use Rattle.log_pairs.specs.Pairs.{Loaded, Pair, clash_of_logs, has_name, has_process, is_other_group, loaded_pair, loaded_pairs, replay_of_log, replays_of}
 
 -- ---- one pair
 
@@ -64,7 +65,7 @@ differ_from (e ∷ earlier) l process name =
 
 -- ---- all pairs
 
-not_clashing : (name : List ℕ) (l given : Loaded) (why : Option Reason) → unless_clash name l why ≡ Ok given → (why ≡ None) × (given ≡ l)
+not_clashing : (name : List ℕ) (l given : Loaded) (why : Option Reason) → unless_refused name l why ≡ Ok given → (why ≡ None) × (given ≡ l)
 not_clashing name l given None is = (refl, same_Ok_value (Ok l) given l is refl)
 not_clashing name l given (Some why) is = absurd (cc)
 
@@ -137,7 +138,7 @@ AllBegin (l ∷ ls) (r ∷ rs) = Begins l r × AllBegin ls rs
 AllBegin [] (r ∷ rs) = ⊥
 AllBegin (l ∷ ls) [] = ⊥
 
-begun_state : (name : List ℕ) (o : Option State) (S : State) → state_or_bad_segment name o ≡ Ok S → o ≡ Some S
+begun_state : (name : List ℕ) (o : Option State) (S : State) → some_or_refused name reason.BadSegment o ≡ Ok S → o ≡ Some S
 begun_state name None S is = absurd (cc)
 begun_state name (Some T) S is = ap Some (same_Ok_value (Ok T) T S refl is)
 

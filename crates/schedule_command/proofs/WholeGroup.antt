@@ -1,5 +1,5 @@
 -- The replays of pairs that are complete are a whole group, with the lines of the schedule.
-use Rattle.std.proofs.Common.{◌≡◌, ◌≢◌, ◌∙◌, ◌+◌, ◌≤◌, ◌<◌, ℕ, zero, suc, Bool, true, false, cond, List, [], ◌∷◌, ◌++◌, length, map, Option, Some, None, Ok, ap, arith, refl, sym, subst}
+use Rattle.std.proofs.Common.{◌≡◌, ◌≢◌, ◌∙◌, ◌+◌, ◌≤◌, ◌<◌, ℕ, zero, suc, Bool, true, false, cond, List, [], ◌∷◌, ◌++◌, length, map, Option, Some, None, Ok, ap, arith, refl, sym, subst, Err}
 use Rattle.std.specs.Prelude.{◌==◌, All, AllPairs, IsTrue, nat_le, option_and_then, slice_get}
 use Rattle.std.specs.List.{AllByRecursion, position_from}
 use Rattle.std.specs.Option.{option_map_or}
@@ -8,7 +8,7 @@ use Rattle.std.proofs.lemmas.Iterator.Adapters.{position_from-zero}
 use Rattle.std.proofs.lemmas.List.Elements.{All-from_recursion}
 use Rattle.std.proofs.lemmas.List.Kept.{AllPairs-cons}
 use Rattle.std.proofs.lemmas.Option.{same_Some}
-use Rattle.fri_outside.specs.Outside.{Folder, Held, Over, found_within}
+use Rattle.fri_outside.specs.Outside.{Folder}
 use Rattle.std.specs.FinMap.{get}
 use Rattle.call_log.specs.Head.{Head, IsHead, head_bytes}
 use Rattle.call_log.specs.Laws.{ExactLogs}
@@ -22,10 +22,11 @@ use Rattle.group_state.specs.Place.{AreGroupReplays, AscendsByProcess, group_cou
 use Rattle.schedule_text.specs.declared.process.ProcessLine.{ProcessLine}
 use Rattle.proc_replay.specs.AtHead.{IsAtHead}
 use Rattle.schedule_back.specs.Laws.{IsWholeGroup}
+use Rattle.command_run.specs.declared.refusal.Reason.TheVariants as reason
 use Rattle.command_run.specs.Laws.{ReadsModules}
-use Rattle.command_run.specs.Outcome.{bytes_or_stop, file_of}
+use Rattle.command_run.specs.Outcome.{file_of, some_or_refused, file_within, refuses_at_once}
 use Rattle.command_run.specs.OutcomeLaws.{result_follows, same_Ok_value}
-use Rattle.command_run.specs.Logs.{log_in, log_or_bad_head}
+use Rattle.command_run.specs.Logs.{log_in}
 use Rattle.log_pairs.specs.Pairs.{Loaded, Pair}
 use Rattle.log_pairs.specs.Finding.{module_file}
 use Rattle.schedule_command.specs.Schedule.{is_complete, line_of_replay, lines_of_replays}
@@ -42,22 +43,22 @@ pub record LogFile (folder : Folder) (name : List ℕ) (head : Head) (left : Unr
   pub spelled : bytes ≡ head_bytes head ++ left.bytes
   pub behind : left ≡ unread_after_head head left.bytes
 
-held_bytes : (name : List ℕ) (limit : ℕ) (o : Option (List ℕ)) (bytes : List ℕ) → bytes_or_stop name (found_within limit o) ≡ Ok bytes → (o ≡ Some bytes) × (length bytes ≤ limit)
+held_bytes : (name : List ℕ) (limit : ℕ) (o : Option (List ℕ)) (bytes : List ℕ) → file_within name limit o ≡ Ok bytes → (o ≡ Some bytes) × (length bytes ≤ limit)
 held_bytes name limit None bytes is = absurd (cc)
 held_bytes name limit (Some given) bytes is = by_test (nat_le (length given) limit) refl is where
-  by_test : (b : Bool) → nat_le (length given) limit ≡ b → bytes_or_stop name (cond b (Held given) Over) ≡ Ok bytes → (let o : Option (List ℕ) = Some given in o ≡ Some bytes) × (length bytes ≤ limit)
+  by_test : (b : Bool) → nat_le (length given) limit ≡ b → cond b (Ok given) (Err (refuses_at_once name reason.TooLarge)) ≡ Ok bytes → (let o : Option (List ℕ) = Some given in o ≡ Some bytes) × (length bytes ≤ limit)
   by_test true fits is =
       let same : given ≡ bytes = same_Ok_value (Ok given) given bytes refl is in
       (ap Some same, subst (λ (b : List ℕ). length b ≤ limit) same (leb-true (length given) limit fits))
   by_test false fits is = absurd (cc)
 
-log_found : (name : List ℕ) (o : Option (Head × Unread)) (log : Head × Unread) → log_or_bad_head name o ≡ Ok log → o ≡ Some log
+log_found : (name : List ℕ) (o : Option (Head × Unread)) (log : Head × Unread) → some_or_refused name reason.BadHead o ≡ Ok log → o ≡ Some log
 log_found name None log is = absurd (cc)
 log_found name (Some l) log is = ap Some (same_Ok_value (Ok l) l log refl is)
 
 pub log_file_of : ExactLogs → (folder : Folder) (name : List ℕ) (head : Head) (left : Unread) → log_in folder name ≡ Ok (head, left) → LogFile folder name head left
 log_file_of exact folder name head left is =
-    let f = result_follows (file_of folder name most_log) (λ bytes. log_or_bad_head name (head_at bytes)) (head, left) is in
+    let f = result_follows (file_of folder name most_log) (λ bytes. some_or_refused name reason.BadHead (head_at bytes)) (head, left) is in
     let held = held_bytes name most_log (get folder name) f.given f.is_given in
     let found = (exact.heads f.given head left).0 (log_found name (head_at f.given) (head, left) f.comes) in
     record { bytes = f.given; held = held.0; within = held.1; in_range = found.0; spelled = found.1.0; behind = found.1.1 }

@@ -1,6 +1,7 @@
 mod CountedStreams
 mod SentInGroup
 mod ToldByEvents
+mod StreamPositions
 mod NoClockTwice
 mod GroupWalk
 mod StreamsText

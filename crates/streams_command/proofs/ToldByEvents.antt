@@ -33,7 +33,7 @@ few_received : (p : ℕ) (e : Entry) (tag : Option Tag) → length (received_tra
 few_received p e None = omega arith
 few_received p e (Some tag) = omega arith
 
-few_by : (sent taken : Bool) (p : ℕ) (e : Entry) → length (traffic_by sent taken p e) ≤ 1
+pub few_by : (sent taken : Bool) (p : ℕ) (e : Entry) → length (traffic_by sent taken p e) ≤ 1
 few_by true taken p e = omega arith
 few_by false true p e = few_received p e e.tag
 few_by false false p e = omega arith

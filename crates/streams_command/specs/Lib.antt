@@ -1,3 +1,4 @@
 pub mod Streams
+pub mod Positions
 pub mod Laws
 pub mod inside
