@@ -1,71 +1,64 @@
 // `replay [--images] MODULE LOG ..`: the events of a group's logs, made again.
-ghost use Rattle.std.specs.Prelude.{◌≡◌, All, Err, List, map, option_map, IfErr, IfOk};
+ghost use Rattle.std.specs.Prelude.{◌≡◌, All, List, map, option_map, IfErr};
 ghost use Rattle.fri_outside.specs.Outside.{WhenTold};
-ghost use Rattle.fri_outside.specs.Several.{with_files};
 ghost use Rattle.call_log.specs.Head.{IsHead};
 ghost use Rattle.command_run.specs.Call.{CountsFaults, KeepsFolder, MakesWholeFiles, MakesAllFiles, RaisesCount, TellsOutcome};
 ghost use Rattle.command_run.specs.Outcome.{writes_of};
 ghost use Rattle.replay_command.specs.Report.{images_if, images_in, replay_outcome};
-ghost use Rattle.replay_command.specs.inside.Reporting.{SaysSame};
 ghost use Rattle.log_pairs.specs.Meanings.{pair_of};
 
 use crate::names::keep_pairs;
 use crate::report::print_report;
 use command_run::{StopCause, WorkText};
 use fri_outside::Files;
-use group_state::Reporter;
+use group_state::{image_of, report_of};
 use log_pairs::{Pair, begin_all, load_all};
+use proc_replay::Replayer;
 use process_files::write_image;
 use std::alloc::Global;
 
-// Replays each log and writes what its process leaves, in order of the processes' numbers.
-fn write_images<'m, 'a, F: Files>(
+// Writes what each process leaves, in order of the processes' numbers.
+fn write_images<F: Files>(
     alloc: Global,
-    reporter: Reporter<'m, 'a>,
+    replayers: &[Replayer<'_, '_>],
     files: &mut F,
-) -> Result<Reporter<'m, 'a>, StopCause>
-    requires { All (λ r. IsHead r.head) reporter.left }
-    ensures made { IfOk result (λ _. F.told files.new ≡ with_files (images_in reporter.entry.left) (F.told files.old)) }
-    ensures part { IfErr result (λ why. MakesAllFiles (Err why) (images_in reporter.entry.left) (F.told files.old) (F.told files.new)) }
-    ensures same { IfOk result (SaysSame reporter.entry) }
+) -> Result<(), StopCause>
+    requires heads { All (λ r. IsHead r.head) replayers.now }
+    requires fresh { All (λ r. r.state.events ≡ 0) replayers.now }
+    ensures made { MakesAllFiles result (images_in replayers.now) (F.told files.old) (F.told files.new) }
     ensures counts { CountsFaults (F.counts files.old) (F.counts files.new) result }
     ensures cause { IfErr result (RaisesCount (F.counts files.old) (F.counts files.new)) }
 {
-    let mut reporter = reporter;
-    'images: loop {
-        let (next, image) = reporter.next_image(alloc)?;
-        reporter = next;
-        let Some((head, image)) = image else {
-            return Ok(reporter);
-        };
+    for replayer in replayers {
+        let image = image_of(alloc, replayer)?;
         write_image(
             alloc,
-            head.name,
+            replayer.head().name,
             image.memory.as_slice(),
             image.printed.as_slice(),
             files,
         )?;
     }
+    Ok(())
 }
 
 // The same where images were asked for, and else none.
-fn write_asked<'m, 'a, F: Files>(
+fn write_asked<F: Files>(
     alloc: Global,
     images: bool,
-    reporter: Reporter<'m, 'a>,
+    replayers: &[Replayer<'_, '_>],
     files: &mut F,
-) -> Result<Reporter<'m, 'a>, StopCause>
-    requires { All (λ r. IsHead r.head) reporter.left }
-    ensures made { IfOk result (λ _. F.told files.new ≡ with_files (images_if images reporter.entry.left) (F.told files.old)) }
-    ensures part { IfErr result (λ why. MakesAllFiles (Err why) (images_if images reporter.entry.left) (F.told files.old) (F.told files.new)) }
-    ensures same { IfOk result (SaysSame reporter.entry) }
+) -> Result<(), StopCause>
+    requires heads { All (λ r. IsHead r.head) replayers.now }
+    requires fresh { All (λ r. r.state.events ≡ 0) replayers.now }
+    ensures made { MakesAllFiles result (images_if images replayers.now) (F.told files.old) (F.told files.new) }
     ensures counts { CountsFaults (F.counts files.old) (F.counts files.new) result }
     ensures cause { IfErr result (RaisesCount (F.counts files.old) (F.counts files.new)) }
 {
     if images {
-        write_images(alloc, reporter, files)
+        write_images(alloc, replayers, files)
     } else {
-        Ok(reporter)
+        Ok(())
     }
 }
 
@@ -88,8 +81,7 @@ pub fn replay<F: Files>(
     let all = load_all(alloc, pairs, files)?;
     let replayers = begin_all(alloc, &all)?;
     keep_pairs(alloc, images, pairs, &replayers)?;
-    let begun = Reporter::begin(alloc, replayers);
-    let reporter = write_asked(alloc, images, begun, files)?;
-    let report = reporter.finish(alloc)?;
+    write_asked(alloc, images, &replayers, files)?;
+    let report = report_of(alloc, replayers)?;
     Ok(print_report(alloc, &report)?)
 }
