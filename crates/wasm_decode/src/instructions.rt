@@ -93,17 +93,11 @@ fn instr(
     ensures { DecodesOnto instrs.old.items instrs.new.items result cursor.new (instr_at (levels_at levels) opcode cursor.old.left) }
 {
     match opcode {
-        0x02 => {
+        0x02 | 0x03 => {
             let label = result_type(cursor)?;
             let mut body = Vec::new(alloc);
             whole(alloc, cursor, levels, &mut body)?;
-            push_block(instrs, label, body)
-        }
-        0x03 => {
-            let label = result_type(cursor)?;
-            let mut body = Vec::new(alloc);
-            whole(alloc, cursor, levels, &mut body)?;
-            push_loop(instrs, label, body)
+            push_nested(instrs, opcode, label, body)
         }
         0x04 => {
             let label = result_type(cursor)?;
@@ -119,27 +113,22 @@ fn instr(
     }
 }
 
+// A block, or with the opcode of a loop a loop.
 #[inline(never)]
-fn push_block(
+fn push_nested(
     instrs: &mut Vec<Instr>,
+    opcode: u8,
     label: Option<ValType>,
     body: Vec<Instr>,
 ) -> Result<(), DecodeError>
-    ensures { Pushes instrs.old.items instrs.new.items (instr.Block label body) result }
+    ensures block { opcode ≡ 2 → Pushes instrs.old.items instrs.new.items (instr.Block label body) result }
+    ensures loops { opcode ≡ 3 → Pushes instrs.old.items instrs.new.items (instr.Loop label body) result }
 {
-    instrs.push(Instr::Block(label, body))?;
-    Ok(())
-}
-
-#[inline(never)]
-fn push_loop(
-    instrs: &mut Vec<Instr>,
-    label: Option<ValType>,
-    body: Vec<Instr>,
-) -> Result<(), DecodeError>
-    ensures { Pushes instrs.old.items instrs.new.items (instr.Loop label body) result }
-{
-    instrs.push(Instr::Loop(label, body))?;
+    let nested = match opcode {
+        0x03 => Instr::Loop(label, body),
+        _ => Instr::Block(label, body),
+    };
+    instrs.push(nested)?;
     Ok(())
 }
 

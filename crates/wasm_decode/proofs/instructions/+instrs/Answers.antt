@@ -1,4 +1,4 @@
-use Rattle.std.proofs.Common.{◌≡◌, ◌-◌, ◌∷◌, [], ◌++◌, length, true, false, refl, ap, arith, length-append}
+use Rattle.std.proofs.Common.{◌≡◌, ℕ, zero, suc, ◌<◌, ◌≤◌, ◌⊎◌, ◌-◌, ◌∷◌, [], ◌++◌, length, true, false, refl, ap, arith, length-append, inl, inr}
 use Rattle.std.proofs.lemmas.Bool.{ne_eqb}
 use Rattle.std.proofs.lemmas.Result.{err_from_is_err_and}
 use Rattle.wasm_types.specs.Code.{tree}
@@ -8,27 +8,34 @@ use Rattle.wasm_decode.proofs.InstrLoop.{block_made, loop_made, if_made_one, if_
 use Rattle.wasm_decode.proofs.instructions.+instrs.Goals as goal
 use Rattle.wasm_decode.proofs.instructions.+instrs.Goals.{instr-then-end-ne-END+in_ok-whole-in-4, instr-else-end-ne-END, sequence-then-opcode-eq-END-via-then-opcode-eq-END, sequence-then-opcode-eq-END-via-else-opcode-eq-END+then-opcode-eq-ELSE}
 
-pub instr-returns-in_ok-whole-in-2 : goal.instr-returns-in_ok-whole-in-2
-instr-returns-in_ok-whole-in-2 t c =
-    pushed _ _ _ _ _ _ c.push_block.ensures
-    (block_made (levels_at c.args.levels) c.args.opcode c.args.cursor.now.left c.result_type.new.cursor.left c.whole.new.cursor.left c.in_ok-label-in-2.label c.whole.new.instrs
-    c.in-2.is c.in_ok-label-in-2.ensures c.in_ok-whole-in-2.ensures)
+two_or_three : (n : ℕ) → 2 ≤ n → n < 4 → (n ≡ 2) ⊎ (n ≡ 3)
+two_or_three zero least most = absurd (omega (arith, least))
+two_or_three (suc zero) least most = absurd (omega (arith, least))
+two_or_three (suc (suc zero)) least most = inl refl
+two_or_three (suc (suc (suc zero))) least most = inr refl
+two_or_three (suc (suc (suc (suc n)))) least most = absurd (omega (arith, most))
 
-pub instr-returns-in_ok-whole-in-3 : goal.instr-returns-in_ok-whole-in-3
-instr-returns-in_ok-whole-in-3 t c =
-    pushed _ _ _ _ _ _ c.push_loop.ensures
-    (loop_made (levels_at c.args.levels) c.args.opcode c.args.cursor.now.left c.result_type-in-3.new.cursor.left c.whole-in-3.new.cursor.left c.in_ok-label-in-3.label c.whole-in-3.new.instrs
-    c.in-3.is c.in_ok-label-in-3.ensures c.in_ok-whole-in-3.ensures)
+pub instr-returns-in_ok-whole-in-2 : goal.instr-returns-in_ok-whole-in-2
+instr-returns-in_ok-whole-in-2 t c = elim (two_or_three c.args.opcode (omega arith) (omega arith)) [
+  | inl block ↦
+      pushed _ _ _ _ _ _ (c.push_nested.ensures.block block)
+      (block_made (levels_at c.args.levels) c.args.opcode c.args.cursor.now.left c.result_type-in-2.new.cursor.left c.whole-in-2.new.cursor.left c.in_ok-label-in-2.label c.whole-in-2.new.instrs
+      block c.in_ok-label-in-2.ensures c.in_ok-whole-in-2.ensures)
+  | inr loops ↦
+      pushed _ _ _ _ _ _ (c.push_nested.ensures.loops loops)
+      (loop_made (levels_at c.args.levels) c.args.opcode c.args.cursor.now.left c.result_type-in-2.new.cursor.left c.whole-in-2.new.cursor.left c.in_ok-label-in-2.label c.whole-in-2.new.instrs
+      loops c.in_ok-label-in-2.ensures c.in_ok-whole-in-2.ensures)
+]
 
 pub instr-returns-after-end-ne-END : goal.instr-returns-after-end-ne-END
 instr-returns-after-end-ne-END t c =
     pushed _ _ _ _ _ _ c.push_if.ensures (elim c.if-end-ne-END.branch [
       | instr-then-end-ne-END+in_ok-whole-in-4 w ↦
-          if_made_two (levels_at c.args.levels) c.args.opcode c.args.cursor.now.left c.result_type-in-4.new.cursor.left c.sequence.new.cursor.left _ c.in_ok-label-in-4.label c.sequence.new.instrs c.if-end-ne-END.on_false c.in_ok-end-in-4.end
+          if_made_two (levels_at c.args.levels) c.args.opcode c.args.cursor.now.left c.result_type.new.cursor.left c.sequence.new.cursor.left _ c.in_ok-label-in-4.label c.sequence.new.instrs c.if-end-ne-END.on_false c.in_ok-end-in-4.end
           c.in-4.is c.in_ok-label-in-4.ensures c.in_ok-end-in-4.ensures (ne_eqb c.in_ok-end-in-4.end 0x0b w.if-end-ne-END.true) (rw (w.cursor-is, w.on_false-is) w.in_ok-whole-in-4.ensures)
       | instr-else-end-ne-END w ↦
           rw w.cursor-is
-          (if_made_one (levels_at c.args.levels) c.args.opcode c.args.cursor.now.left c.result_type-in-4.new.cursor.left c.sequence.new.cursor.left c.in_ok-label-in-4.label c.sequence.new.instrs c.if-end-ne-END.on_false c.in_ok-end-in-4.end
+          (if_made_one (levels_at c.args.levels) c.args.opcode c.args.cursor.now.left c.result_type.new.cursor.left c.sequence.new.cursor.left c.in_ok-label-in-4.label c.sequence.new.instrs c.if-end-ne-END.on_false c.in_ok-end-in-4.end
           c.in-4.is c.in_ok-label-in-4.ensures c.in_ok-end-in-4.ensures w.if-end-ne-END.false (rw w.on_false-is c.new-on_false.ensures.items))
     ])
 
