@@ -13,6 +13,7 @@ ghost use Rattle.shell_points.specs.declared.point.Point.{Point as Held};
 
 use crate::firing::{fires, push_line};
 use crate::point::Point;
+use crate::points::Points;
 use crate::watching::Watching;
 use fri_text::Text;
 use group_state::Group;
@@ -35,22 +36,26 @@ pub(crate) struct Said {
     stops: bool,
 }
 
-/// Goes to the last position before this one at which a point fires that may stop, or else to position 0.
-pub(crate) fn walk_back<'m, 'a, L: Ledger>(
-    alloc: Global,
-    group: Group<'m, 'a>,
-    points: &[Point],
-    steps: &mut Steps<L>,
-) -> Result<(Group<'m, 'a>, Text), AllocError>
-    ensures returns { IfOk result (λ done. PointsReturn group.entry (map {A = Held} seen points.now) done.0 done.1) }
-    ensures ticks { OnOk result (steps.new ≡ steps.old + watch_ticks group.entry.start (watched_expressions (map {A = Held} seen points.now)) 0 (group.entry.at - 1)) }
-{
-    let count = group.position().saturating_sub(1);
-    let (group, _) = group.goto(alloc, 0)?;
-    let (group, last) = last_firing(alloc, group, points, count, steps)?;
-    let Return { at, text } = last;
-    let (group, _) = group.goto(alloc, at)?;
-    Ok((group, text))
+impl Points {
+    /// Goes to the last position before this one at which a point fires that has no program or one with a `stop` in it, and
+    /// says what all say that fire there, or else goes to position 0. No program runs. Watchpoints are evaluated at position
+    /// 0, which the counter does not count, and then where an event touched something that they read.
+    pub fn walk_back<'m, 'a, L: Ledger>(
+        &self,
+        alloc: Global,
+        group: Group<'m, 'a>,
+        steps: &mut Steps<L>,
+    ) -> Result<(Group<'m, 'a>, Text), AllocError>
+        ensures returns { IfOk result (λ done. PointsReturn group.entry self.now done.0 done.1) }
+        ensures ticks { OnOk result (steps.new ≡ steps.old + watch_ticks group.entry.start (watched_expressions self.now) 0 (group.entry.at - 1)) }
+    {
+        let count = group.position().saturating_sub(1);
+        let (group, _) = group.goto(alloc, 0)?;
+        let (group, last) = last_firing(alloc, group, &self.held, count, steps)?;
+        let Return { at, text } = last;
+        let (group, _) = group.goto(alloc, at)?;
+        Ok((group, text))
+    }
 }
 
 // Where points fire last that may stop, among so many positions after position 0, at which the group is. What they said

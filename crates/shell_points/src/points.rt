@@ -1,29 +1,23 @@
 // The points that a session holds.
-ghost use Rattle.std.specs.Prelude.{◌≡◌, ◌+◌, ◌-◌, ◌<◌, ◌++◌, ◌∷◌, [], IfOk, IfSome, OnErr, OnOk, length};
+ghost use Rattle.std.specs.Prelude.{◌≡◌, ◌<◌, ◌++◌, ◌∷◌, [], IfOk, IfSome, OnErr, OnOk, length};
 ghost use Rattle.std.specs.List.{flat_map};
 ghost use Rattle.point_programs.specs.Tree.{program_body};
-ghost use Rattle.group_state.specs.Touch.{watch_ticks};
 ghost use Rattle.shell_points.specs.Points.{has_point, new_point, index_of_point, point_text, with_program, without_point};
-ghost use Rattle.shell_points.specs.Meanings.{PointsReturn, PointsWalk, held_condition as condition_meant, trigger as trigger_meant};
+ghost use Rattle.shell_points.specs.Meanings.{held_condition as condition_meant, trigger as trigger_meant};
 ghost use Rattle.shell_points.specs.inside.Meanings.{point as point_meant};
-ghost use Rattle.shell_points.specs.Watching.{watched_expressions};
 
-use crate::back::walk_back;
 use crate::point::{Point, Trigger};
-use crate::walk::walk;
 use fri_bytes::Bytes;
 use fri_text::Text;
-use group_state::Group;
-use point_programs::{Program, Vars};
+use point_programs::Program;
 use std::alloc::{AllocError, Global};
 use std::marker::Model;
-use std::sync::ledger::Ledger;
-use watch_expr::{Expr, Steps};
+use watch_expr::Expr;
 
 /// The points that a session holds. Contracts see them as a list, in the order in which they were added.
 #[derive(Drop)]
 pub struct Points {
-    held: Vec<Point>,
+    pub(crate) held: Vec<Point>,
 }
 
 impl Model for Points {
@@ -124,39 +118,6 @@ impl Points {
             push_point(&mut text, point)?;
         }
         Ok(text)
-    }
-
-    /// Goes to the first position after this one at which a point asks to stop or enough was said, or to the last; and over
-    /// so many positions at most, where that is given. Gives what points said on the way; their programs may have set variables.
-    /// Each watchpoint is evaluated once where the walk begins, which the counter does not count, and then where an event
-    /// touched something that it reads.
-    pub fn walk<'m, 'a, L: Ledger>(
-        &self,
-        alloc: Global,
-        group: Group<'m, 'a>,
-        variables: &mut Vars,
-        most: Option<u64>,
-        steps: &mut Steps<L>,
-    ) -> Result<(Group<'m, 'a>, Text), AllocError>
-        ensures walks { IfOk result (λ done. PointsWalk group.entry self.now variables.old most done.0 variables.new done.1) }
-        ensures ticks { IfOk result (λ done. steps.new ≡ steps.old + watch_ticks group.entry.start (watched_expressions self.now) group.entry.at (done.0.at - group.entry.at)) }
-    {
-        walk(alloc, group, &self.held, variables, most, steps)
-    }
-
-    /// Goes to the last position before this one at which a point fires that has no program or one with a `stop` in it, and
-    /// says what all say that fire there, or else goes to position 0. No program runs. Watchpoints are evaluated at position
-    /// 0, which the counter does not count, and then where an event touched something that they read.
-    pub fn walk_back<'m, 'a, L: Ledger>(
-        &self,
-        alloc: Global,
-        group: Group<'m, 'a>,
-        steps: &mut Steps<L>,
-    ) -> Result<(Group<'m, 'a>, Text), AllocError>
-        ensures returns { IfOk result (λ done. PointsReturn group.entry self.now done.0 done.1) }
-        ensures ticks { OnOk result (steps.new ≡ steps.old + watch_ticks group.entry.start (watched_expressions self.now) 0 (group.entry.at - 1)) }
-    {
-        walk_back(alloc, group, &self.held, steps)
     }
 }
 

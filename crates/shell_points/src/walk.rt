@@ -9,6 +9,7 @@ ghost use Rattle.shell_points.specs.Watching.{watched_expressions};
 ghost use Rattle.shell_points.specs.declared.point.Point.{Point as Held};
 
 use crate::point::Point;
+use crate::points::Points;
 use crate::points_run::{PointsRun, run_points_here};
 use crate::watching::Watching;
 use fri_text::Text;
@@ -21,22 +22,26 @@ use watch_expr::Steps;
 // A walk that has said so many lines pauses.
 const MOST_WALK_LINES: usize = 10_000;
 
-/// Goes to the first position after this one at which a point asks to stop or enough was said, or to the last; and over so
-/// many positions at most, where that is given. Gives what points said on the way; their programs may have set variables.
-pub(crate) fn walk<'m, 'a, L: Ledger>(
-    alloc: Global,
-    group: Group<'m, 'a>,
-    points: &[Point],
-    variables: &mut Vars,
-    most: Option<u64>,
-    steps: &mut Steps<L>,
-) -> Result<(Group<'m, 'a>, Text), AllocError>
-    ensures walks { IfOk result (λ done. PointsWalk group.entry (map {A = Held} seen points.now) variables.old most done.0 variables.new done.1) }
-    ensures ticks { IfOk result (λ done. steps.new ≡ steps.old + watch_ticks group.entry.start (watched_expressions (map {A = Held} seen points.now)) group.entry.at (done.0.at - group.entry.at)) }
-{
-    let mut text = Text::new(alloc);
-    let group = walk_there(alloc, group, points, variables, &mut text, most, steps)?;
-    Ok((group, text))
+impl Points {
+    /// Goes to the first position after this one at which a point asks to stop or enough was said, or to the last; and over
+    /// so many positions at most, where that is given. Gives what points said on the way; their programs may have set variables.
+    /// Each watchpoint is evaluated once where the walk begins, which the counter does not count, and then where an event
+    /// touched something that it reads.
+    pub fn walk<'m, 'a, L: Ledger>(
+        &self,
+        alloc: Global,
+        group: Group<'m, 'a>,
+        variables: &mut Vars,
+        most: Option<u64>,
+        steps: &mut Steps<L>,
+    ) -> Result<(Group<'m, 'a>, Text), AllocError>
+        ensures walks { IfOk result (λ done. PointsWalk group.entry self.now variables.old most done.0 variables.new done.1) }
+        ensures ticks { IfOk result (λ done. steps.new ≡ steps.old + watch_ticks group.entry.start (watched_expressions self.now) group.entry.at (done.0.at - group.entry.at)) }
+    {
+        let mut text = Text::new(alloc);
+        let group = walk_there(alloc, group, &self.held, variables, &mut text, most, steps)?;
+        Ok((group, text))
+    }
 }
 
 // The group there, what programs made of the variables on the way, and what was said.

@@ -1,17 +1,20 @@
-use Rattle.std.proofs.Common.{◌≡◌, ◌∙◌, ◌-◌, ◌≤◌, ℕ, List, length, map, suc, refl, ap, arith}
+use Rattle.std.proofs.Common.{◌≡◌, ◌∙◌, ◌-◌, ◌≤◌, ℕ, List, length, map, suc, refl, ap, subst, arith}
 use Rattle.proc_replay.specs.Replaying.{Replaying}
 use Rattle.group_state.specs.Place.{GroupPlace, events_of_replays}
 use Rattle.shell_points.specs.declared.point.Point.{Point as Held}
 use Rattle.shell_points.specs.Firing.{place_at}
+use Rattle.shell_points.specs.Meanings.{PointsReturn}
+use Rattle.shell_points.specs.Points.{Point}
 use Rattle.shell_points.specs.Returning.{return_from}
 use Rattle.shell_points.specs.inside.Meanings.{point, return_of}
 use Rattle.shell_points.proofs.LastFiring.{gone_to, last_within, returns_there}
-use Rattle.shell_points.proofs.back.walk_back.Goals as goal
+use Rattle.shell_points.proofs.points.Points.walk_back.Goals as goal
 
 pub returns-clause-returns : goal.returns-clause-returns
 returns-clause-returns g c =
     let first = c.args.group in
-    let ps = map {A = Held} point c.args.points.now in
+    let ps = map {A = Held} point c.deref.result.now in
+    let held : ps ≡ c.args.self.now = ap (λ (l : List Held). map {A = Held} point l) c.deref.ensures.value ∙ c.self.view_is in
     let count = c.saturating_sub-count.result in
     let r = return_of c.in_ok-group-2.last in
     let begun = gone_to first c.in_ok-group.group 0 c.in_ok-group.field-0-1 (omega arith) c.in_ok-group.ensures in
@@ -24,4 +27,5 @@ returns-clause-returns g c =
     omega (arith, last_within first.start ps count (length (events_of_replays first.start)) r within last, ap (λ (s : List Replaying). length (events_of_replays s)) walked) in
     let came : c.in_ok-group-3.group ≡ place_at first.start r.at =
     gone_to c.in_ok-group-2.group c.in_ok-group-3.group r.at c.in_ok-group-3.field-0-1 below c.in_ok-group-3.ensures ∙ ap (λ (s : List Replaying). place_at s r.at) walked in
-    returns_there first c.in_ok-group-3.group ps count r c.in_ok-group-2.last.text front last came refl
+    subst (λ (qs : List Point). PointsReturn first qs c.in_ok-group-3.group c.in_ok-group-2.last.text) held
+    (returns_there first c.in_ok-group-3.group ps count r c.in_ok-group-2.last.text front last came refl)
