@@ -32,6 +32,7 @@ pub struct RealFiles<'a, R: rt::Files> {
 }
 
 impl<'a, R: rt::Files> Model for RealFiles<'a, R> {
+    ghost use Rattle.std.specs.Prelude.{None};
     ghost use Rattle.fri_outside.specs.Outside.{Counts};
 
     ghost Value = { Counts };
@@ -40,12 +41,13 @@ impl<'a, R: rt::Files> Model for RealFiles<'a, R> {
       reads = files.read_faults;
       writes = files.write_faults;
       misses = files.misses;
+      asked = None;
     } };
 }
 
 impl<'a, R: rt::Files> RealFiles<'a, R> {
     pub fn new(alloc: Global, rt: &'a R) -> Self
-        ensures { result ≡ record { reads = 0; writes = 0; misses = 0 } }
+        ensures { result ≡ record { reads = 0; writes = 0; misses = 0; asked = None } }
     {
         RealFiles {
             alloc,
@@ -262,7 +264,7 @@ impl<'a, R: rt::Files> Files for RealFiles<'a, R> {
 
     fn read(&mut self, alloc: Global, name: &str, limit: usize) -> Result<Vec<u8>, FileError>
         ensures within { IfOk result (λ bytes. vec_len bytes ≤ limit) }
-        ensures counted { self.new ≡ after_read self.old result }
+        ensures counted { self.new ≡ after_read name.now self.old result }
     {
         let outcome = read_file(self.rt, alloc, name, limit);
         match outcome {
