@@ -1,10 +1,11 @@
 // The logs that files hold.
-ghost use Rattle.std.specs.Prelude.{◌≡◌, ℕ, ◌≤◌, length, vec_len, IfOk, IfErr};
+ghost use Rattle.std.specs.Prelude.{◌≡◌, ◌∷◌, ℕ, ◌≤◌, [], length, vec_len, IfOk, IfErr, OnOk};
 ghost use Rattle.fri_outside.specs.Outside.{WhenTold, Counts};
 ghost use Rattle.call_log.specs.Head.{IsHead};
 ghost use Rattle.call_log.specs.Limits.{most_log};
 ghost use Rattle.call_log.specs.Log.{head_at};
-ghost use Rattle.command_run.specs.Call.{CountsFaults, RaisesCount, TellsResult, reads_after, writes_after};
+ghost use Rattle.command_run.specs.Asked.{AsksAll, AsksFirst};
+ghost use Rattle.command_run.specs.Call.{CountsFaults, CountsNothing, RaisesCount, TellsResult};
 ghost use Rattle.command_run.specs.Outcome.{file_of};
 ghost use Rattle.command_run.specs.Logs.{log_or_bad_head};
 
@@ -20,6 +21,8 @@ pub fn take_log<F: Files>(alloc: Global, name: &str, files: &mut F) -> Result<Ve
     ensures within { IfOk result (λ bytes. vec_len bytes ≤ most_log) }
     ensures same { F.told files.new ≡ F.told files.old }
     ensures counts { CountsFaults (F.counts files.old) (F.counts files.new) result }
+    ensures asks { AsksFirst (name.now ∷ []) (F.counts files.old) (F.counts files.new) }
+    ensures asks_all { OnOk result (AsksAll (name.now ∷ []) (F.counts files.old) (F.counts files.new)) }
     ensures cause { IfErr result (RaisesCount (F.counts files.old) (F.counts files.new)) }
 {
     take_file(alloc, name, MOST_LOG, files)
@@ -31,7 +34,7 @@ pub fn begin_log<'b>(alloc: Global, name: &str, bytes: &'b [u8]) -> Result<LogVi
     ensures answer { TellsResult (λ log. (log.head, log.left)) (log_or_bad_head name.now (head_at bytes.now)) result }
     ensures shorter { IfOk result (λ log. length log.left.bytes ≤ length bytes.now) }
     ensures cause { (old new : Counts) → IfErr result (RaisesCount old new) }
-    ensures still { (n : ℕ) → (reads_after n result ≡ n) × (writes_after n result ≡ n) }
+    ensures still { CountsNothing result }
 {
     match LogView::begin(bytes) {
         Ok(log) => Ok(log),
