@@ -2,11 +2,12 @@
 //! of them. The modules and the schedule lie in the folder that it is run in.
 //!
 //! It is an instance of the main theorem: `record_and_show` of `two_calls` makes both calls, and its contract says that what
-//! the second shows is what the first recorded. The transcript that is printed is compared with a stored one.
+//! the second shows is what the first recorded. Then it records again and again, each time with one more call on the files
+//! that comes through, and prints what is left (`friday_stopped`). The transcript that is printed is compared with a stored one.
 #![tactic(auto)]
 
 use fri_outside::{MemFiles, MemSink, MemSource, MemTerminal};
-use friday_app::{Status, record_and_show};
+use friday_app::{Status, friday_stopped, record_and_show};
 use std::alloc::{AllocError, Global};
 use std::fs;
 use std::io::{self, Write};
@@ -83,6 +84,31 @@ fn play<R: Files + Print + AllocGlobal>(
     play_over(rt, &mut files, first, second, typed)
 }
 
+/// The calls on the files that the recording makes: three files are read, two are made and get their heads, and each of 18
+/// events is appended.
+const ALL_CALLS: u64 = 25;
+
+// How long a log is that was left.
+fn len_of(alloc: Global, files: &MemFiles, name: &str) -> Result<String, AllocError> {
+    match files.bytes(name) {
+        Some(bytes) => format!(in alloc; "{}", bytes.len()),
+        None => String::from_str(alloc, "none"),
+    }
+}
+
+// Records, where only so many calls on the files come through, and prints what is left.
+fn stop<R: Files + Print + AllocGlobal>(rt: &R, calls: u64) -> io::Result<()> {
+    let words = split_words(rt.alloc(), "record schedule")?;
+    let mut terminal = typing(rt.alloc(), "")?;
+    let (files, status) = friday_stopped(rt.alloc(), &words, calls, recordable(rt)?, &mut terminal);
+    let ping = len_of(rt.alloc(), &files, "ping.log")?;
+    let pong = len_of(rt.alloc(), &files, "pong.log")?;
+    println!(rt;
+        "{calls} calls: status {}, ping.log {ping}, pong.log {pong}",
+        status.number()
+    )
+}
+
 fn main(rt: HostRuntime) -> io::Result<()> {
     let record = "record --images schedule";
     play(
@@ -98,5 +124,9 @@ fn main(rt: HostRuntime) -> io::Result<()> {
         "debug pong.wasm pong.log ping.wasm ping.log",
         "goto 9\nmem ping 66552 8\nthreads pong\nquit\n",
     )?;
-    play(&rt, "record none", "debug ping.wasm ping.log", "")
+    play(&rt, "record none", "debug ping.wasm ping.log", "")?;
+    for calls in 0..=ALL_CALLS {
+        stop(&rt, calls)?;
+    }
+    Ok(())
 }
