@@ -1,9 +1,9 @@
 -- The outcome of a command's result, once its text is printed.
-use Rattle.std.proofs.Common.{◌≡◌, ◌≢◌, ◌++◌, ℕ, List, [], Bool, IsTrue, Option, Some, Result, Ok, Err, IfSome, IfNone, refl, sym, ap, subst, ◌∙◌, inl, inr, IfErr, arith, cond, string_bytes}
+use Rattle.std.proofs.Common.{◌≡◌, ◌≢◌, ◌⊎◌, ◌++◌, OnOk, ℕ, List, [], Bool, IsTrue, Option, Some, Result, Ok, Err, IfSome, IfNone, refl, sym, ap, subst, ◌∙◌, inl, inr, IfErr, arith, cond, string_bytes}
 use Rattle.std.specs.Result.{IsOk}
 use Rattle.std.proofs.lemmas.Grind.{common_steps}
 use Rattle.std.proofs.lemmas.Option.{same_Some}
-use Rattle.fri_outside.specs.Outside.{Folder, Counts, CountRose}
+use Rattle.fri_outside.specs.Outside.{Folder, Counts, CountRose, raised_count}
 use Rattle.fri_outside.specs.Terminal.{Hearing}
 use Rattle.fri_outside.specs.Several.{with_files}
 use Rattle.command_run.specs.declared.status.Status.{Status}
@@ -13,10 +13,12 @@ use Rattle.command_run.specs.declared.refusal.WorkText.TheVariants as answered
 use Rattle.command_run.specs.declared.refusal.StopCause.{StopCause}
 use Rattle.command_run.specs.declared.refusal.StopCause.TheVariants as refusal
 use Rattle.command_run.specs.Outcome.{CommandOutcome, NotACommand, refused_line, usage_line, outcome_status, outcome_text, writes_of}
-use Rattle.command_run.specs.Run.{CallEnds, TellsFaults, FinishedCommand, Outside, PerformedCommand, expectation, file_state}
-use Rattle.command_run.specs.Call.{CountsFaults, DivergesOnlyIf, IsAnswerResult, IsAnswerStatus, LeavesFiles, MakesWorkFiles, PrintsText, PrintsAbsent, PrintsAfterFiles, PrintsRefusal, RaisesCount, TellsOutcome, failed_says_after}
+use Rattle.command_run.specs.Asked.{IsWorkStatus}
+use Rattle.command_run.specs.declared.refusal.Reason.TheVariants as reason
+use Rattle.command_run.specs.Run.{CallEnds, TellsFaults, TellsMisses, FinishedCommand, Outside, PerformedCommand, expectation, file_state}
+use Rattle.command_run.specs.Call.{CountsFaults, DivergesOnlyIf, IsAnswerResult, IsAnswerStatus, LeavesFiles, MakesWorkFiles, PrintsText, PrintsAbsent, PrintsAfterFiles, PrintsRefusal, RaisesCount, TellsOutcome, failed_says_after, misses_of_refusal}
 use Rattle.command_run.specs.inside.Finishing.{FaultStatus, FinishesCall, status_and_text, output_state, prints_none}
-use Rattle.command_run.specs.CountLaws.{counted_faults}
+use Rattle.command_run.specs.CountLaws.{counted_faults, unmissed}
 use Rattle.command_run.specs.FileLaws.{same_changes, same_others}
 use Rattle.command_run.specs.OutcomeLaws.{no_file_left}
 use Rattle.command_run.proofs.MadeFiles.{all_changes, makes_others}
@@ -57,15 +59,15 @@ refusal_ends : (ended : Result WorkText StopCause) (answer : Status) (before aft
     → IfSome (status_and_text ended) (λ a. IsAnswerStatus answer → answer ≡ a.0)
     → IfSome (status_and_text ended) (λ a. PrintsText answer a.1 before after)
     → FaultStatus ended answer
-    → IfErr ended (RaisesCount old new)
+    → CountsFaults old new ended
     → answer ≡ ends.Refused
-    → PrintsRefusal before after (λ file. CountRose old.misses new.misses)
+    → PrintsRefusal before after (λ file why. new.misses ≡ misses_of_refusal why old.misses)
 refusal_ends (Ok (answered.Done text)) answer before after old new answers prints fault cause is =
     let e : ends.Refused ≡ ends.Done = sym is ∙ answers (subst IsAnswerStatus (sym is) tt) in cc
 refusal_ends (Ok (answered.Diverged text)) answer before after old new answers prints fault cause is =
     let e : ends.Refused ≡ ends.Diverged = sym is ∙ answers (subst IsAnswerStatus (sym is) tt) in cc
 refusal_ends (Err (refusal.Refused file why)) answer before after old new answers prints fault cause is =
-    ([], (string_bytes file), (why, prints.whole (subst IsAnswerStatus (sym is) tt), cause))
+    ([], (string_bytes file), (why, prints.whole (subst IsAnswerStatus (sym is) tt), cause.misses))
 refusal_ends (Err (refusal.Absent file)) answer before after old new answers prints fault cause is =
     let e : ends.Refused ≡ ends.Absent = sym is ∙ answers (subst IsAnswerStatus (sym is) tt) in cc
 refusal_ends (Err refusal.ReadFault) answer before after old new answers prints fault cause is = let e = sym is ∙ fault in cc
@@ -165,6 +167,42 @@ ended_faults (Err refusal.ReadFault) answer old new c f h = subst (λ (a : Statu
 ended_faults (Err refusal.WriteFault) answer old new c f h = subst (λ (a : Status). TellsFaults a old new) (sym f.fault) (inl (counted_faults new _ _ _ _ c.reads c.writes (ap (λ (n : Hearing). n.faults) h) f.quiet))
 ended_faults (Err refusal.NoMemory) answer old new c f h = subst (λ (a : Status). TellsFaults a old new) (sym f.fault) (counted_faults new _ _ _ _ c.reads c.writes (ap (λ (n : Hearing). n.faults) h) f.quiet)
 
+-- ---- the misses
+
+-- one was, and its file is told, unless that could not be
+missed_once : (old new : ℕ) (told answer : Status) → new ≡ raised_count old → (told ≡ ends.Absent ⊎ told ≡ ends.Refused) → (IsAnswerStatus answer → answer ≡ told) → (answer ≢ ends.ReadFault) → TellsMisses answer old new
+missed_once old new told ends.Done raised is answers other = absurd (by_cause is (answers tt)) where
+  by_cause : (told ≡ ends.Absent ⊎ told ≡ ends.Refused) → ends.Done ≡ told → ⊥
+  by_cause (inl e) h = let both : ends.Done ≡ ends.Absent = h ∙ e in cc
+  by_cause (inr e) h = let both : ends.Done ≡ ends.Refused = h ∙ e in cc
+missed_once old new told ends.Diverged raised is answers other = absurd (by_cause is (answers tt)) where
+  by_cause : (told ≡ ends.Absent ⊎ told ≡ ends.Refused) → ends.Diverged ≡ told → ⊥
+  by_cause (inl e) h = let both : ends.Diverged ≡ ends.Absent = h ∙ e in cc
+  by_cause (inr e) h = let both : ends.Diverged ≡ ends.Refused = h ∙ e in cc
+missed_once old new told ends.Usage raised is answers other = absurd (by_cause is (answers tt)) where
+  by_cause : (told ≡ ends.Absent ⊎ told ≡ ends.Refused) → ends.Usage ≡ told → ⊥
+  by_cause (inl e) h = let both : ends.Usage ≡ ends.Absent = h ∙ e in cc
+  by_cause (inr e) h = let both : ends.Usage ≡ ends.Refused = h ∙ e in cc
+missed_once old new told ends.Refused raised is answers other = inr raised
+missed_once old new told ends.Absent raised is answers other = raised
+missed_once old new told ends.ReadFault raised is answers other = absurd (other refl)
+missed_once old new told ends.WriteFault raised is answers other = inr raised
+missed_once old new told ends.NoMemory raised is answers other = inr raised
+
+ended_misses : (ended : Result WorkText StopCause) (answer : Status) (old new : Counts) → CountsFaults old new ended
+    → IfSome (status_and_text ended) (λ a. IsAnswerStatus answer → answer ≡ a.0)
+    → IfSome (status_and_text ended) (λ _. answer ≢ ends.ReadFault)
+    → FaultStatus ended answer
+    → TellsMisses answer old.misses new.misses
+ended_misses (Ok (answered.Done text)) answer old new c answers other fault = unmissed _ _ answer c.misses (λ is. let e : ends.Absent ≡ ends.Done = sym is ∙ answers (subst IsAnswerStatus (sym is) tt) in cc)
+ended_misses (Ok (answered.Diverged text)) answer old new c answers other fault = unmissed _ _ answer c.misses (λ is. let e : ends.Absent ≡ ends.Diverged = sym is ∙ answers (subst IsAnswerStatus (sym is) tt) in cc)
+ended_misses (Err (refusal.Refused file reason.TooLarge)) answer old new c answers other fault = missed_once _ _ ends.Refused answer c.misses (inr refl) answers other
+ended_misses (Err (refusal.Refused file why)) answer old new c answers other fault = unmissed _ _ answer c.misses (λ is. let e : ends.Absent ≡ ends.Refused = sym is ∙ answers (subst IsAnswerStatus (sym is) tt) in cc)
+ended_misses (Err (refusal.Absent file)) answer old new c answers other fault = missed_once _ _ ends.Absent answer c.misses (inl refl) answers other
+ended_misses (Err refusal.ReadFault) answer old new c answers other fault = subst (λ (a : Status). TellsMisses a old.misses new.misses) (sym fault) c.misses
+ended_misses (Err refusal.WriteFault) answer old new c answers other fault = subst (λ (a : Status). TellsMisses a old.misses new.misses) (sym fault) (inl c.misses)
+ended_misses (Err refusal.NoMemory) answer old new c answers other fault = subst (λ (a : Status). TellsMisses a old.misses new.misses) (sym fault) c.misses
+
 -- ---- which statuses never come
 
 -- a command's result is never that the words are none
@@ -205,11 +243,41 @@ done_ends (Err refusal.ReadFault) answer answers fault is = let e = sym is ∙ f
 done_ends (Err refusal.WriteFault) answer answers fault is = let e = sym is ∙ fault in cc
 done_ends (Err refusal.NoMemory) answer answers fault is = let e = sym is ∙ fault in cc
 
+-- ---- the names that were asked for
+
+diverged_is_ok : (ended : Result WorkText StopCause)
+    → IfSome (status_and_text ended) (λ a. IsAnswerStatus ends.Diverged → ends.Diverged ≡ a.0)
+    → FaultStatus ended ends.Diverged
+    → IsOk ended
+diverged_is_ok (Ok given) answers fault = refl
+diverged_is_ok (Err (refusal.Refused file why)) answers fault = let e : ends.Diverged ≡ ends.Refused = answers tt in cc
+diverged_is_ok (Err (refusal.Absent file)) answers fault = let e : ends.Diverged ≡ ends.Absent = answers tt in cc
+diverged_is_ok (Err refusal.ReadFault) answers fault = cc
+diverged_is_ok (Err refusal.WriteFault) answers fault = cc
+diverged_is_ok (Err refusal.NoMemory) answers fault = cc
+
+work_is_ok : (ended : Result WorkText StopCause) (answer : Status)
+    → IfSome (status_and_text ended) (λ a. IsAnswerStatus answer → answer ≡ a.0)
+    → FaultStatus ended answer
+    → IsWorkStatus answer → IsOk ended
+work_is_ok ended ends.Done answers fault work = done_ends ended ends.Done answers fault refl
+work_is_ok ended ends.Diverged answers fault work = diverged_is_ok ended answers fault
+work_is_ok ended ends.Usage answers fault work = absurd work
+work_is_ok ended ends.Refused answers fault work = absurd work
+work_is_ok ended ends.Absent answers fault work = absurd work
+work_is_ok ended ends.ReadFault answers fault work = absurd work
+work_is_ok ended ends.WriteFault answers fault work = absurd work
+work_is_ok ended ends.NoMemory answers fault work = absurd work
+
+of_ok : {P : Type 0} (ended : Result WorkText StopCause) → OnOk ended P → IsOk ended → P
+of_ok (Ok given) holds is = holds
+of_ok (Err e) holds is = cc
+
 -- ---- the whole end of a call
 
-module _ (expected : Option CommandOutcome) (written : Folder → List (List ℕ)) where
+module _ (expected : Option CommandOutcome) (written inputs : Folder → List (List ℕ)) where
   call_ends : (may_diverge : Bool) (ended : Result WorkText StopCause) (answer : Status) (old new : Outside)
-      → PerformedCommand (expectation expected written may_diverge) (file_state old.told old.counts) (file_state new.told new.counts) ended
+      → PerformedCommand (expectation expected written inputs may_diverge) (file_state old.told old.counts) (file_state new.told new.counts) ended
       → FinishesCall ended answer (output_state old.taken old.out_faults) (output_state new.taken new.out_faults)
       → new.hearing ≡ old.hearing
       → CallEnds expected written old new answer
@@ -225,27 +293,31 @@ module _ (expected : Option CommandOutcome) (written : Folder → List (List ℕ
         idle = grind (arith, common_steps);
         prints_last = λ o e. last_ends ended (writes_of o) _ _ _ _ (makes o e) f.silent;
         faults = ended_faults ended answer old new p.counted f unheard;
-        absent = grind (arith, common_steps);
+        misses = ended_misses ended answer old.counts new.counts p.counted f.status f.read_fault f.fault;
         absent_text = absent_ends ended answer _ _ f.status f.text f.fault;
         out_fault = λ o e. let m = makes o e in grind (arith, common_steps);
       }
 
   -- a result whose text was printed
   pub finishes : (may_diverge : Bool) (ended : Result WorkText StopCause) (answer : Status) (old new : Outside)
-      → PerformedCommand (expectation expected written may_diverge) (file_state old.told old.counts) (file_state new.told new.counts) ended
+      → PerformedCommand (expectation expected written inputs may_diverge) (file_state old.told old.counts) (file_state new.told new.counts) ended
       → FinishesCall ended answer (output_state old.taken old.out_faults) (output_state new.taken new.out_faults)
       → new.hearing ≡ old.hearing
-      → FinishedCommand (expectation expected written may_diverge) ended old new answer
+      → FinishedCommand (expectation expected written inputs may_diverge) ended old new answer
   finishes may_diverge ended answer old new p f unheard = record {
     call = call_ends may_diverge ended answer old new p f unheard;
     is_command = not_usage ended answer f.status f.fault;
     diverged = diverged_ends may_diverge ended answer p.diverges f.status f.fault;
     done = done_ends ended answer f.status f.fault;
     came_to_end = is_end ended answer f.fault;
+    asks = λ folder told. record {
+      first = p.asks folder told;
+      all = λ work. of_ok ended (p.asks_all folder told) (work_is_ok ended answer f.status f.fault work);
+    };
     input = record {
       unheard = unheard;
       read = reads_end ended answer old.counts new.counts f.read_fault f.fault p.cause;
-      refused = refusal_ends ended answer _ _ old.counts new.counts f.status f.text f.fault p.cause;
+      refused = refusal_ends ended answer _ _ old.counts new.counts f.status f.text f.fault p.counted;
     };
   }
 
@@ -259,7 +331,7 @@ module _ (expected : Option CommandOutcome) (written : Folder → List (List ℕ
     idle = λ h. absurd h;
     prints_last = λ e here. inl refl;
     faults = refl;
-    absent = λ is. absurd cc;
+    misses = inl refl;
     absent_text = λ is. absurd cc;
     out_fault = λ e here is. absurd cc;
   }
@@ -281,7 +353,7 @@ words_end answer old new same usage prints reads counts writes unheard = record 
   idle = λ _. same;
   prints_last = λ o e. inr (same ∙ ap (λ w. with_files w old.told) (ap writes_of (same_Some _ _ e)));
   faults = said_faults answer old new (ap (λ (c : Counts). c.reads) counts) (ap (λ (c : Counts). c.writes) counts) unheard writes reads;
-  absent = λ is. let e : ends.Absent ≡ ends.Usage = sym is ∙ usage (subst IsAnswerStatus (sym is) tt) in cc;
+  misses = unmissed _ _ answer (ap (λ (c : Counts). c.misses) counts) (λ is. let e : ends.Absent ≡ ends.Usage = sym is ∙ usage (subst IsAnswerStatus (sym is) tt) in usage_not_absent e);
   absent_text = λ is. let e : ends.Absent ≡ ends.Usage = sym is ∙ usage (subst IsAnswerStatus (sym is) tt) in absurd (usage_not_absent e);
   out_fault = λ o e is. inr (same ∙ ap (λ w. with_files w old.told) (ap writes_of (same_Some _ _ e)));
 } where

@@ -1,7 +1,14 @@
 -- The modules that are kept: which one is found, and one more.
-use Rattle.std.proofs.Common.{◌≡◌, ◌||◌, Bool, true, false, List, [], ◌∷◌, ◌++◌, Option, Some, None, ap, cond, refl, subst}
-use Rattle.std.specs.Prelude.{IfNone, IsTrue, find}
+use Rattle.std.proofs.Common.{◌≡◌, ◌||◌, Bool, true, false, List, [], ◌∷◌, ◌++◌, ℕ, Option, Some, None, ap, cond, map, refl, string_bytes, subst, ◌∙◌}
+use Rattle.std.proofs.lemmas.List.{map-append}
+use Rattle.std.specs.Prelude.{IfNone, IsTrue, bytes_eq, find}
 use Rattle.std.specs.List.{AllByRecursion, list_any}
+use Rattle.wasm_types.specs.declared.modules.Module.{Module}
+use Rattle.command_run.specs.declared.kept.ModuleFile.{ModuleFile}
+use Rattle.command_run.specs.declared.kept.ModuleFiles.{ModuleFiles}
+use Rattle.command_run.specs.Asked.{kept_names, unless_named}
+use Rattle.command_run.specs.Kept.{has_file}
+use Rattle.command_run.specs.inside.Taking.{AddsFile}
 
 abbrev value_or : {X : Type 0} → X → Option X → X
 value_or default None = default
@@ -53,3 +60,25 @@ one_passes p (y ∷ ys) x is = some_at_first p y ys x (p y) (one_passes p ys x) 
 pub said_of_none : {X : Type 0} (o : Option X) (P : Type 0) → P → IfNone o P
 said_of_none None P p = p
 said_of_none (Some x) P p = tt
+
+-- ---- the names of the files
+
+any_mapped : {X Y : Type 0} (f : X → Y) (p : Y → Bool) (xs : List X) → list_any p (map f xs) ≡ list_any (λ x. p (f x)) xs
+any_mapped f p [] = refl
+any_mapped f p (x ∷ xs) = ap (λ (b : Bool). p (f x) || b) (any_mapped f p xs)
+
+named_by : (files : ModuleFiles) (name : List ℕ) (b : Bool) → has_file files name ≡ b → unless_named (kept_names files) name ≡ cond b [] (name ∷ [])
+named_by files name b has =
+    ap (λ (named : Bool). cond named [] (name ∷ [])) (any_mapped (λ (file : ModuleFile). string_bytes file.name) (λ other. bytes_eq other name) files.kept.items ∙ has)
+
+pub named_already : (files : ModuleFiles) (name : List ℕ) → IsTrue (has_file files name) → unless_named (kept_names files) name ≡ []
+named_already files name has = named_by files name true has
+
+pub named_anew : (files : ModuleFiles) (name : List ℕ) → has_file files name ≡ false → unless_named (kept_names files) name ≡ name ∷ []
+named_anew files name new = named_by files name false new
+
+pub names_with_file : (old new : ModuleFiles) (name : List ℕ) (m : Module) → AddsFile old new name m → kept_names new ≡ kept_names old ++ name ∷ []
+names_with_file old new name m adds =
+    ap (map (λ (file : ModuleFile). string_bytes file.name)) adds.added
+    ∙ map-append (λ (file : ModuleFile). string_bytes file.name) old.kept.items (adds.file ∷ [])
+    ∙ ap (λ (last : List ℕ). kept_names old ++ last ∷ []) adds.named

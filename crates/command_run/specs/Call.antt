@@ -39,11 +39,10 @@ IsIdleStatus ends.Absent = Unit {0}
 IsIdleStatus ends.ReadFault = Unit {0}
 IsIdleStatus answer = ⊥
 
--- a sink took the line that refuses a file: for its size only where that file's cause held
-abbrev pub PrintsRefusal : Option (List ℕ) → Option (List ℕ) → (List ℕ → Type 0) → Type 0
+-- a sink took the line that refuses a file for this reason, of which this holds
+abbrev pub PrintsRefusal : Option (List ℕ) → Option (List ℕ) → (List ℕ → Reason → Type 0) → Type 0
 PrintsRefusal before after cause =
-    (earlier file : List ℕ) × ((why : Reason) × (after ≡ append_known before (earlier ++ refused_line file why))
-    × (why ≡ reason.TooLarge → cause file))
+    (earlier file : List ℕ) × ((why : Reason) × (after ≡ append_known before (earlier ++ refused_line file why)) × cause file why)
 
 -- a sink took the line that says of some file that it is absent
 abbrev pub PrintsAbsent : Option (List ℕ) → Option (List ℕ) → Type 0
@@ -126,16 +125,31 @@ abbrev pub writes_after : {T : Type 0} → ℕ → Result T StopCause → ℕ
 writes_after count (Err refusal.WriteFault) = raised_count count
 writes_after count result = count
 
--- no miss was counted where it came to a value
-abbrev pub KeepsMisses : {T : Type 0} → Counts → Counts → Result T StopCause → Type 0
-KeepsMisses old new (Ok value) = new.misses ≡ old.misses
-KeepsMisses old new (Err e) = Unit {0}
+-- how many reads found no file, or one too large: a file that is refused for its size was one
+abbrev pub misses_of_refusal : Reason → ℕ → ℕ
+misses_of_refusal reason.TooLarge count = raised_count count
+misses_of_refusal why count = count
+
+-- and so was a file that is absent
+abbrev pub misses_after : {T : Type 0} → ℕ → Result T StopCause → ℕ
+misses_after count (Err (refusal.Refused file why)) = misses_of_refusal why count
+misses_after count (Err (refusal.Absent file)) = raised_count count
+misses_after count result = count
+
+-- want of memory may come in the place of such a refusal, once it was counted
+abbrev pub CountsMisses : {T : Type 0} → ℕ → ℕ → Result T StopCause → Type 0
+CountsMisses old new (Err refusal.NoMemory) = (new ≡ old) ⊎ (new ≡ raised_count old)
+CountsMisses old new result = new ≡ misses_after old result
 
 -- the counts of files, once it came to this
 pub record CountsFaults {T : Type 0} (old new : Counts) (result : Result T StopCause) : Type 0 where
   pub reads : new.reads ≡ reads_after old.reads result
   pub writes : new.writes ≡ writes_after old.writes result
-  pub misses : KeepsMisses old new result
+  pub misses : CountsMisses old.misses new.misses result
+
+-- nothing was counted that this could tell of
+abbrev pub CountsNothing : {T : Type 0} → Result T StopCause → Type 0
+CountsNothing result = (n : ℕ) → (reads_after n result ≡ n) × ((writes_after n result ≡ n) × (misses_after n result ≡ n))
 
 -- no file changed where a command found no file or could not read, whatever the folder
 abbrev pub KeepsFolder : Result WorkText StopCause → Option Folder → Option Folder → Type 0

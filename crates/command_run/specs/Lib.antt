@@ -9,6 +9,8 @@ pub mod Inputs
 pub mod Kept
 pub mod Call
 pub mod CountLaws
+pub mod Asked
+pub mod AskedLaws
 pub mod FileLaws
 pub mod LineLaws
 pub mod Run

@@ -1,5 +1,5 @@
 -- What a run of a command says, from one state of the outside to another.
-use Rattle.std.specs.Prelude.{◌≡◌, ◌≢◌, ◌⊎◌, ℕ, Bool, IsTrue, List, Option, Some, option_map, Result, IfErr}
+use Rattle.std.specs.Prelude.{◌≡◌, ◌≢◌, ◌⊎◌, ℕ, Bool, IsTrue, List, Option, Some, option_map, Result, IfErr, OnOk}
 use Rattle.std.specs.Result.{IsOk}
 use Rattle.fri_outside.specs.Outside.{Folder, WhenTold, Counts, CountRose, raised_count}
 use Rattle.fri_outside.specs.Terminal.{Hearing}
@@ -9,7 +9,8 @@ use Rattle.command_run.specs.declared.status.Status.TheVariants as ends
 use Rattle.command_run.specs.declared.refusal.WorkText.{WorkText}
 use Rattle.command_run.specs.declared.refusal.StopCause.{StopCause}
 use Rattle.command_run.specs.Outcome.{CommandOutcome, outcome_status, outcome_text, writes_of, written_names}
-use Rattle.command_run.specs.Call.{CountsFaults, DivergesOnlyIf, IsAnswerResult, IsAnswerStatus, IsIdleStatus, KeepsFolder, LeavesFiles, MakesWorkFiles, PrintsText, PrintsAbsent, PrintsAfterFiles, PrintsRefusal, RaisesCount, TellsOutcome}
+use Rattle.command_run.specs.Call.{CountsFaults, DivergesOnlyIf, IsAnswerResult, IsAnswerStatus, IsIdleStatus, KeepsFolder, LeavesFiles, MakesWorkFiles, PrintsText, PrintsAbsent, PrintsAfterFiles, PrintsRefusal, RaisesCount, TellsOutcome, misses_of_refusal}
+use Rattle.command_run.specs.Asked.{AsksAll, AsksFirst, AsksInputs}
 
 -- what is handed in, as far as it tells
 pub record Outside : Type 0 where
@@ -53,6 +54,15 @@ TellsFaults ends.WriteFault old new =
     ⊎ (faults_of new ≡ ((old.counts.reads, old.counts.writes), (old.hearing.faults, raised_count old.out_faults)))
 TellsFaults answer old new = faults_of new ≡ faults_of old
 
+-- how often a file was not found, or too large: once if it is absent, never if the work is done or a read failed, and once at
+-- most at any other end
+abbrev pub TellsMisses : Status → ℕ → ℕ → Type 0
+TellsMisses ends.Absent old new = new ≡ raised_count old
+TellsMisses ends.Refused old new = (new ≡ old) ⊎ (new ≡ raised_count old)
+TellsMisses ends.WriteFault old new = (new ≡ old) ⊎ (new ≡ raised_count old)
+TellsMisses ends.NoMemory old new = (new ≡ old) ⊎ (new ≡ raised_count old)
+TellsMisses answer old new = new ≡ old
+
 -- ---- the end of a call, whatever its command
 
 -- a command from which this is expected, as far as files and input tell it, and which may write these names, reached its
@@ -66,18 +76,19 @@ pub record CallEnds (expected : Option CommandOutcome) (written : Folder → Lis
   -- nothing is printed before the files are made
   pub prints_last : WhenTold expected (λ outcome. PrintsAfterFiles (writes_of outcome) old.taken new.taken old.told new.told)
   pub faults : TellsFaults answer old new
-  pub absent : answer ≡ ends.Absent → CountRose old.counts.misses new.counts.misses
+  pub misses : TellsMisses answer old.counts.misses new.counts.misses
   pub absent_text : answer ≡ ends.Absent → PrintsAbsent old.taken new.taken
   pub out_fault : WhenTold expected (λ outcome. answer ≡ ends.WriteFault
       → CountRose old.counts.writes new.counts.writes ⊎ (new.told ≡ with_files (writes_of outcome) old.told))
 
 -- ---- a command that reads no input
 
--- the input stays as it was. So a read that failed was one of a file, and only a file is refused for its size
+-- the input stays as it was. So a read that failed was one of a file, and a miss was counted exactly if a file is refused for
+-- its size
 pub record LeavesInput (old new : Outside) (answer : Status) : Type 0 where
   pub unheard : new.hearing ≡ old.hearing
   pub read : answer ≡ ends.ReadFault → CountRose old.counts.reads new.counts.reads
-  pub refused : answer ≡ ends.Refused → PrintsRefusal old.taken new.taken (λ file. CountRose old.counts.misses new.counts.misses)
+  pub refused : answer ≡ ends.Refused → PrintsRefusal old.taken new.taken (λ file why. new.counts.misses ≡ misses_of_refusal why old.counts.misses)
 
 -- ---- a command that makes each of its files whole
 
@@ -95,18 +106,19 @@ WritesOnly written expected before after folder =
     (after ≡ before) ⊎ ((outcome : CommandOutcome) × (expected ≡ Some outcome) × (written folder ≡ written_names outcome))
 
 -- what is expected of a command: its outcome, as far as files and input tell it, the names that it may write, by the
--- folder, and whether it may tell that a log diverged
+-- folder, those that it reads, in their order, and whether it may tell that a log diverged
 pub record Expectation : Type 0 where
   pub outcome : Option CommandOutcome
   pub written : Folder → List (List ℕ)
+  pub inputs : Folder → List (List ℕ)
   pub may_diverge : Bool
 
-abbrev pub expectation : Option CommandOutcome → (Folder → List (List ℕ)) → Bool → Expectation
-expectation outcome written may_diverge = record { outcome = outcome; written = written; may_diverge = may_diverge }
+abbrev pub expectation : Option CommandOutcome → (Folder → List (List ℕ)) → (Folder → List (List ℕ)) → Bool → Expectation
+expectation outcome written inputs may_diverge = record { outcome = outcome; written = written; inputs = inputs; may_diverge = may_diverge }
 
 -- of a command whose outcome depends on the folder alone, and which may write the files of that outcome
-abbrev pub expected_by_folder : (Folder → CommandOutcome) → Option Folder → Bool → Expectation
-expected_by_folder outcome_of told may_diverge = expectation (option_map outcome_of told) (λ folder. written_names (outcome_of folder)) may_diverge
+abbrev pub expected_by_folder : (Folder → CommandOutcome) → Option Folder → (Folder → List (List ℕ)) → Bool → Expectation
+expected_by_folder outcome_of told inputs may_diverge = expectation (option_map outcome_of told) (λ folder. written_names (outcome_of folder)) inputs may_diverge
 
 -- the files at one moment, as far as they tell, with the counts of their faults
 pub record FileState : Type 0 where
@@ -124,6 +136,8 @@ pub record PerformedCommand (expected : Expectation) (old new : FileState) (ende
   pub keeps : KeepsFolder ended old.told new.told
   pub diverges : DivergesOnlyIf expected.may_diverge ended
   pub counted : CountsFaults old.counts new.counts ended
+  pub asks : WhenTold old.told (λ folder. AsksFirst (expected.inputs folder) old.counts new.counts)
+  pub asks_all : WhenTold old.told (λ folder. OnOk ended (AsksAll (expected.inputs folder) old.counts new.counts))
   pub cause : IfErr ended (RaisesCount old.counts new.counts)
 
 -- and its text was printed. It read no input
@@ -133,4 +147,5 @@ pub record FinishedCommand (expected : Expectation) (ended : Result WorkText Sto
   pub diverged : answer ≡ ends.Diverged → IsTrue expected.may_diverge
   pub done : answer ≡ ends.Done → IsOk ended
   pub came_to_end : IsAnswerStatus answer → IsAnswerResult ended
+  pub asks : WhenTold old.told (λ folder. AsksInputs (expected.inputs folder) old.counts new.counts answer)
   pub input : LeavesInput old new answer

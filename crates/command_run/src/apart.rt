@@ -2,7 +2,7 @@
 ghost use Rattle.std.specs.Prelude.{◌≡◌, ℕ, map, option_map, string_bytes, IfErr};
 ghost use Rattle.fri_outside.specs.Outside.{Counts};
 ghost use Rattle.command_run.specs.Apart.{first_clash, unless_over_input, was_read};
-ghost use Rattle.command_run.specs.Call.{RaisesCount, TellsResult, reads_after, writes_after};
+ghost use Rattle.command_run.specs.Call.{CountsNothing, RaisesCount, TellsResult};
 
 use crate::refusal::{Reason, StopCause};
 use std::alloc::Global;
@@ -24,7 +24,7 @@ fn first_clash<'a>(read: &[&str], made: &'a [String]) -> Option<&'a String>
 pub fn keep_apart(alloc: Global, read: &[&str], made: &[String]) -> Result<(), StopCause>
     ensures answer { TellsResult (λ done. done) (unless_over_input (map (λ file. file.now) read.now) (map string_bytes made.now)) result }
     ensures cause { (old new : Counts) → IfErr result (RaisesCount old new) }
-    ensures still { (n : ℕ) → (reads_after n result ≡ n) × (writes_after n result ≡ n) }
+    ensures still { CountsNothing result }
 {
     match first_clash(read, made) {
         Some(name) => Err(StopCause::refuse(alloc, name, Reason::OverInput)),

@@ -1,5 +1,5 @@
 // Reads files, and the modules in them.
-ghost use Rattle.std.specs.Prelude.{◌≡◌, ℕ, ◌<◌, ◌≤◌, vec_len, IfOk, IfErr};
+ghost use Rattle.std.specs.Prelude.{◌≡◌, ◌∷◌, ℕ, ◌<◌, ◌≤◌, [], vec_len, IfOk, IfErr, OnOk};
 ghost use Rattle.lamport_tag.specs.Limits.{most_processes};
 ghost use Rattle.fri_outside.specs.Outside.{WhenTold, Counts};
 ghost use Rattle.wasm_types.specs.Modules.{module_of as shown};
@@ -8,7 +8,8 @@ ghost use Rattle.command_run.specs.declared.refusal.Reason.TheVariants as reason
 ghost use Rattle.command_run.specs.Outcome.{and_then, file_of, some_or_refused};
 ghost use Rattle.guest_process.specs.EventCount.{IsFresh};
 ghost use Rattle.command_run.specs.Inputs.{first_state_of, module_in, valid_module};
-ghost use Rattle.command_run.specs.Call.{CountsFaults, RaisesCount, TellsResult, reads_after, writes_after};
+ghost use Rattle.command_run.specs.Asked.{AsksAll, AsksFirst};
+ghost use Rattle.command_run.specs.Call.{CountsFaults, CountsNothing, RaisesCount, TellsResult};
 
 use crate::refusal::{Reason, StopCause};
 use fri_outside::{FileError, Files};
@@ -34,6 +35,8 @@ pub fn take_file<F: Files>(
     ensures answer { WhenTold (F.told files.old) (λ folder. TellsResult (λ bytes. bytes.items) (file_of folder name.now limit) result) }
     ensures same { F.told files.new ≡ F.told files.old }
     ensures counts { CountsFaults (F.counts files.old) (F.counts files.new) result }
+    ensures asks { AsksFirst (name.now ∷ []) (F.counts files.old) (F.counts files.new) }
+    ensures asks_all { OnOk result (AsksAll (name.now ∷ []) (F.counts files.old) (F.counts files.new)) }
     ensures cause { IfErr result (RaisesCount (F.counts files.old) (F.counts files.new)) }
 {
     match files.read(alloc, name, limit) {
@@ -49,7 +52,7 @@ pub fn take_file<F: Files>(
 fn spelled(alloc: Global, name: &str, bytes: &[u8]) -> Result<Module, StopCause>
     ensures answer { TellsResult shown (some_or_refused name.now reason.Malformed (module_of_bytes bytes.now)) result }
     ensures cause { (old new : Counts) → IfErr result (RaisesCount old new) }
-    ensures still { (n : ℕ) → (reads_after n result ≡ n) × (writes_after n result ≡ n) }
+    ensures still { CountsNothing result }
 {
     match decode(alloc, bytes) {
         Ok(module) => Ok(module),
@@ -63,7 +66,7 @@ fn spelled(alloc: Global, name: &str, bytes: &[u8]) -> Result<Module, StopCause>
 fn valid(alloc: Global, name: &str, module: Module) -> Result<ValidModule, StopCause>
     ensures answer { TellsResult shown (valid_module name.now (shown «module»)) result }
     ensures cause { (old new : Counts) → IfErr result (RaisesCount old new) }
-    ensures still { (n : ℕ) → (reads_after n result ≡ n) × (writes_after n result ≡ n) }
+    ensures still { CountsNothing result }
 {
     wasm_validate::laws::exact_fault();
     match validate(alloc, module) {
@@ -81,7 +84,7 @@ fn valid(alloc: Global, name: &str, module: Module) -> Result<ValidModule, StopC
 fn read_module(alloc: Global, name: &str, bytes: &[u8]) -> Result<ValidModule, StopCause>
     ensures answer { TellsResult shown (and_then (some_or_refused name.now reason.Malformed (module_of_bytes bytes.now)) (valid_module name.now)) result }
     ensures cause { (old new : Counts) → IfErr result (RaisesCount old new) }
-    ensures still { (n : ℕ) → (reads_after n result ≡ n) × (writes_after n result ≡ n) }
+    ensures still { CountsNothing result }
 {
     let spelled = spelled(alloc, name, bytes)?;
     valid(alloc, name, spelled)
@@ -96,6 +99,8 @@ pub fn take_module<F: Files>(
     ensures answer { WhenTold (F.told files.old) (λ folder. TellsResult shown (module_in folder name.now) result) }
     ensures same { F.told files.new ≡ F.told files.old }
     ensures counts { CountsFaults (F.counts files.old) (F.counts files.new) result }
+    ensures asks { AsksFirst (name.now ∷ []) (F.counts files.old) (F.counts files.new) }
+    ensures asks_all { OnOk result (AsksAll (name.now ∷ []) (F.counts files.old) (F.counts files.new)) }
     ensures cause { IfErr result (RaisesCount (F.counts files.old) (F.counts files.new)) }
 {
     let bytes = take_file(alloc, name, MOST_MODULE, files)?;
@@ -115,7 +120,7 @@ pub fn begin_process<'m>(
     ensures answer { TellsResult (λ begun. begun) (first_state_of name.now (shown «module».now) who count) result }
     ensures fresh { IfOk result (IsFresh who count) }
     ensures cause { (old new : Counts) → IfErr result (RaisesCount old new) }
-    ensures still { (n : ℕ) → (reads_after n result ≡ n) × (writes_after n result ≡ n) }
+    ensures still { CountsNothing result }
 {
     guest_process::laws::counting();
     match Process::start(alloc, module, who, count) {

@@ -1,7 +1,8 @@
 // The modules of files that a call read, each of which is kept once.
-ghost use Rattle.std.specs.Prelude.{◌≡◌, ℕ, List, IfErr, IfNone, IfOk, IfSome, IsTrue, Ok, OnErr, OnOk, Option, false};
+ghost use Rattle.std.specs.Prelude.{◌≡◌, ◌++◌, ℕ, [], List, IfErr, IfNone, IfOk, IfSome, IsTrue, Ok, OnErr, OnOk, Option, false};
 ghost use Rattle.fri_outside.specs.Outside.{Folder, WhenTold};
 ghost use Rattle.wasm_types.specs.Modules.{module_of as shown};
+ghost use Rattle.command_run.specs.Asked.{AsksAll, AsksFirst, kept_names, unless_named};
 ghost use Rattle.command_run.specs.Call.{CountsFaults, RaisesCount, TellsResult};
 ghost use Rattle.command_run.specs.Inputs.{module_in};
 ghost use Rattle.command_run.specs.inside.Taking.{AddsFile};
@@ -30,6 +31,7 @@ impl ModuleFiles {
     /// Nothing was read.
     pub fn new(alloc: Global) -> ModuleFiles
         ensures none { (told : Option Folder) → AreOfFiles told result }
+        ensures unnamed { kept_names result ≡ [] }
     {
         ModuleFiles {
             kept: Vec::new(alloc),
@@ -73,6 +75,9 @@ impl ModuleFiles {
         ensures kept { AreOfFiles (F.told files.old) self.new }
         ensures same { F.told files.new ≡ F.told files.old }
         ensures counts { CountsFaults (F.counts files.old) (F.counts files.new) result }
+        ensures asks { AsksFirst (unless_named (kept_names self.old) name.now) (F.counts files.old) (F.counts files.new) }
+        ensures asks_all { OnOk result (AsksAll (unless_named (kept_names self.old) name.now) (F.counts files.old) (F.counts files.new)) }
+        ensures named { OnOk result (kept_names self.new ≡ kept_names self.old ++ unless_named (kept_names self.old) name.now) }
         ensures cause { IfErr result (RaisesCount (F.counts files.old) (F.counts files.new)) }
     {
         if let Some(module) = self.get(name) {

@@ -1,11 +1,12 @@
 // The logs that files hold.
-ghost use Rattle.std.specs.Prelude.{◌≡◌, ℕ, ◌≤◌, ◌++◌, vec_len, IfOk, IfErr};
+ghost use Rattle.std.specs.Prelude.{◌≡◌, ◌∷◌, ℕ, ◌≤◌, ◌++◌, [], vec_len, IfOk, IfErr, OnOk};
 ghost use Rattle.fri_outside.specs.Outside.{WhenTold, Counts};
 ghost use Rattle.call_log.specs.Head.{IsHead, head_bytes};
 ghost use Rattle.call_log.specs.Limits.{most_log};
 ghost use Rattle.call_log.specs.Log.{head_at};
 ghost use Rattle.command_run.specs.declared.refusal.Reason.TheVariants as reason;
-ghost use Rattle.command_run.specs.Call.{CountsFaults, RaisesCount, TellsResult, reads_after, writes_after};
+ghost use Rattle.command_run.specs.Asked.{AsksAll, AsksFirst};
+ghost use Rattle.command_run.specs.Call.{CountsFaults, CountsNothing, RaisesCount, TellsResult};
 ghost use Rattle.command_run.specs.Outcome.{file_of, some_or_refused};
 
 use crate::inputs::take_file;
@@ -20,6 +21,8 @@ pub fn take_log<F: Files>(alloc: Global, name: &str, files: &mut F) -> Result<Ve
     ensures within { IfOk result (λ bytes. vec_len bytes ≤ most_log) }
     ensures same { F.told files.new ≡ F.told files.old }
     ensures counts { CountsFaults (F.counts files.old) (F.counts files.new) result }
+    ensures asks { AsksFirst (name.now ∷ []) (F.counts files.old) (F.counts files.new) }
+    ensures asks_all { OnOk result (AsksAll (name.now ∷ []) (F.counts files.old) (F.counts files.new)) }
     ensures cause { IfErr result (RaisesCount (F.counts files.old) (F.counts files.new)) }
 {
     take_file(alloc, name, MOST_LOG, files)
@@ -31,7 +34,7 @@ pub fn begin_log(alloc: Global, name: &str, bytes: Vec<u8>) -> Result<LogBuf, St
     ensures spelled { IfOk result (λ log. bytes.items ≡ head_bytes log.head ++ log.left.bytes) }
     ensures answer { TellsResult (λ log. (log.head, log.left)) (some_or_refused name.now reason.BadHead (head_at bytes.items)) result }
     ensures cause { (old new : Counts) → IfErr result (RaisesCount old new) }
-    ensures still { (n : ℕ) → (reads_after n result ≡ n) × (writes_after n result ≡ n) }
+    ensures still { CountsNothing result }
 {
     match LogBuf::begin(bytes) {
         Ok(log) => Ok(log),

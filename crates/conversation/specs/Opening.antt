@@ -3,17 +3,20 @@ use Rattle.std.specs.Prelude.{◌≡◌, ◌≢◌, ◌⊎◌, ℕ, true, List, 
 use Rattle.fri_outside.specs.Outside.{CountRose, Folder, WhenTold}
 use Rattle.command_run.specs.declared.status.Status.{Status}
 use Rattle.command_run.specs.declared.status.Status.TheVariants as status
-use Rattle.command_run.specs.Call.{PrintsRefusal}
+use Rattle.command_run.specs.declared.refusal.Reason.TheVariants as reason
+use Rattle.command_run.specs.Asked.{AsksInputs}
+use Rattle.command_run.specs.Call.{PrintsRefusal, misses_of_refusal}
 use Rattle.command_run.specs.Outcome.{CommandOutcome, CommandStop}
 use Rattle.command_run.specs.Run.{CallEnds, Outside}
 use Rattle.conversation.specs.Input.{HasAnsweredLines, HasReadInput, TakesTurns}
 use Rattle.conversation.specs.Outcome.{conversation_outcome, input_name, is_large_input}
 use Rattle.conversation.specs.Talker.{Talker}
 
--- what the files of a folder open, and the session that then talks
+-- what the files of a folder open, the session that then talks, and the files that are read, in their order
 pub record Opener (A S : Type 0) : Type 0 where
   pub opens : Folder → Result A CommandStop
   pub talker : A → Talker S
+  pub inputs : Folder → List (List ℕ)
 
 -- where nothing opens the input does not matter, and need not be told
 abbrev pub opened_outcome : {A S : Type 0} → Opener A S → Result A CommandStop → Option (List ℕ) → Option CommandOutcome
@@ -56,13 +59,15 @@ pub record OpenedPromises {A S : Type 0} (opener : Opener A S) (old new : Outsid
   pub input : TakesInput opener old new answer
   -- if a read of the input failed, and none of a file, a session had been opened, and all that was taken was answered
   pub answered : answer ≡ status.ReadFault → (CountRose old.counts.reads new.counts.reads → ⊥) → HadAnsweredLines opener old new
-  -- a file that is refused for its size is too large, or is the input, which is
+  -- a miss was counted exactly if a file is refused for its size, unless that is the input
   pub refused : answer ≡ status.Refused
-      → PrintsRefusal old.taken new.taken (λ file. CountRose old.counts.misses new.counts.misses ⊎ IsTooLarge opener old file)
+      → PrintsRefusal old.taken new.taken (λ file why. (new.counts.misses ≡ misses_of_refusal why old.counts.misses)
+      ⊎ ((why ≡ reason.TooLarge) × ((new.counts.misses ≡ old.counts.misses) × IsTooLarge opener old file)))
 
 -- it ran, and made no file
 pub record OpenedRun {A S : Type 0} (opener : Opener A S) (old new : Outside) (answer : Status) : Type 0 where
   pub call : CallEnds (opened_expected opener old) (λ folder. []) old new answer
   pub is_command : answer ≢ status.Usage
   pub no_divergence : answer ≢ status.Diverged
+  pub asks : WhenTold old.told (λ folder. AsksInputs (opener.inputs folder) old.counts new.counts answer)
   pub promises : OpenedPromises opener old new answer

@@ -7,11 +7,14 @@ use Rattle.fri_outside.specs.Several.{with_files}
 use Rattle.fri_text.specs.Line.{lines_of}
 use Rattle.command_run.specs.declared.status.Status.{Status}
 use Rattle.command_run.specs.declared.status.Status.TheVariants as ends
+use Rattle.command_run.specs.declared.refusal.Reason.{Reason}
 use Rattle.command_run.specs.declared.refusal.Reason.TheVariants as reason
 use Rattle.command_run.specs.declared.refusal.StopCause.{StopCause}
 use Rattle.command_run.specs.declared.refusal.StopCause.TheVariants as refusal
-use Rattle.command_run.specs.Call.{CountsFaults, IsAnswerStatus, KeepsFolder, PrintsText, PrintsRefusal, RaisesCount, StopsAsCause, failed_says_after}
-use Rattle.command_run.specs.CountLaws.{counted_faults}
+use Rattle.command_run.specs.Call.{CountsFaults, IsAnswerStatus, KeepsFolder, PrintsText, PrintsRefusal, RaisesCount, StopsAsCause, failed_says_after, misses_of_refusal}
+use Rattle.command_run.specs.Asked.{AsksAll, AsksFirst}
+use Rattle.command_run.specs.AskedLaws.{all_are_first}
+use Rattle.command_run.specs.CountLaws.{counted_faults, counts_of_part, unmissed}
 use Rattle.command_run.specs.FileLaws.{same_others}
 use Rattle.command_run.specs.Outcome.{CommandOutcome, CommandStop, CommandWork, Refuses, outcome_status, outcome_text, writes_of}
 use Rattle.command_run.specs.OutcomeLaws.{no_file_left, stops_make_files, stops_tell_outcome}
@@ -69,15 +72,18 @@ refused_stops opener (Some folder) left e stops o here = stops_as opener (opener
 -- its result is told so
 pub opening_performed : {A S : Type 0} (opener : Opener A S) (e : StopCause) (old new : Outside) → WhenTold old.told (λ folder. StopsAsCause (opener.opens folder) e) → RaisesCount old.counts new.counts e
     → CountsFaults {T = ⊤} old.counts new.counts (Err e)
+    → WhenTold old.told (λ folder. AsksFirst (opener.inputs folder) old.counts new.counts)
     → new.told ≡ old.told
-    → PerformedCommand (expectation (opened_expected opener old) (λ folder. []) false) (file_state old.told old.counts) (file_state new.told new.counts) (Err e)
-opening_performed opener e old new stops cause counts same = record {
+    → PerformedCommand (expectation (opened_expected opener old) (λ folder. []) opener.inputs false) (file_state old.told old.counts) (file_state new.told new.counts) (Err e)
+opening_performed opener e old new stops cause counts asks same = record {
   tells = λ o here. stops_tell_outcome o e (refused_stops opener old.told old.hearing.left e stops o here);
   makes = λ o here. stops_make_files o e old.told new.told (refused_stops opener old.told old.hearing.left e stops o here) same;
   names = λ folder here. inl same;
   keeps = keeps e;
   diverges = tt;
-  counted = record { reads = counts.reads; writes = counts.writes; misses = counts.misses };
+  counted = counts_of_part old.counts new.counts e counts;
+  asks = asks;
+  asks_all = λ folder here. tt;
   cause = cause;
 } where
   keeps : (e : StopCause) → KeepsFolder (Err e) old.told new.told
@@ -88,16 +94,17 @@ opening_performed opener e old new stops cause counts same = record {
   keeps refusal.NoMemory = tt
 
 -- an input is not what is too large
-other_refusal : {Large : List ℕ → Type 0} (old new : Outside) → PrintsRefusal old.taken new.taken (λ file. CountRose old.counts.misses new.counts.misses)
-    → PrintsRefusal old.taken new.taken (λ file. CountRose old.counts.misses new.counts.misses ⊎ Large file)
-other_refusal old new (earlier, file, (why, is, cause)) = (earlier, file, (why, is, λ large. inl (cause large)))
+other_refusal : {Large : List ℕ → Reason → Type 0} (old new : Outside) → PrintsRefusal old.taken new.taken (λ file why. new.counts.misses ≡ misses_of_refusal why old.counts.misses)
+    → PrintsRefusal old.taken new.taken (λ file why. (new.counts.misses ≡ misses_of_refusal why old.counts.misses) ⊎ Large file why)
+other_refusal old new (earlier, file, (why, is, cause)) = (earlier, file, (why, is, inl cause))
 
 pub run_unopened : {A S : Type 0} (opener : Opener A S) (e : StopCause) (answer : Status) (old new : Outside)
-    → FinishedCommand (expectation (opened_expected opener old) (λ folder. []) false) (Err e) old new answer → OpenedRun opener old new answer
+    → FinishedCommand (expectation (opened_expected opener old) (λ folder. []) opener.inputs false) (Err e) old new answer → OpenedRun opener old new answer
 run_unopened opener e answer old new f = record {
   call = f.call;
   is_command = f.is_command;
   no_divergence = λ is. let never = f.diverged is in cc;
+  asks = f.asks;
   promises = record {
     input = inl (f.input.unheard, λ is. let never = f.done is in cc);
     answered = λ is quiet. absurd (quiet (f.input.read is));
@@ -144,8 +151,9 @@ terminal_of o = record { hearing = o.hearing; taken = o.taken; faults = o.out_fa
 pub run_conversed : {A S : Type 0} (opener : Opener A S) (opened : A) (answer : Status) (old new : Outside) → OpensAs opener old.told opened
     → Converses (opener.talker opened) (terminal_of old) (terminal_of new) answer
     → new.told ≡ old.told → CountsFaults {T = ⊤} old.counts new.counts (Ok tt)
+    → WhenTold old.told (λ folder. AsksAll (opener.inputs folder) old.counts new.counts)
     → OpenedRun opener old new answer
-run_conversed {S = S} opener opened answer old new was c same counts = record {
+run_conversed {S = S} opener opened answer old new was c same counts asks = record {
   call = record {
     status = λ o e h. let s = said o e in c.ended s.input s.told h ∙ ap outcome_status (sym s.outcome);
     text = λ o e. let s = said o e in subst (λ (o : CommandOutcome). PrintsText answer (outcome_text o) old.taken new.taken) (sym s.outcome) (c.text s.input s.told);
@@ -154,16 +162,17 @@ run_conversed {S = S} opener opened answer old new was c same counts = record {
     idle = λ _. same;
     prints_last = λ o e. inr (made o e);
     faults = conversed_faults answer old new counts.reads counts.writes c.reads c.writes;
-    absent = λ is. absurd (c.other (subst IsNoSessionStatus (sym is) tt));
+    misses = unmissed old.counts.misses new.counts.misses answer counts.misses (λ is. absurd (c.other (subst IsNoSessionStatus (sym is) tt)));
     absent_text = λ is. absurd (c.other (subst IsNoSessionStatus (sym is) tt));
     out_fault = λ o e is. inr (made o e);
   };
   is_command = λ is. absurd (c.other (subst IsNoSessionStatus (sym is) tt));
   no_divergence = λ is. absurd (c.other (subst IsNoSessionStatus (sym is) tt));
+  asks = λ folder told. record { first = all_are_first _ _ _ (asks folder told); all = λ work. asks folder told };
   promises = record {
     input = inr (record { opened = opened; opens_as = was; read = c.input; turns = c.turns });
     answered = λ is quiet. (opened, (was, c.answered is));
-    refused = λ is. let s = c.refused is in (s.0, input_name, (reason.TooLarge, s.1, λ _. inr (refl, (opened, (was, large is)))));
+    refused = λ is. let s = c.refused is in (s.0, input_name, (reason.TooLarge, s.1, inr (refl, (counts.misses, (refl, (opened, (was, large is)))))));
   };
 } where
   talker : Talker S

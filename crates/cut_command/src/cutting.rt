@@ -1,10 +1,12 @@
 // `cut P N MODULE LOG ..`: makes the logs that an event needs.
-ghost use Rattle.std.specs.Prelude.{◌≡◌, All, false, map, option_map, IfErr, IfOk};
+ghost use Rattle.std.specs.Prelude.{◌≡◌, All, false, map, option_map, IfErr, IfOk, OnOk};
 ghost use Rattle.fri_outside.specs.Outside.{WhenTold};
 ghost use Rattle.call_log.specs.Head.{IsHead};
+ghost use Rattle.command_run.specs.Asked.{AsksAll, AsksFirst};
 ghost use Rattle.command_run.specs.Call.{CountsFaults, DivergesOnlyIf, KeepsFolder, MakesWholeFiles, MakesAllFiles, RaisesCount, TellsOutcome};
 ghost use Rattle.command_run.specs.Outcome.{writes_of};
 ghost use Rattle.log_pairs.specs.Meanings.{pair_of};
+ghost use Rattle.log_pairs.specs.Pairs.{pair_inputs};
 ghost use Rattle.cut_command.specs.Cut.{cut_outcome};
 ghost use Rattle.cut_command.specs.Laws.{CutsToPast};
 ghost use Rattle.cut_command.specs.inside.Meanings.{front_file};
@@ -23,6 +25,7 @@ fn write_cuts<F: Files>(alloc: Global, fronts: &[Front<'_>], files: &mut F) -> R
     requires { All (λ front. IsHead front.log.head) fronts.now }
     ensures made { MakesAllFiles result (map front_file fronts.now) (F.told files.old) (F.told files.new) }
     ensures counts { CountsFaults (F.counts files.old) (F.counts files.new) result }
+    ensures asked { (F.counts files.new).asked ≡ (F.counts files.old).asked }
     ensures cause { IfErr result (RaisesCount (F.counts files.old) (F.counts files.new)) }
 {
     for front in fronts {
@@ -48,6 +51,8 @@ pub fn cut<F: Files>(
     ensures keeps { KeepsFolder result (F.told files.old) (F.told files.new) }
     ensures done { DivergesOnlyIf false result }
     ensures counts { CountsFaults (F.counts files.old) (F.counts files.new) result }
+    ensures asks { AsksFirst (pair_inputs (map pair_of pairs.now)) (F.counts files.old) (F.counts files.new) }
+    ensures asks_all { OnOk result (AsksAll (pair_inputs (map pair_of pairs.now)) (F.counts files.old) (F.counts files.new)) }
     ensures cause { IfErr result (RaisesCount (F.counts files.old) (F.counts files.new)) }
     ensures least { WhenTold (F.told files.old) (λ folder. IfOk result (λ _. CutsToPast process event (map pair_of pairs.now) folder)) }
 {

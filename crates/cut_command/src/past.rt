@@ -3,7 +3,7 @@ ghost use Rattle.std.specs.Prelude.{◌≡◌, ◌<◌, All, IfErr, IfOk, List, 
 ghost use Rattle.fri_outside.specs.Outside.{Counts};
 ghost use Rattle.call_log.specs.Head.{IsHead};
 ghost use Rattle.command_run.specs.Apart.{unless_over_input};
-ghost use Rattle.command_run.specs.Call.{RaisesCount, TellsResult, reads_after, writes_after};
+ghost use Rattle.command_run.specs.Call.{CountsNothing, RaisesCount, TellsResult};
 ghost use Rattle.proc_replay.specs.AtHead.{IsAtHead};
 ghost use Rattle.group_state.specs.Place.{AreGroupReplays};
 ghost use Rattle.causal_cut.specs.Past.{lengths_or_none};
@@ -70,7 +70,7 @@ fn find_past<'m>(
     ensures least { IfOk result (λ past. IsCutLog process event replayers.entry.items (work_of_past past)) }
     ensures heads { IfOk result (λ past. All (λ front. IsHead front.log.head) past.fronts.items) }
     ensures cause { (old new : Counts) → IfErr result (RaisesCount old new) }
-    ensures still { (n : ℕ) → (reads_after n result ≡ n) × (writes_after n result ≡ n) }
+    ensures still { CountsNothing result }
 {
     causal_cut::laws::fronts_replay();
     let Some(node) = node_of(&replayers, process) else {
@@ -93,7 +93,7 @@ fn keep_pairs(alloc: Global, pairs: &[Pair<'_>], fronts: &[Front<'_>]) -> Result
     requires { All (λ front. IsHead front.log.head) fronts.now }
     ensures answer { TellsResult (λ done. done) (unless_over_input (names_of_pairs (map pair_of pairs.now)) (map (λ file. file.0) (map front_file fronts.now))) result }
     ensures cause { (old new : Counts) → IfErr result (RaisesCount old new) }
-    ensures still { (n : ℕ) → (reads_after n result ≡ n) × (writes_after n result ≡ n) }
+    ensures still { CountsNothing result }
 {
     let read = file_names(alloc, pairs)?;
     let made = cut_names(alloc, fronts)?;
@@ -116,7 +116,7 @@ pub(crate) fn take_past<'m>(
     ensures least { IfOk result (λ past. IsCutLog process event replayers.entry.items (work_of_past past)) }
     ensures heads { IfOk result (λ past. All (λ front. IsHead front.log.head) past.fronts.items) }
     ensures cause { (old new : Counts) → IfErr result (RaisesCount old new) }
-    ensures still { (n : ℕ) → (reads_after n result ≡ n) × (writes_after n result ≡ n) }
+    ensures still { CountsNothing result }
 {
     let past = find_past(alloc, process, event, pairs, all, replayers)?;
     keep_pairs(alloc, pairs, &past.fronts)?;

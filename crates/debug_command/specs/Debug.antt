@@ -9,7 +9,7 @@ use Rattle.command_run.specs.Outcome.{CommandOutcome}
 use Rattle.conversation.specs.Opening.{Opener, opened_outcome}
 use Rattle.conversation.specs.Outcome.{conversation_outcome}
 use Rattle.conversation.specs.Talker.{Answered, Talker, talker_of}
-use Rattle.log_pairs.specs.Pairs.{Pair, replays_of_pairs}
+use Rattle.log_pairs.specs.Pairs.{Pair, pair_inputs, replays_of_pairs}
 
 -- what the shell answers to a line
 abbrev pub shell_answer : SessionState → List ℕ → Answered SessionState
@@ -25,7 +25,7 @@ session_outcome start input = conversation_outcome (shell_talker start) input
 
 -- the replays of these pairs, and the session over them
 abbrev pub debug_opener : List Pair → Opener (List Replaying) SessionState
-debug_opener pairs = record { opens = λ folder. replays_of_pairs folder pairs; talker = shell_talker }
+debug_opener pairs = record { opens = λ folder. replays_of_pairs folder pairs; talker = shell_talker; inputs = λ folder. pair_inputs pairs }
 
 abbrev pub debug_outcome : List Pair → Option (List ℕ) → Folder → Option CommandOutcome
 debug_outcome pairs left folder = opened_outcome (debug_opener pairs) (replays_of_pairs folder pairs) left

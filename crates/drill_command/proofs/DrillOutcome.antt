@@ -9,6 +9,7 @@ use Rattle.command_run.specs.declared.refusal.Reason.{Reason}
 use Rattle.command_run.specs.declared.refusal.Reason.TheVariants as reason
 use Rattle.command_run.specs.declared.refusal.StopCause.{StopCause}
 use Rattle.command_run.specs.declared.refusal.StopCause.TheVariants as refusal
+use Rattle.command_run.specs.AskedLaws.{asks_none, begins_asking}
 use Rattle.command_run.specs.Call.{CountsFaults, DivergesOnlyIf, KeepsFolder, MakesWorkFiles, RaisesCount, StopsAsCause, TellsOutcome}
 use Rattle.command_run.specs.Outcome.{CommandOutcome, refuses_at_once, writes_of}
 use Rattle.command_run.specs.OutcomeLaws.{stops_make_files, stops_tell_outcome}
@@ -17,7 +18,7 @@ use Rattle.drill_command.specs.Drill.{drill_outcome, drill_run, drill_work, dril
 use Rattle.drill_command.specs.inside.Results.{IsFullLog, StopsDrill}
 
 abbrev pub Performs : ℕ → Result WorkText StopCause → Type 0
-Performs rounds ended = (told : Option Folder) (counts : Counts) → PerformedCommand (expectation (Some (drill_outcome rounds)) (λ folder. []) false) (file_state told counts) (file_state told counts) ended
+Performs rounds ended = (told : Option Folder) (counts : Counts) → PerformedCommand (expectation (Some (drill_outcome rounds)) (λ folder. []) (λ folder. []) false) (file_state told counts) (file_state told counts) ended
 
 -- what is said of its outcome is said of the one that is expected
 at_outcome : (rounds : ℕ) (P : CommandOutcome → Type 0) → P (drill_outcome rounds) → (o : CommandOutcome) → Some (drill_outcome rounds) ≡ Some o → P o
@@ -31,6 +32,8 @@ done_performs rounds room text is told counts = record {
   keeps = tt;
   diverges = tt;
   counted = record { reads = refl; writes = refl; misses = refl };
+  asks = λ folder here. begins_asking _ counts counts refl;
+  asks_all = λ folder here. asks_none counts counts refl;
   cause = tt;
 } where
   whole : drill_outcome rounds ≡ Ok (drill_work rounds (drill_run rounds))
@@ -51,8 +54,9 @@ keeps_all rounds refusal.NoMemory told stops = tt
 keeps_all rounds other told stops = absurd stops
 
 counts_none : (rounds : ℕ) (e : StopCause) (counts : Counts) → StopsDrill rounds e → CountsFaults {T = WorkText} counts counts (Err e)
-counts_none rounds (refusal.Refused file why) counts stops = record { reads = refl; writes = refl; misses = tt }
-counts_none rounds refusal.NoMemory counts stops = record { reads = refl; writes = refl; misses = tt }
+counts_none rounds (refusal.Refused file (reason.LogFull item)) counts stops = record { reads = refl; writes = refl; misses = refl }
+counts_none rounds (refusal.Refused file other) counts stops = absurd stops.1
+counts_none rounds refusal.NoMemory counts stops = record { reads = refl; writes = refl; misses = inl refl }
 counts_none rounds other counts stops = absurd stops
 
 raises : (rounds : ℕ) (e : StopCause) (counts : Counts) → StopsDrill rounds e → RaisesCount counts counts e
@@ -69,6 +73,8 @@ stop_performs rounds e stops told counts = record {
   keeps = keeps_all rounds e told stops;
   diverges = tt;
   counted = counts_none rounds e counts stops;
+  asks = λ folder here. begins_asking _ counts counts refl;
+  asks_all = λ folder here. tt;
   cause = raises rounds e counts stops;
 } where
   stopped : StopsAsCause (drill_outcome rounds) e

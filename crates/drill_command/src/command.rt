@@ -36,7 +36,7 @@ pub fn drill_rounds(alloc: Global, rounds: u32) -> Result<WorkText, StopCause>
     requires some { 1 ≤ rounds }
     requires few { rounds ≤ most_rounds }
     ensures { (told : Option Folder) (counts : Counts)
-        → PerformedCommand (expectation (Some (drill_outcome rounds)) (λ folder. []) false) (file_state told counts) (file_state told counts) result }
+        → PerformedCommand (expectation (Some (drill_outcome rounds)) (λ folder. []) (λ folder. []) false) (file_state told counts) (file_state told counts) result }
 {
     match perform(alloc, rounds) {
         Ok(text) => Ok(WorkText::Done(text)),

@@ -1,5 +1,5 @@
 // Files in memory, whose chosen calls fail.
-ghost use Rattle.std.specs.Prelude.{◌≡◌, ◌↔◌, [], Some, OnOk, OnErr, IsErrOf, MatchResult};
+ghost use Rattle.std.specs.Prelude.{◌≡◌, ◌↔◌, ◌⊎◌, [], Some, OnOk, OnErr, IsErrOf, IsTrue, MatchResult};
 ghost use Rattle.std.specs.Option.{option_copied};
 ghost use Rattle.std.specs.FinMap.{empty, get, insert};
 ghost use Rattle.fri_outside.specs.Outside.{Held, found_file, ErrorMatchesFile, after_read, after_write};
@@ -20,9 +20,11 @@ pub struct MemFiles {
     read_faults: u64,
     write_faults: u64,
     misses: u64,
+    asked: Vec<String>,
 }
 
 impl Model for MemFiles {
+    ghost use Rattle.std.specs.Prelude.{Some, map, string_bytes};
     ghost use Rattle.fri_outside.specs.Memory.{FilesInMemory, files_code};
 
     ghost Value = { FilesInMemory };
@@ -32,7 +34,12 @@ impl Model for MemFiles {
     ghost view = { λ files. record {
       folder = files.shelf;
       plan = files.plan;
-      counts = record { reads = files.read_faults; writes = files.write_faults; misses = files.misses };
+      counts = record {
+        reads = files.read_faults;
+        writes = files.write_faults;
+        misses = files.misses;
+        asked = Some (map string_bytes files.asked.items);
+      };
     } };
 }
 
@@ -42,7 +49,7 @@ impl MemFiles {
         ensures { result ≡ record {
           folder = empty;
           plan = no_failures;
-          counts = record { reads = 0; writes = 0; misses = 0 };
+          counts = record { reads = 0; writes = 0; misses = 0; asked = Some [] };
         } }
     {
         MemFiles {
@@ -52,6 +59,7 @@ impl MemFiles {
             read_faults: 0,
             write_faults: 0,
             misses: 0,
+            asked: Vec::new(alloc),
         }
     }
 
@@ -79,6 +87,29 @@ impl MemFiles {
     {
         self.plan.fail_at(call)
     }
+
+    // The bytes of a name, within the limit, unless the read is to fail.
+    fn find(
+        &self,
+        alloc: Global,
+        name: &str,
+        limit: usize,
+        is_due: bool,
+    ) -> Result<Vec<u8>, FileError>
+        ensures answer { MatchResult result
+            (λ bytes. found_file self.now.folder name.now limit ≡ Held bytes.items)
+            (ErrorMatchesFile (found_file self.now.folder name.now limit)) }
+        ensures fails { IsErrOf result FileError.Failed ↔ IsTrue is_due }
+    {
+        if is_due {
+            return Err(FileError::Failed);
+        }
+        match self.shelf.get(name) {
+            None => Err(FileError::Absent),
+            Some(bytes) if bytes.len() > limit => Err(FileError::TooLarge),
+            Some(bytes) => Ok(Vec::from_slice(alloc, bytes)?),
+        }
+    }
 }
 
 impl Files for MemFiles {
@@ -86,33 +117,36 @@ impl Files for MemFiles {
 
     ghost counts = { λ files. files.counts };
 
-    /// Answers `Failed` where the call is to fail, before the name is looked at.
+    /// Answers `Failed` if the call is to fail, before the name is looked at. Room to note the name is made first, and
+    /// there may be no memory for that.
     fn read(&mut self, alloc: Global, name: &str, limit: usize) -> Result<Vec<u8>, FileError>
         ensures answer { MatchResult result
             (λ bytes. found_file self.old.folder name.now limit ≡ Held bytes.items)
             (ErrorMatchesFile (found_file self.old.folder name.now limit)) }
         ensures same { self.new.folder ≡ self.old.folder }
 
-        ensures fails { IsErrOf result FileError.Failed ↔ IsDueFailure self.old.plan }
+        ensures fails { IsErrOf result FileError.Failed → IsDueFailure self.old.plan }
+        ensures due { IsDueFailure self.old.plan → IsErrOf result FileError.Failed ⊎ IsErrOf result FileError.NoMemory }
         ensures called { self.new.plan ≡ after_call self.old.plan }
-        ensures counted { self.new.counts ≡ after_read self.old.counts result }
+        ensures counted { self.new.counts ≡ after_read name.now self.old.counts result }
         ensures quiet { self.old.plan.failing ≡ [] → SameFaultCounts self.old.counts self.new.counts }
     {
-        if self.plan.count_call() {
-            self.read_faults = self.read_faults.saturating_add(1);
-            return Err(FileError::Failed);
-        }
-        match self.shelf.get(name) {
-            None => {
+        let is_due = self.plan.count_call();
+        let note = String::from_str(self.alloc, name)?;
+        self.asked.reserve(1)?;
+        let outcome = self.find(alloc, name, limit, is_due);
+        match outcome {
+            Ok(_) => {}
+            Err(FileError::Absent | FileError::TooLarge) => {
                 self.misses = self.misses.saturating_add(1);
-                Err(FileError::Absent)
             }
-            Some(bytes) if bytes.len() > limit => {
-                self.misses = self.misses.saturating_add(1);
-                Err(FileError::TooLarge)
+            Err(FileError::Failed) => {
+                self.read_faults = self.read_faults.saturating_add(1);
             }
-            Some(bytes) => Ok(Vec::from_slice(alloc, bytes)?),
+            Err(FileError::NoMemory) => return outcome,
         }
+        self.asked.push_reserved(note);
+        outcome
     }
 
     /// A call that is to fail changes no file.

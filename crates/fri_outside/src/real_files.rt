@@ -4,6 +4,7 @@ ghost use Rattle.std.specs.Io.KnownBytes.{Appends};
 ghost use Rattle.fri_outside.specs.Outside.{FoundFile, Held, ErrorMatchesFile, WhenTold, after_read, after_write, found_within};
 ghost use Rattle.fri_outside.specs.inside.Reading.{MovesFrontOfBytes};
 
+use crate::fault_counts::FaultCounts;
 use crate::open_files::{OpenFiles, close};
 use crate::replacing::{place_of, replace};
 use crate::{FileError, Files, WriteError};
@@ -26,9 +27,7 @@ pub struct RealFiles<'a, R: rt::Files> {
     alloc: Global,
     rt: &'a R,
     open: OpenFiles<R::File>,
-    read_faults: u64,
-    write_faults: u64,
-    misses: u64,
+    faults: FaultCounts,
 }
 
 impl<'a, R: rt::Files> Model for RealFiles<'a, R> {
@@ -36,24 +35,18 @@ impl<'a, R: rt::Files> Model for RealFiles<'a, R> {
 
     ghost Value = { Counts };
 
-    ghost view = { λ files. record {
-      reads = files.read_faults;
-      writes = files.write_faults;
-      misses = files.misses;
-    } };
+    ghost view = { λ files. files.faults };
 }
 
 impl<'a, R: rt::Files> RealFiles<'a, R> {
     pub fn new(alloc: Global, rt: &'a R) -> Self
-        ensures { result ≡ record { reads = 0; writes = 0; misses = 0 } }
+        ensures { result ≡ record { reads = 0; writes = 0; misses = 0; asked = None } }
     {
         RealFiles {
             alloc,
             rt,
             open: OpenFiles::new(alloc),
-            read_faults: 0,
-            write_faults: 0,
-            misses: 0,
+            faults: FaultCounts::new(),
         }
     }
 
@@ -63,9 +56,7 @@ impl<'a, R: rt::Files> RealFiles<'a, R> {
             alloc: _,
             rt: _,
             mut open,
-            read_faults: _,
-            write_faults: _,
-            misses: _,
+            faults: _,
         } = self;
         Closed {
             is_lost: open.close_all().is_err(),
@@ -108,16 +99,6 @@ impl<'a, R: rt::Files> RealFiles<'a, R> {
                 self.write(name, bytes)
             }
         }
-    }
-
-    fn count_write(&mut self, outcome: Result<(), WriteError>) -> Result<(), WriteError>
-        ensures same { result ≡ outcome }
-        ensures counted { self.new ≡ after_write self.old result }
-    {
-        if outcome == Err(WriteError::Failed) {
-            self.write_faults = self.write_faults.saturating_add(1);
-        }
-        outcome
     }
 }
 
@@ -262,18 +243,10 @@ impl<'a, R: rt::Files> Files for RealFiles<'a, R> {
 
     fn read(&mut self, alloc: Global, name: &str, limit: usize) -> Result<Vec<u8>, FileError>
         ensures within { IfOk result (λ bytes. vec_len bytes ≤ limit) }
-        ensures counted { self.new ≡ after_read self.old result }
+        ensures counted { self.new ≡ after_read name.now self.old result }
     {
         let outcome = read_file(self.rt, alloc, name, limit);
-        match outcome {
-            Err(FileError::Absent | FileError::TooLarge) => {
-                self.misses = self.misses.saturating_add(1);
-            }
-            Err(FileError::Failed) => {
-                self.read_faults = self.read_faults.saturating_add(1);
-            }
-            Ok(_) | Err(FileError::NoMemory) => {}
-        }
+        self.faults.count_read(&outcome);
         outcome
     }
 
@@ -281,20 +254,23 @@ impl<'a, R: rt::Files> Files for RealFiles<'a, R> {
         ensures counted { self.new ≡ after_write self.old result }
     {
         let outcome = self.create_file(name);
-        self.count_write(outcome)
+        self.faults.count_write(outcome);
+        outcome
     }
 
     fn replace(&mut self, name: &str, bytes: &[u8]) -> Result<(), WriteError>
         ensures counted { self.new ≡ after_write self.old result }
     {
         let outcome = self.replace_file(name, bytes);
-        self.count_write(outcome)
+        self.faults.count_write(outcome);
+        outcome
     }
 
     fn append(&mut self, name: &str, piece: &[u8]) -> Result<(), WriteError>
         ensures counted { self.new ≡ after_write self.old result }
     {
         let outcome = self.write(name, piece);
-        self.count_write(outcome)
+        self.faults.count_write(outcome);
+        outcome
     }
 }

@@ -1,21 +1,23 @@
 //! The program: hands the command line's words, the files, standard input and standard output to the top call, and ends with
 //! its status.
 //!
-//! All that it prints and makes is done by `friday` of `friday_app`, whose contract says what. What a clause here says is
+//! All that it prints and makes is done by `friday` of `friday_app`, whose contract says what. What clauses here say is
 //! how the call's status goes on once the files are closed: a file that cannot be closed makes a write fault of an answer,
-//! and no status that is a fault already changes. That they are closed, and that the status comes of that, is said by types:
-//! neither the files nor what closing them tells can be let go. Where a standard stream is closed, `/dev/null` takes its
-//! descriptor first, so that no file gets what is printed.
+//! and no status that is a fault already changes. That they are closed, and that the program ends with what comes of that,
+//! is said by types: the files cannot be let go, and only what closing them tells makes an `Ending`. Where a standard stream
+//! is closed, `/dev/null` takes its descriptor first, so that no file gets what is printed.
 //!
 //! Its stored run is a recording that fills its log, so it ends with the status of a refusal after most of its work.
 #![tactic(auto)]
 
-ghost use Rattle.std.specs.Prelude.{◌≡◌, false, map, string_bytes, true};
-ghost use Rattle.command_run.specs.Call.{IsAnswerStatus};
+mod ending;
+
+ghost use Rattle.std.specs.Prelude.{map, string_bytes};
 ghost use Rattle.friday_app.specs.Command.{command_of};
 ghost use Rattle.friday_app.specs.Run.{IsExactUsage};
 
-use fri_outside::{Closed, Console, ReaderSource, RealFiles, WriterSink};
+use ending::Ending;
+use fri_outside::{Console, ReaderSource, RealFiles, WriterSink};
 use friday_app::{Status, friday};
 use std::process::ExitCode;
 use std::rt::{Env, Files};
@@ -33,26 +35,11 @@ fn words<R: Env + AllocGlobal>(rt: &R) -> io::Result<Vec<String>> {
     Ok(words)
 }
 
-// How a call ends whose files were closed after it. A file that cannot be closed may lack bytes that were
-// written to it, which is a write fault where nothing failed before.
-fn status_once_closed(status: Status, closed: Closed) -> Status
-    ensures whole { closed ≡ false → result ≡ status }
-    ensures lost { closed ≡ true → IsAnswerStatus status → result ≡ Status.WriteFault }
-    ensures first { ¬ IsAnswerStatus status → result ≡ status }
-{
-    let is_lost = closed.is_lost();
-    match status {
-        Status::ReadFault | Status::WriteFault | Status::NoMemory => status,
-        _ if is_lost => Status::WriteFault,
-        _ => status,
-    }
-}
-
 // The device that takes the place of a standard stream that is closed.
 const NULL: &str = "/dev/null";
 
 // Runs what all these words say: they name no command exactly if the status says so, but for a fault or want of memory.
-fn run<R: Files + Input + Print + AllocGlobal>(rt: &R, words: &[String]) -> Status
+fn run<R: Files + Input + Print + AllocGlobal>(rt: &R, words: &[String]) -> Ending
     ensures usage { IsExactUsage (command_of (map string_bytes words.now)) result }
 {
     // The system gives a file the lowest free descriptor. Where standard input, output or error was closed, one of these
@@ -66,7 +53,7 @@ fn run<R: Files + Input + Print + AllocGlobal>(rt: &R, words: &[String]) -> Stat
         out: WriterSink::new(io::writer(rt)),
     };
     let status = friday(rt.alloc(), words, &mut files, &mut terminal);
-    status_once_closed(status, files.close())
+    Ending::new(status, files.close())
 }
 
 fn main(rt: HostRuntime) -> ExitCode {

@@ -1,5 +1,5 @@
 -- The run of each command, from what its crate says of it.
-use Rattle.std.proofs.Common.{◌≡◌, ◌≢◌, ◌∙◌, ◌++◌, ℕ, Bool, false, true, List, [], Option, Some, None, option_map, Result, Ok, Err, IfErr, IfOk, refl, sym, ap, subst, inl, inr}
+use Rattle.std.proofs.Common.{◌≡◌, ◌≢◌, ◌∙◌, ◌++◌, ℕ, Bool, false, true, List, [], Option, Some, None, option_map, Result, Ok, Err, IfErr, IfOk, OnOk, refl, sym, ap, subst, inl, inr}
 use Rattle.std.specs.Io.KnownBytes.{append_known}
 use Rattle.std.specs.Result.{IsOk}
 use Rattle.std.proofs.lemmas.Option.{same_Some}
@@ -11,6 +11,8 @@ use Rattle.command_run.specs.declared.status.Status.TheVariants as ends
 use Rattle.command_run.specs.declared.refusal.WorkText.{WorkText}
 use Rattle.command_run.specs.declared.refusal.WorkText.TheVariants as answered
 use Rattle.command_run.specs.declared.refusal.StopCause.{StopCause}
+use Rattle.command_run.specs.Asked.{AsksAll, AsksFirst, AsksInputs}
+use Rattle.command_run.specs.AskedLaws.{all_are_first, asks_none, begins_asking}
 use Rattle.command_run.specs.Call.{CountsFaults, DivergesOnlyIf, IsAnswerStatus, KeepsFolder, MakesWholeFiles, MakesWorkFiles, RaisesCount, TellsOutcome}
 use Rattle.command_run.specs.FileLaws.{whole_first, whole_makes}
 use Rattle.command_run.specs.Outcome.{CommandOutcome, NotACommand, outcome_status, outcome_text, writes_of}
@@ -32,6 +34,7 @@ use Rattle.play_command.specs.Laws.{PlayedIsRecorded}
 use Rattle.play_command.specs.Run.{PlayRun}
 use Rattle.friday_app.specs.Command.{Command, Cut, Debug, Drill, Migrate, Play, Record, Replay, Schedule, Streams}
 use Rattle.friday_app.specs.Expected.{expected}
+use Rattle.friday_app.specs.Inputs.{inputs_of}
 use Rattle.friday_app.specs.Promises.{Promises}
 use Rattle.friday_app.specs.Run.{CommandRun}
 
@@ -42,18 +45,23 @@ run_same {old = old} {new = new} {answer = answer} is run = subst (λ k. Command
 -- ---- a command that prints once, at its end
 
 -- what it did, where its outcome depends on the folder alone
-pub performed : (f : Folder → CommandOutcome) (may_diverge : Bool) (before after : Option Folder) (counts counts_after : Counts) (ended : Result WorkText StopCause)
+pub performed : (f : Folder → CommandOutcome) (inputs : Folder → List (List ℕ)) (may_diverge : Bool) (before after : Option Folder) (counts counts_after : Counts) (ended : Result WorkText StopCause)
     → ((o : CommandOutcome) → option_map f before ≡ Some o → TellsOutcome o ended)
     → ((o : CommandOutcome) → option_map f before ≡ Some o → MakesWorkFiles ended (writes_of o) before after)
-    → KeepsFolder ended before after → DivergesOnlyIf may_diverge ended → CountsFaults counts counts_after ended → IfErr ended (RaisesCount counts counts_after)
-    → PerformedCommand (expected_by_folder f before may_diverge) (file_state before counts) (file_state after counts_after) ended
-performed f may_diverge before after counts counts_after ended tells makes keeps diverges counted cause = record {
+    → KeepsFolder ended before after → DivergesOnlyIf may_diverge ended → CountsFaults counts counts_after ended
+    → WhenTold before (λ folder. AsksFirst (inputs folder) counts counts_after)
+    → WhenTold before (λ folder. OnOk ended (AsksAll (inputs folder) counts counts_after))
+    → IfErr ended (RaisesCount counts counts_after)
+    → PerformedCommand (expected_by_folder f before inputs may_diverge) (file_state before counts) (file_state after counts_after) ended
+performed f inputs may_diverge before after counts counts_after ended tells makes keeps diverges counted asks asks_all cause = record {
   tells = tells;
   makes = makes;
   names = λ folder is. inr (f folder, ap (option_map f) is, refl);
   keeps = keeps;
   diverges = diverges;
   counted = counted;
+  asks = asks;
+  asks_all = asks_all;
   cause = cause;
 }
 
@@ -61,13 +69,16 @@ performed f may_diverge before after counts counts_after ended tells makes keeps
 abbrev pub MakesWholeOf : (Folder → CommandOutcome) → Result WorkText StopCause → Option Folder → Option Folder → Type 0
 MakesWholeOf f ended before after = (o : CommandOutcome) → option_map f before ≡ Some o → MakesWholeFiles ended (writes_of o) before after
 
-pub performed_whole : KeepsFiles → (f : Folder → CommandOutcome) (may_diverge : Bool) (before after : Option Folder) (counts counts_after : Counts) (ended : Result WorkText StopCause)
+pub performed_whole : KeepsFiles → (f : Folder → CommandOutcome) (inputs : Folder → List (List ℕ)) (may_diverge : Bool) (before after : Option Folder) (counts counts_after : Counts) (ended : Result WorkText StopCause)
     → ((o : CommandOutcome) → option_map f before ≡ Some o → TellsOutcome o ended)
     → MakesWholeOf f ended before after
-    → KeepsFolder ended before after → DivergesOnlyIf may_diverge ended → CountsFaults counts counts_after ended → IfErr ended (RaisesCount counts counts_after)
-    → PerformedCommand (expected_by_folder f before may_diverge) (file_state before counts) (file_state after counts_after) ended
-performed_whole files f may_diverge before after counts counts_after ended tells makes keeps diverges counted cause =
-    performed f may_diverge before after counts counts_after ended tells (λ o is. whole_makes files ended (writes_of o) before after (makes o is)) keeps diverges counted cause
+    → KeepsFolder ended before after → DivergesOnlyIf may_diverge ended → CountsFaults counts counts_after ended
+    → WhenTold before (λ folder. AsksFirst (inputs folder) counts counts_after)
+    → WhenTold before (λ folder. OnOk ended (AsksAll (inputs folder) counts counts_after))
+    → IfErr ended (RaisesCount counts counts_after)
+    → PerformedCommand (expected_by_folder f before inputs may_diverge) (file_state before counts) (file_state after counts_after) ended
+performed_whole files f inputs may_diverge before after counts counts_after ended tells makes keeps diverges counted asks asks_all cause =
+    performed f inputs may_diverge before after counts counts_after ended tells (λ o is. whole_makes files ended (writes_of o) before after (makes o is)) keeps diverges counted asks asks_all cause
 
 -- a replay may tell that a log diverged
 pub may_diverge : (ended : Result WorkText StopCause) → DivergesOnlyIf true ended
@@ -75,12 +86,27 @@ may_diverge (Ok (answered.Done text)) = tt
 may_diverge (Ok (answered.Diverged text)) = refl
 may_diverge (Err e) = tt
 
+-- the files that are expected to be read are the command's inputs
+expected_inputs : (command : Command) (old new : Outside) (answer : Status)
+    → WhenTold old.told (λ folder. AsksInputs ((expected (Some command) old.told old.hearing.left).inputs folder) old.counts new.counts answer)
+    → WhenTold old.told (λ folder. AsksInputs (inputs_of (Some command) folder) old.counts new.counts answer)
+expected_inputs (Record images name) old new answer asks = asks
+expected_inputs (Replay images pairs) old new answer asks = asks
+expected_inputs (Debug pairs) old new answer asks = asks
+expected_inputs (Drill rounds) old new answer asks = asks
+expected_inputs (Migrate log_name new_name) old new answer asks = asks
+expected_inputs (Schedule pairs) old new answer asks = asks
+expected_inputs (Cut process event pairs) old new answer asks = asks
+expected_inputs (Streams pairs) old new answer asks = asks
+expected_inputs (Play name) old new answer asks = asks
+
 -- its run, with what it promises of its own
 pub run_finished : (command : Command) (ended : Result WorkText StopCause) (answer : Status) (old new : Outside) → FinishedCommand (expected (Some command) old.told old.hearing.left) ended old new answer
     → Promises (Some command) old new answer → CommandRun (Some command) old new answer
 run_finished command ended answer old new f promised = record {
   call = f.call;
   usage = record { only = λ is. absurd (f.is_command is); always = λ none h. cc };
+  asks = expected_inputs command old new answer f.asks;
   diverged = f.diverged;
   promises = promised;
 }
@@ -162,6 +188,7 @@ pub run_debugged : (pairs : List Pair) (answer : Status) (old new : Outside) →
 run_debugged pairs answer old new r = record {
   call = r.call;
   usage = record { only = λ is. absurd (r.is_command is); always = λ none h. cc };
+  asks = r.asks;
   diverged = λ is. absurd (r.no_divergence is);
   promises = r.promises;
 }
@@ -170,15 +197,17 @@ pub run_played : PlayedIsRecorded → (schedule_name : List ℕ) (answer : Statu
 run_played law schedule_name answer old new r = record {
   call = r.call;
   usage = record { only = λ is. absurd (r.is_command is); always = λ none h. cc };
+  asks = r.asks;
   diverged = λ is. absurd (r.no_divergence is);
   promises = record { session = r.promises; played = λ folder is. law schedule_name folder };
 }
 
 pub run_none : (answer : Status) (old new : Outside) → CallEnds (Some (Err NotACommand)) (λ folder. []) old new answer
-    → (IsAnswerStatus answer → answer ≡ ends.Usage) → (answer ≢ ends.ReadFault) → new.hearing ≡ old.hearing → CommandRun None old new answer
-run_none answer old new call usage reads unheard = record {
+    → (IsAnswerStatus answer → answer ≡ ends.Usage) → (answer ≢ ends.ReadFault) → new.hearing ≡ old.hearing → new.counts ≡ old.counts → CommandRun None old new answer
+run_none answer old new call usage reads unheard counts = record {
   call = call;
   usage = record { only = λ _. refl; always = λ _ h. usage h };
+  asks = λ folder told. let none = asks_none old.counts new.counts (ap (λ (c : Counts). c.asked) counts) in record { first = all_are_first _ _ _ none; all = λ work. none };
   diverged = λ is. let e : ends.Diverged ≡ ends.Usage = sym is ∙ usage (subst IsAnswerStatus (sym is) tt) in absurd (never_diverged e);
   promises = record {
     unheard = unheard;
@@ -199,6 +228,7 @@ pub run_stopped : RecordingsAgree → UntouchedFolderIsMoment → LeftIsShown �
 run_stopped agree rest law plays command o answer is call = subst (λ (a : Status). CommandRun command o o a) (sym is) (record {
   call = subst (λ (a : Status). CallEnds (expected command o.told o.hearing.left).outcome (expected command o.told o.hearing.left).written o o a) is call;
   usage = record { only = λ e. absurd cc; always = λ none h. absurd h };
+  asks = λ folder told. record { first = begins_asking _ o.counts o.counts refl; all = λ work. absurd work };
   diverged = λ e. absurd cc;
   promises = promised command;
 }) where

@@ -5,3 +5,4 @@ pub mod RecordedStreams
 pub mod LeftByRecording
 pub mod SecondCall
 pub mod ImagesApart
+pub mod StoppedCall

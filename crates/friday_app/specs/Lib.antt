@@ -1,8 +1,10 @@
 pub mod Command
+pub mod Inputs
 pub mod Expected
 pub mod Promises
 pub mod Run
 pub mod Valid
 pub mod Streams
 pub mod TwoCalls
+pub mod Stopped
 pub mod inside

@@ -2,6 +2,7 @@ pub mod BegunReplays
 pub mod FirstReplays
 pub mod LogClashes
 pub mod GroupBegins
+pub mod AskedPairs
 pub mod LoadedPairs
 pub mod OpenedReplays
 pub mod PairPlaces

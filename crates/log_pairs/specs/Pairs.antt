@@ -10,6 +10,7 @@ use Rattle.command_run.specs.declared.refusal.Reason.{Reason}
 use Rattle.command_run.specs.declared.refusal.Reason.TheVariants as reason
 use Rattle.command_run.specs.Inputs.{first_state_of, module_in}
 use Rattle.command_run.specs.Logs.{log_in}
+use Rattle.command_run.specs.Asked.{unless_named}
 use Rattle.command_run.specs.declared.refusal.StopCause.{StopCause}
 use Rattle.command_run.specs.Call.{StopsAsCause}
 use Rattle.command_run.specs.Outcome.{CommandStop, and_then, unless_refused}
@@ -97,3 +98,15 @@ OpensReplays pairs told start = WhenTold told (λ folder. replays_of_pairs folde
 -- none could be, for this refusal
 abbrev pub RefusesPairs : List Pair → Option Folder → StopCause → Type 0
 RefusesPairs pairs told e = WhenTold told (λ folder. StopsAsCause (replays_of_pairs folder pairs) e)
+
+-- the files of a pair that are read, where those modules were read before: the module's unless it is one of them, and the log's
+abbrev pub files_of_pair : List (List ℕ) → Pair → List (List ℕ)
+files_of_pair earlier pair = unless_named earlier pair.module_name ++ pair.log_name ∷ []
+
+abbrev pub files_of_pairs : List (List ℕ) → List Pair → List (List ℕ)
+files_of_pairs earlier [] = []
+files_of_pairs earlier (pair ∷ pairs) = files_of_pair earlier pair ++ files_of_pairs (earlier ++ unless_named earlier pair.module_name) pairs
+
+-- the files that a command reads of these pairs, pair after pair: each module once, and each log
+abbrev pub pair_inputs : List Pair → List (List ℕ)
+pair_inputs pairs = files_of_pairs [] pairs

@@ -1,13 +1,14 @@
 // The modules and logs of a group, and the replays of the logs.
-ghost use Rattle.std.specs.Prelude.{◌≡◌, ℕ, ◌≢◌, List, None, Option, All, IfErr, IfOk, IfSome, MatchResult, OnOk, length, map, nat_lt};
+ghost use Rattle.std.specs.Prelude.{◌≡◌, ◌++◌, ℕ, ◌≢◌, List, None, Option, All, IfErr, IfOk, IfSome, MatchResult, OnOk, length, map, nat_lt};
 ghost use Rattle.std.specs.List.{take_while};
 ghost use Rattle.fri_outside.specs.Outside.{Counts, Folder, WhenTold};
 ghost use Rattle.call_log.specs.Head.{IsHead, head_of};
 ghost use Rattle.proc_replay.specs.AtHead.{IsAtHead};
 ghost use Rattle.group_state.specs.Place.{AreGroupReplays};
-ghost use Rattle.command_run.specs.Call.{CountsFaults, RaisesCount, TellsResult, reads_after, writes_after};
+ghost use Rattle.command_run.specs.Asked.{AsksAll, AsksFirst, kept_names, unless_named};
+ghost use Rattle.command_run.specs.Call.{CountsFaults, CountsNothing, RaisesCount, TellsResult};
 ghost use Rattle.command_run.specs.Kept.{AreOfFiles};
-ghost use Rattle.log_pairs.specs.Pairs.{Loaded as LoadedOf, RefusesPairs, Pair as PairOf, OpensReplays, clash_of_logs, has_name, has_process, insert_replay, is_other_group, replay_of_log};
+ghost use Rattle.log_pairs.specs.Pairs.{Loaded as LoadedOf, RefusesPairs, Pair as PairOf, OpensReplays, clash_of_logs, files_of_pair, has_name, has_process, insert_replay, is_other_group, pair_inputs, replay_of_log};
 ghost use Rattle.log_pairs.specs.Meanings.{AreLoadedPairs, AreOneGroup, IsLoadedPair, LoadsFiles, pair_of};
 ghost use Rattle.log_pairs.specs.inside.Loading.{LoadsPair};
 
@@ -98,6 +99,9 @@ fn load<'a, F: Files>(
     ensures kept { AreOfFiles (F.told files.old) modules.new }
     ensures same { F.told files.new ≡ F.told files.old }
     ensures counts { CountsFaults (F.counts files.old) (F.counts files.new) result }
+    ensures asks { AsksFirst (files_of_pair (kept_names modules.old) (pair_of pair.entry)) (F.counts files.old) (F.counts files.new) }
+    ensures asks_all { OnOk result (AsksAll (files_of_pair (kept_names modules.old) (pair_of pair.entry)) (F.counts files.old) (F.counts files.new)) }
+    ensures named { OnOk result (kept_names modules.new ≡ kept_names modules.old ++ unless_named (kept_names modules.old) (pair_of pair.entry).module_name) }
     ensures cause { IfErr result (RaisesCount (F.counts files.old) (F.counts files.new)) }
 {
     call_log::laws::exact_logs();
@@ -126,6 +130,8 @@ pub fn load_all<'a, F: Files>(
     ensures apart { IfOk result (λ all. AreOneGroup all.items) }
     ensures same { F.told files.new ≡ F.told files.old }
     ensures counts { CountsFaults (F.counts files.old) (F.counts files.new) result }
+    ensures asks { AsksFirst (pair_inputs (map pair_of pairs.now)) (F.counts files.old) (F.counts files.new) }
+    ensures asks_all { OnOk result (AsksAll (pair_inputs (map pair_of pairs.now)) (F.counts files.old) (F.counts files.new)) }
     ensures cause { IfErr result (RaisesCount (F.counts files.old) (F.counts files.new)) }
 {
     let mut modules = ModuleFiles::new(alloc);
@@ -144,7 +150,7 @@ fn begin_replay<'m>(alloc: Global, loaded: &'m Loaded<'_>) -> Result<Replayer<'m
     ensures fresh { IfOk result (λ replay. replay.state.events ≡ 0) }
     ensures at_head { IfOk result IsAtHead }
     ensures cause { (old new : Counts) → IfErr result (RaisesCount old new) }
-    ensures still { (n : ℕ) → (reads_after n result ≡ n) × (writes_after n result ≡ n) }
+    ensures still { CountsNothing result }
 {
     let LogHead { process, count, .. } = loaded.log.head();
     let begun = begin_process(
@@ -192,7 +198,7 @@ pub fn begin_all<'m>(
     ensures heads { IfOk result (λ replays. All (λ r. IsHead r.head) replays.items) }
     ensures at_heads { IfOk result (λ replays. All IsAtHead replays.items) }
     ensures cause { (old new : Counts) → IfErr result (RaisesCount old new) }
-    ensures still { (n : ℕ) → (reads_after n result ≡ n) × (writes_after n result ≡ n) }
+    ensures still { CountsNothing result }
 {
     let mut sorted = Vec::new(alloc);
     for loaded in all {

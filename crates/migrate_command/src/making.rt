@@ -1,6 +1,7 @@
 // `migrate LOG NEW`: makes the file that has the newer form of a log.
-ghost use Rattle.std.specs.Prelude.{◌≡◌, [], ◌∷◌, false, option_map, IfErr};
+ghost use Rattle.std.specs.Prelude.{◌≡◌, [], ◌∷◌, false, option_map, IfErr, OnOk};
 ghost use Rattle.fri_outside.specs.Outside.{WhenTold};
+ghost use Rattle.command_run.specs.Asked.{AsksAll, AsksFirst};
 ghost use Rattle.command_run.specs.Call.{CountsFaults, DivergesOnlyIf, KeepsFolder, MakesWholeFiles, MakesAllFiles, RaisesCount, TellsOutcome};
 ghost use Rattle.command_run.specs.Outcome.{writes_of};
 ghost use Rattle.migrate_command.specs.Migrate.{migrate_outcome};
@@ -14,6 +15,7 @@ use std::alloc::Global;
 fn make_file<F: Files>(name: &str, bytes: &[u8], files: &mut F) -> Result<(), StopCause>
     ensures made { MakesAllFiles result ((name.now, bytes.now) ∷ []) (F.told files.old) (F.told files.new) }
     ensures counts { CountsFaults (F.counts files.old) (F.counts files.new) result }
+    ensures asked { (F.counts files.new).asked ≡ (F.counts files.old).asked }
     ensures cause { IfErr result (RaisesCount (F.counts files.old) (F.counts files.new)) }
 {
     files.replace(name, bytes)?;
@@ -34,6 +36,8 @@ pub fn migrate<F: Files>(
     ensures keeps { KeepsFolder result (F.told files.old) (F.told files.new) }
     ensures done { DivergesOnlyIf false result }
     ensures counts { CountsFaults (F.counts files.old) (F.counts files.new) result }
+    ensures asks { AsksFirst (log_file.now ∷ []) (F.counts files.old) (F.counts files.new) }
+    ensures asks_all { OnOk result (AsksAll (log_file.now ∷ []) (F.counts files.old) (F.counts files.new)) }
     ensures cause { IfErr result (RaisesCount (F.counts files.old) (F.counts files.new)) }
 {
     let Migration { bytes, text } = take_migration(alloc, log_file, files)?;

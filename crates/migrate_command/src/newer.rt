@@ -1,8 +1,9 @@
 // The newer form of a log, and what is said of it.
-ghost use Rattle.std.specs.Prelude.{◌≡◌, ℕ, List, IfErr, IfOk, length};
+ghost use Rattle.std.specs.Prelude.{◌≡◌, ◌∷◌, ℕ, [], List, IfErr, IfOk, OnOk, length};
 ghost use Rattle.fri_outside.specs.Outside.{Counts, WhenTold};
 ghost use Rattle.call_log.specs.Log.{entries_of, rest_of_log};
-ghost use Rattle.command_run.specs.Call.{CountsFaults, RaisesCount, TellsResult, reads_after, writes_after};
+ghost use Rattle.command_run.specs.Asked.{AsksAll, AsksFirst};
+ghost use Rattle.command_run.specs.Call.{CountsFaults, CountsNothing, RaisesCount, TellsResult};
 ghost use Rattle.migrate_command.specs.Migrate.{migrate_outcome, migrate_text, work_unless_grown};
 ghost use Rattle.migrate_command.specs.inside.Meanings.{work_of_migration};
 
@@ -59,7 +60,7 @@ fn renew(alloc: Global, log_file: &str, log: &LogView<'_>) -> Result<Migration, 
     ensures answer { (new_name : List ℕ)
         → TellsResult (work_of_migration new_name) (work_unless_grown log_file.now new_name (log.now.head, log.now.left)) result }
     ensures cause { (old new : Counts) → IfErr result (RaisesCount old new) }
-    ensures still { (n : ℕ) → (reads_after n result ≡ n) × (writes_after n result ≡ n) }
+    ensures still { CountsNothing result }
 {
     let extent = extent_of(log);
     let bytes = rewrite(alloc, log, extent.entries)?;
@@ -79,6 +80,8 @@ pub(crate) fn take_migration<F: Files>(
     ensures answer { (new_name : List ℕ) → WhenTold (F.told files.old) (λ folder. TellsResult (work_of_migration new_name) (migrate_outcome log_file.now new_name folder) result) }
     ensures same { F.told files.new ≡ F.told files.old }
     ensures counts { CountsFaults (F.counts files.old) (F.counts files.new) result }
+    ensures asks { AsksFirst (log_file.now ∷ []) (F.counts files.old) (F.counts files.new) }
+    ensures asks_all { OnOk result (AsksAll (log_file.now ∷ []) (F.counts files.old) (F.counts files.new)) }
     ensures cause { IfErr result (RaisesCount (F.counts files.old) (F.counts files.new)) }
 {
     let bytes = take_log(alloc, log_file, files)?;

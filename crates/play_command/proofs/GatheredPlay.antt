@@ -14,7 +14,7 @@ use Rattle.command_run.specs.declared.refusal.Reason.{Reason}
 use Rattle.command_run.specs.declared.refusal.Reason.TheVariants as reason
 use Rattle.command_run.specs.declared.refusal.StopCause.{StopCause}
 use Rattle.command_run.specs.declared.refusal.StopCause.TheVariants as refusal
-use Rattle.command_run.specs.Call.{RaisesCount, StopsAsCause, reads_after, writes_after}
+use Rattle.command_run.specs.Call.{CountsNothing, RaisesCount, StopsAsCause, misses_of_refusal}
 use Rattle.command_run.specs.Outcome.{CommandStop, CommandWork, and_then, refuses_at_once}
 use Rattle.record_command.specs.Expected.{inputs_in, module_name}
 use Rattle.record_command.specs.ExpectedLaws.{inputs_are}
@@ -69,16 +69,15 @@ refusal_raises name schedule modules begun errors.WriteFault e old new opens ref
 refusal_raises name schedule modules begun errors.NoMemory e old new opens refuses = subst (λ (r : StopCause). RaisesCount old new r) (sym refuses) tt
 
 pub refusal_still : (name : List ℕ) (schedule : Schedule) (modules : List Module) (begun : Result (List State) ℕ) (error : RecordError) (e : StopCause) → OpensPlay schedule modules begun (Err error) → IsRefusalOf name schedule error e
-    → (n : ℕ) → (reads_after {T = ⊤} n (Err e) ≡ n) × (writes_after {T = ⊤} n (Err e) ≡ n)
-refusal_still name schedule modules begun (errors.BadSegment p) (refusal.Refused file why) opens refuses n = (refl, refl)
-refusal_still name schedule modules begun (errors.BadSegment p) refusal.NoMemory opens refuses n = (refl, refl)
+    → CountsNothing {T = ⊤} (Err e)
+refusal_still name schedule modules begun (errors.BadSegment p) (refusal.Refused file why) opens refuses n = (refl, (refl, ap (λ (r : Reason). misses_of_refusal r n) refuses.1))
+refusal_still name schedule modules begun (errors.BadSegment p) refusal.NoMemory opens refuses n = (refl, (refl, refl))
 refusal_still name schedule modules begun (errors.BadSegment p) other opens refuses n = absurd refuses
-refusal_still name schedule modules begun (errors.LogFull item) (refusal.Refused file why) opens refuses n = (refl, refl)
-refusal_still name schedule modules begun (errors.LogFull item) refusal.NoMemory opens refuses n = (refl, refl)
+refusal_still name schedule modules begun (errors.LogFull item) (refusal.Refused file why) opens refuses n = (refl, (refl, ap (λ (r : Reason). misses_of_refusal r n) refuses.1))
+refusal_still name schedule modules begun (errors.LogFull item) refusal.NoMemory opens refuses n = (refl, (refl, refl))
 refusal_still name schedule modules begun (errors.LogFull item) other opens refuses n = absurd refuses
 refusal_still name schedule modules begun errors.WriteFault e opens refuses n = absurd opens
-refusal_still name schedule modules begun errors.NoMemory e opens refuses n =
-    subst (λ (r : StopCause). (reads_after {T = ⊤} n (Err r) ≡ n) × (writes_after {T = ⊤} n (Err r) ≡ n)) (sym refuses) (refl, refl)
+refusal_still name schedule modules begun errors.NoMemory e opens refuses n = subst (λ (r : StopCause). CountsNothing {T = ⊤} (Err r)) (sym refuses) (λ n. (refl, (refl, refl))) n
 
 -- ---- the process that does not begin
 

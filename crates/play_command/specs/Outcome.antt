@@ -7,7 +7,7 @@ use Rattle.group_record.specs.Answer.{first_states, group_of}
 use Rattle.group_record.specs.Run.{run}
 use Rattle.command_run.specs.declared.refusal.Reason.TheVariants as reason
 use Rattle.command_run.specs.Outcome.{CommandOutcome, CommandStop, and_then, refuses_at_once}
-use Rattle.record_command.specs.Expected.{inputs_in, states_or_bad_segment}
+use Rattle.record_command.specs.Expected.{inputs_in, record_inputs, states_or_bad_segment}
 use Rattle.conversation.specs.Opening.{Opener, opened_outcome}
 use Rattle.conversation.specs.Talker.{Talker, talker_of}
 use Rattle.play_command.specs.Play.{PlayState, opening_line, play_answer}
@@ -37,7 +37,7 @@ play_talker state = talker_of (opening_line state) state play_answer
 
 -- the play of a schedule file, and its session
 abbrev pub play_opener : List ℕ → Opener PlayState PlayState
-play_opener name = record { opens = play_in name; talker = play_talker }
+play_opener name = record { opens = play_in name; talker = play_talker; inputs = record_inputs name }
 
 abbrev pub play_outcome : List ℕ → Option (List ℕ) → Folder → Option CommandOutcome
 play_outcome name left folder = opened_outcome (play_opener name) (play_in name folder) left

@@ -1,13 +1,15 @@
 -- What `record` says of its result, from what it gathered.
 use Rattle.std.proofs.Common.{◌≡◌, ℕ, Bool, List, [], ◌∷◌, Option, Some, option_map, Ok, Result, sym, ap, subst, ◌∙◌}
 use Rattle.std.specs.Prelude.{⊤}
-use Rattle.fri_outside.specs.Outside.{Folder, WhenTold}
+use Rattle.fri_outside.specs.Outside.{Counts, Folder, WhenTold}
 use Rattle.wasm_types.specs.Modules.{Module}
 use Rattle.schedule_text.specs.Schedule.{Schedule}
 use Rattle.group_record.specs.Answer.{first_states}
 use Rattle.command_run.specs.declared.refusal.WorkText.{WorkText}
 use Rattle.command_run.specs.declared.refusal.StopCause.{StopCause}
-use Rattle.record_command.specs.Expected.{group_outcome, inputs_in, made_names, modules_of, outcome_of_inputs, record_outcome, schedule_in}
+use Rattle.record_command.specs.Expected.{group_outcome, inputs_in, made_names, modules_of, outcome_of_inputs, files_of_schedule, module_files, record_inputs, record_outcome, schedule_in}
+use Rattle.command_run.specs.Asked.{AsksAll, AsksFirst}
+use Rattle.command_run.specs.AskedLaws.{asks_before, asks_first_then, asks_then}
 use Rattle.record_command.specs.ExpectedLaws.{inputs_are}
 use Rattle.command_run.specs.Apart.{unless_over_input}
 use Rattle.command_run.specs.Outcome.{CommandOutcome, CommandStop, and_then, writes_of}
@@ -69,3 +71,21 @@ group_makes told middle after images name schedule modules result gathers kept s
     let h = outcome_when_told (record_outcome images name) told o is in
     subst (λ (o : CommandOutcome). MakesWorkFiles result (writes_of o) told after) (sym (h.2 ∙ gathered h.0 images name schedule modules (gathers h.0 h.1) kept))
     (subst (λ (t : Option Folder). MakesWorkFiles result (writes_of (group_outcome images name schedule (first_states schedule modules))) t after) same makes)
+
+-- ---- the names that were asked for
+
+pub asks_schedule : (folder : Folder) (name : List ℕ) (old new : Counts) → AsksFirst (name ∷ []) old new → AsksFirst (record_inputs name folder) old new
+asks_schedule folder name old new asks = asks_before (name ∷ []) (files_of_schedule (schedule_in folder name)) old new asks
+
+inputs_read : (folder : Folder) (name : List ℕ) (schedule : Schedule) → schedule_in folder name ≡ Ok schedule → record_inputs name folder ≡ name ∷ module_files schedule.processes
+inputs_read folder name schedule read = ap (λ (r : Result Schedule CommandStop). name ∷ files_of_schedule r) read
+
+pub asks_modules : (folder : Folder) (name : List ℕ) (schedule : Schedule) (old between new : Counts) → schedule_in folder name ≡ Ok schedule
+    → AsksAll (name ∷ []) old between → AsksFirst (module_files schedule.processes) between new → AsksFirst (record_inputs name folder) old new
+asks_modules folder name schedule old between new read first asks =
+    subst (λ (names : List (List ℕ)). AsksFirst names old new) (sym (inputs_read folder name schedule read)) (asks_first_then (name ∷ []) (module_files schedule.processes) old between new first asks)
+
+pub asks_all_modules : (folder : Folder) (name : List ℕ) (schedule : Schedule) (old between new : Counts) → schedule_in folder name ≡ Ok schedule
+    → AsksAll (name ∷ []) old between → AsksAll (module_files schedule.processes) between new → AsksAll (record_inputs name folder) old new
+asks_all_modules folder name schedule old between new read first asks =
+    subst (λ (names : List (List ℕ)). AsksAll names old new) (sym (inputs_read folder name schedule read)) (asks_then (name ∷ []) (module_files schedule.processes) old between new first asks)

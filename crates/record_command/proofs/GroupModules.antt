@@ -1,5 +1,5 @@
 -- The modules of a group, in the order of its processes, and how the processes begin with them.
-use Rattle.std.proofs.Common.{◌≡◌, ◌⊎◌, ◌<◌, ◌+◌, ℕ, zero, suc, List, [], ◌∷◌, ◌++◌, length, drop, Option, Some, None, Result, Ok, Err, refl, sym, ap, subst, ◌∙◌, inl, inr, arith, append_assoc, append-nil}
+use Rattle.std.proofs.Common.{◌≡◌, ◌⊎◌, ◌<◌, ◌+◌, ℕ, zero, suc, List, [], ◌∷◌, ◌++◌, length, drop, Option, Some, None, Result, Ok, Err, refl, sym, ap, subst, ◌∙◌, inl, inr, arith, append_assoc, append-nil, map}
 use Rattle.std.specs.Prelude.{All}
 use Rattle.std.proofs.lemmas.List.{length-append}
 use Rattle.fri_outside.specs.Outside.{Folder, WhenTold}
@@ -12,6 +12,8 @@ use Rattle.group_record.specs.Answer.{first_states_from, with_first_state}
 use Rattle.command_run.specs.declared.refusal.StopCause.{StopCause}
 use Rattle.command_run.specs.Call.{StopsAsCause}
 use Rattle.record_command.specs.Expected.{modules_of}
+use Rattle.command_run.specs.declared.kept.ModuleFiles.{ModuleFiles}
+use Rattle.command_run.specs.Asked.{first_named, kept_names, unless_named}
 use Rattle.command_run.specs.Inputs.{module_in}
 use Rattle.command_run.specs.Laws.{ReadsModules}
 use Rattle.command_run.specs.Outcome.{CommandStop, and_then}
@@ -111,3 +113,10 @@ taking_stops told lines index ms line e taken next stops folder is =
 pub all_taken : (told : Option Folder) (lines : List ProcessLine) (index : ℕ) (ms : List Module) → AreTaken told lines index ms → drop index lines ≡ [] → WhenTold told (λ folder. modules_of folder lines ≡ Ok ms)
 all_taken told lines index ms taken none folder is =
     taken.so_far folder is ∙ ap (λ (rest : List ProcessLine). prefixed ms (modules_of folder rest)) none ∙ ap (λ (all : List Module). Ok all) (append-nil ms)
+
+-- the file of a process is asked for, unless it was before, and then those of the processes behind it
+pub asking_module : (old new : ModuleFiles) (lines : List ProcessLine) (i : ℕ) (line : ProcessLine) → drop i lines ≡ line ∷ drop (i + 1) lines → kept_names new ≡ kept_names old ++ unless_named (kept_names old) line.«module»
+    → first_named (kept_names old) (map (λ (line : ProcessLine). line.«module») (drop i lines)) ≡ unless_named (kept_names old) line.«module» ++ first_named (kept_names new) (map (λ (line : ProcessLine). line.«module») (drop (i + 1) lines))
+asking_module old new lines i line next named =
+    ap (λ (rest : List ProcessLine). first_named (kept_names old) (map (λ (line : ProcessLine). line.«module») rest)) next
+    ∙ ap (λ (kept : List (List ℕ)). unless_named (kept_names old) line.«module» ++ first_named kept (map (λ (line : ProcessLine). line.«module») (drop (i + 1) lines))) (sym named)

@@ -13,6 +13,7 @@ use Rattle.group_record.specs.Logs.{log_name}
 use Rattle.group_record.specs.Run.{run}
 use Rattle.command_run.specs.Apart.{AreApart, unless_over_input}
 use Rattle.command_run.specs.declared.refusal.Reason.TheVariants as reason
+use Rattle.command_run.specs.Asked.{first_named}
 use Rattle.command_run.specs.Inputs.{module_in}
 use Rattle.command_run.specs.Outcome.{CommandStop, CommandOutcome, refuses_at_once, and_then, file_of}
 use Rattle.schedule_text.specs.Limits.{most_schedule}
@@ -72,3 +73,15 @@ outcome_of_inputs images schedule_name inputs =
 
 abbrev pub record_outcome : Bool → List ℕ → Folder → CommandOutcome
 record_outcome images schedule_name folder = and_then (inputs_in folder schedule_name) (outcome_of_inputs images schedule_name)
+
+-- the files of the modules of these processes, each once, in the order in which the lines name them first
+abbrev pub module_files : List ProcessLine → List (List ℕ)
+module_files lines = first_named [] (map (λ line. line.«module») lines)
+
+abbrev pub files_of_schedule : Result Schedule CommandStop → List (List ℕ)
+files_of_schedule (Ok schedule) = module_files schedule.processes
+files_of_schedule (Err stop) = []
+
+-- the files that a recording reads: the schedule's, and then those of its modules
+abbrev pub record_inputs : List ℕ → Folder → List (List ℕ)
+record_inputs schedule_name folder = schedule_name ∷ files_of_schedule (schedule_in folder schedule_name)

@@ -1,12 +1,13 @@
 // Reads a schedule, and the modules of its processes.
-ghost use Rattle.std.specs.Prelude.{◌≡◌, ◌<◌, ℕ, All, length, map, IfOk, IfErr};
+ghost use Rattle.std.specs.Prelude.{◌≡◌, ◌<◌, ◌∷◌, ◌++◌, ℕ, [], All, length, map, IfOk, IfErr, OnOk};
 ghost use Rattle.fri_outside.specs.Outside.{WhenTold};
 ghost use Rattle.wasm_types.specs.Modules.{module_of as shown};
 ghost use Rattle.schedule_text.specs.Schedule.{IsProcess, IsSchedule};
+ghost use Rattle.command_run.specs.Asked.{AsksAll, AsksFirst, kept_names, unless_named};
 ghost use Rattle.command_run.specs.Call.{CountsFaults, RaisesCount, RefusesFile, TellsResult};
 ghost use Rattle.command_run.specs.Inputs.{module_in};
 ghost use Rattle.command_run.specs.Kept.{AreOfFiles};
-ghost use Rattle.record_command.specs.Expected.{module_name, modules_of, schedule_in};
+ghost use Rattle.record_command.specs.Expected.{module_files, module_name, modules_of, record_inputs, schedule_in};
 ghost use Rattle.record_command.specs.Gathering.{GathersInputs, IsRefusalOf};
 
 use command_run::{ModuleFiles, Reason, StopCause, take_file};
@@ -29,6 +30,9 @@ fn take_module_of<F: Files>(
     ensures kept { AreOfFiles (F.told files.old) modules.new }
     ensures same { F.told files.new ≡ F.told files.old }
     ensures counts { CountsFaults (F.counts files.old) (F.counts files.new) result }
+    ensures asks { AsksFirst (unless_named (kept_names modules.old) line.now.«module») (F.counts files.old) (F.counts files.new) }
+    ensures asks_all { OnOk result (AsksAll (unless_named (kept_names modules.old) line.now.«module») (F.counts files.old) (F.counts files.new)) }
+    ensures named { OnOk result (kept_names modules.new ≡ kept_names modules.old ++ unless_named (kept_names modules.old) line.now.«module») }
     ensures cause { IfErr result (RaisesCount (F.counts files.old) (F.counts files.new)) }
 {
     let file = String::from_utf8_lossy(alloc, line.module.as_slice())?;
@@ -46,6 +50,8 @@ pub fn take_modules<F: Files>(
     ensures count { IfOk result (λ modules. length modules.items ≡ length lines.now) }
     ensures same { F.told files.new ≡ F.told files.old }
     ensures counts { CountsFaults (F.counts files.old) (F.counts files.new) result }
+    ensures asks { AsksFirst (module_files lines.now) (F.counts files.old) (F.counts files.new) }
+    ensures asks_all { OnOk result (AsksAll (module_files lines.now) (F.counts files.old) (F.counts files.new)) }
     ensures cause { IfErr result (RaisesCount (F.counts files.old) (F.counts files.new)) }
 {
     let mut read = ModuleFiles::new(alloc);
@@ -66,6 +72,8 @@ pub fn take_schedule<F: Files>(
     ensures answer { WhenTold (F.told files.old) (λ folder. TellsResult (λ schedule. schedule) (schedule_in folder name.now) result) }
     ensures same { F.told files.new ≡ F.told files.old }
     ensures counts { CountsFaults (F.counts files.old) (F.counts files.new) result }
+    ensures asks { AsksFirst (name.now ∷ []) (F.counts files.old) (F.counts files.new) }
+    ensures asks_all { OnOk result (AsksAll (name.now ∷ []) (F.counts files.old) (F.counts files.new)) }
     ensures cause { IfErr result (RaisesCount (F.counts files.old) (F.counts files.new)) }
 {
     let bytes = take_file(alloc, name, MOST_SCHEDULE, files)?;
@@ -130,6 +138,9 @@ pub fn gather<F: Files>(
     ensures count { IfOk result (λ inputs. length inputs.modules.items ≡ length inputs.schedule.processes) }
     ensures same { F.told files.new ≡ F.told files.old }
     ensures counts { CountsFaults (F.counts files.old) (F.counts files.new) result }
+    ensures asks { WhenTold (F.told files.old) (λ folder. AsksFirst (record_inputs schedule_file.now folder) (F.counts files.old) (F.counts files.new)) }
+    ensures asks_all { WhenTold (F.told files.old) (λ folder.
+        OnOk result (AsksAll (record_inputs schedule_file.now folder) (F.counts files.old) (F.counts files.new))) }
     ensures cause { IfErr result (RaisesCount (F.counts files.old) (F.counts files.new)) }
 {
     let schedule = take_schedule(alloc, schedule_file, files)?;

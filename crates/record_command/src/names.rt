@@ -3,7 +3,7 @@ ghost use Rattle.std.specs.Prelude.{◌≡◌, ◌∷◌, [], ◌++◌, ℕ, All
 ghost use Rattle.fri_outside.specs.Outside.{Counts};
 ghost use Rattle.schedule_text.specs.Schedule.{IsProcess};
 ghost use Rattle.command_run.specs.Apart.{unless_over_input};
-ghost use Rattle.command_run.specs.Call.{RaisesCount, TellsResult, reads_after, writes_after};
+ghost use Rattle.command_run.specs.Call.{CountsNothing, RaisesCount, TellsResult};
 ghost use Rattle.record_command.specs.Expected.{image_names, made_names};
 
 use command_run::{StopCause, keep_apart};
@@ -63,7 +63,7 @@ pub(crate) fn keep_schedule(
 ) -> Result<(), StopCause>
     ensures answer { TellsResult (λ done. done) (unless_over_input (schedule_file.now ∷ []) (made_names images schedule.now)) result }
     ensures cause { (old new : Counts) → IfErr result (RaisesCount old new) }
-    ensures still { (n : ℕ) → (reads_after n result ≡ n) × (writes_after n result ≡ n) }
+    ensures still { CountsNothing result }
 {
     let made = made_names(alloc, images, schedule)?;
     keep_apart(alloc, &[schedule_file], &made)

@@ -1,11 +1,12 @@
 // `record [--images] SCHEDULE`: runs a group as the schedule says, and writes the log of each
 // process, and the images where they are asked for.
-ghost use Rattle.std.specs.Prelude.{◌≡◌, false, length, map, option_map, IfErr};
+ghost use Rattle.std.specs.Prelude.{◌≡◌, false, length, map, option_map, IfErr, OnOk};
 ghost use Rattle.fri_outside.specs.Outside.{WhenTold};
 ghost use Rattle.wasm_types.specs.Modules.{module_of as shown};
 ghost use Rattle.group_record.specs.Answer.{StoppedWhereBegun, first_states};
+ghost use Rattle.command_run.specs.Asked.{AsksAll, AsksFirst};
 ghost use Rattle.command_run.specs.Outcome.{writes_of};
-ghost use Rattle.record_command.specs.Expected.{group_outcome, record_outcome};
+ghost use Rattle.record_command.specs.Expected.{group_outcome, record_inputs, record_outcome};
 ghost use Rattle.record_command.specs.Agreement.{LeavesMoment};
 ghost use Rattle.command_run.specs.Call.{CountsFaults, TellsOutcome, MakesWorkFiles, KeepsFolder, DivergesOnlyIf, RaisesCount};
 
@@ -36,6 +37,7 @@ fn record_group<F: Files>(
     ensures keeps { KeepsFolder result (F.told files.old) (F.told files.new) }
     ensures done { DivergesOnlyIf false result }
     ensures counts { CountsFaults (F.counts files.old) (F.counts files.new) result }
+    ensures asked { (F.counts files.new).asked ≡ (F.counts files.old).asked }
     ensures cause { IfErr result (RaisesCount (F.counts files.old) (F.counts files.new)) }
 {
     fri_outside::laws::keeps_files();
@@ -64,6 +66,9 @@ pub fn record<F: Files>(
     ensures done { DivergesOnlyIf false result }
     ensures moment { WhenTold (F.told files.old) (λ before. LeavesMoment images schedule_file.now before (F.told files.new)) }
     ensures counts { CountsFaults (F.counts files.old) (F.counts files.new) result }
+    ensures asks { WhenTold (F.told files.old) (λ folder. AsksFirst (record_inputs schedule_file.now folder) (F.counts files.old) (F.counts files.new)) }
+    ensures asks_all { WhenTold (F.told files.old) (λ folder.
+        OnOk result (AsksAll (record_inputs schedule_file.now folder) (F.counts files.old) (F.counts files.new))) }
     ensures cause { IfErr result (RaisesCount (F.counts files.old) (F.counts files.new)) }
 {
     let inputs = gather(alloc, schedule_file, files)?;

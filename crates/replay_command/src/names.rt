@@ -3,7 +3,7 @@ ghost use Rattle.std.specs.Prelude.{◌≡◌, ℕ, All, IfErr, IfOk, map, strin
 ghost use Rattle.fri_outside.specs.Outside.{Counts};
 ghost use Rattle.call_log.specs.Head.{IsHead};
 ghost use Rattle.command_run.specs.Apart.{unless_over_input};
-ghost use Rattle.command_run.specs.Call.{RaisesCount, TellsResult, reads_after, writes_after};
+ghost use Rattle.command_run.specs.Call.{CountsNothing, RaisesCount, TellsResult};
 ghost use Rattle.log_pairs.specs.Meanings.{pair_of};
 ghost use Rattle.log_pairs.specs.Pairs.{names_of_pairs};
 ghost use Rattle.replay_command.specs.Report.{images_if, images_in};
@@ -35,7 +35,7 @@ fn keep_from_images(
     requires { All (λ r. IsHead r.head) replayers.now }
     ensures answer { TellsResult (λ done. done) (unless_over_input (names_of_pairs (map pair_of pairs.now)) (map (λ file. file.0) (images_in replayers.now))) result }
     ensures cause { (old new : Counts) → IfErr result (RaisesCount old new) }
-    ensures still { (n : ℕ) → (reads_after n result ≡ n) × (writes_after n result ≡ n) }
+    ensures still { CountsNothing result }
 {
     let read = file_names(alloc, pairs)?;
     let made = image_names(alloc, replayers)?;
@@ -52,7 +52,7 @@ pub(crate) fn keep_pairs(
     requires { All (λ r. IsHead r.head) replayers.now }
     ensures answer { TellsResult (λ done. done) (unless_over_input (names_of_pairs (map pair_of pairs.now)) (map (λ file. file.0) (images_if images replayers.now))) result }
     ensures cause { (old new : Counts) → IfErr result (RaisesCount old new) }
-    ensures still { (n : ℕ) → (reads_after n result ≡ n) × (writes_after n result ≡ n) }
+    ensures still { CountsNothing result }
 {
     if images {
         keep_from_images(alloc, pairs, replayers)

@@ -1,11 +1,13 @@
 // `replay [--images] MODULE LOG ..`: the events of a group's logs, made again.
-ghost use Rattle.std.specs.Prelude.{◌≡◌, All, List, map, option_map, IfErr};
+ghost use Rattle.std.specs.Prelude.{◌≡◌, All, List, map, option_map, IfErr, OnOk};
 ghost use Rattle.fri_outside.specs.Outside.{WhenTold};
 ghost use Rattle.call_log.specs.Head.{IsHead};
+ghost use Rattle.command_run.specs.Asked.{AsksAll, AsksFirst};
 ghost use Rattle.command_run.specs.Call.{CountsFaults, KeepsFolder, MakesWholeFiles, MakesAllFiles, RaisesCount, TellsOutcome};
 ghost use Rattle.command_run.specs.Outcome.{writes_of};
 ghost use Rattle.replay_command.specs.Report.{images_if, images_in, replay_outcome};
 ghost use Rattle.log_pairs.specs.Meanings.{pair_of};
+ghost use Rattle.log_pairs.specs.Pairs.{pair_inputs};
 
 use crate::names::keep_pairs;
 use crate::report::print_report;
@@ -27,6 +29,7 @@ fn write_images<F: Files>(
     requires fresh { All (λ r. r.state.events ≡ 0) replayers.now }
     ensures made { MakesAllFiles result (images_in replayers.now) (F.told files.old) (F.told files.new) }
     ensures counts { CountsFaults (F.counts files.old) (F.counts files.new) result }
+    ensures asked { (F.counts files.new).asked ≡ (F.counts files.old).asked }
     ensures cause { IfErr result (RaisesCount (F.counts files.old) (F.counts files.new)) }
 {
     for replayer in replayers {
@@ -53,6 +56,7 @@ fn write_asked<F: Files>(
     requires fresh { All (λ r. r.state.events ≡ 0) replayers.now }
     ensures made { MakesAllFiles result (images_if images replayers.now) (F.told files.old) (F.told files.new) }
     ensures counts { CountsFaults (F.counts files.old) (F.counts files.new) result }
+    ensures asked { (F.counts files.new).asked ≡ (F.counts files.old).asked }
     ensures cause { IfErr result (RaisesCount (F.counts files.old) (F.counts files.new)) }
 {
     if images {
@@ -76,6 +80,8 @@ pub fn replay<F: Files>(
         MakesWholeFiles result (writes_of outcome) (F.told files.old) (F.told files.new)) }
     ensures keeps { KeepsFolder result (F.told files.old) (F.told files.new) }
     ensures counts { CountsFaults (F.counts files.old) (F.counts files.new) result }
+    ensures asks { AsksFirst (pair_inputs (map pair_of pairs.now)) (F.counts files.old) (F.counts files.new) }
+    ensures asks_all { OnOk result (AsksAll (pair_inputs (map pair_of pairs.now)) (F.counts files.old) (F.counts files.new)) }
     ensures cause { IfErr result (RaisesCount (F.counts files.old) (F.counts files.new)) }
 {
     let all = load_all(alloc, pairs, files)?;

@@ -1,5 +1,5 @@
 -- What a command that makes no file did, from the outcome of its schedule.
-use Rattle.std.proofs.Common.{◌≡◌, ◌∙◌, false, List, [], Option, option_map, Result, Ok, Err, IfErr, ap, refl, subst, sym, inl}
+use Rattle.std.proofs.Common.{◌≡◌, ◌∙◌, false, List, [], Option, option_map, Result, Ok, Err, IfErr, OnOk, ap, refl, subst, sym, inl}
 use Rattle.std.specs.Prelude.{MatchResult}
 use Rattle.fri_outside.specs.Outside.{Counts, Folder, WhenTold}
 use Rattle.proc_replay.specs.Replaying.{Replaying}
@@ -10,9 +10,10 @@ use Rattle.command_run.specs.declared.refusal.StopCause.TheVariants as refusal
 use Rattle.command_run.specs.Call.{CountsFaults, DivergesOnlyIf, KeepsFolder, MakesWorkFiles, RaisesCount, StopsAsCause, TellsOutcome}
 use Rattle.command_run.specs.Outcome.{CommandOutcome, CommandStop, and_then, writes_of}
 use Rattle.command_run.specs.OutcomeLaws.{result_follows, outcome_when_told, same_Ok_value, stops_make_files, stops_tell_outcome}
+use Rattle.command_run.specs.Asked.{AsksAll, AsksFirst}
 use Rattle.command_run.specs.Run.{PerformedCommand, expectation, file_state}
 use Rattle.log_pairs.specs.declared.pairs.Loaded.{Loaded as LoadedFiles}
-use Rattle.log_pairs.specs.Pairs.{Loaded, RefusesPairs, Pair, OpensReplays, loaded_pairs, replays_of, replays_of_pairs, sort_replays}
+use Rattle.log_pairs.specs.Pairs.{Loaded, RefusesPairs, Pair, OpensReplays, loaded_pairs, pair_inputs, replays_of, replays_of_pairs, sort_replays}
 use Rattle.log_pairs.specs.Meanings.{AreLoadedPairs, LoadsFiles}
 use Rattle.schedule_command.specs.Schedule.{prints_text, schedule_outcome, unless_incomplete}
 use Rattle.schedule_command.specs.inside.Meanings.{IsScheduleText}
@@ -98,15 +99,17 @@ keeps before after (Err refusal.WriteFault) same = tt
 keeps before after (Err refusal.NoMemory) same = tt
 
 pub performed : (pairs : List Pair) (told after : Option Folder) (counts counts_after : Counts) (ended : Result WorkText StopCause) → WhenTold told (λ folder. Ends pairs folder ended) → after ≡ told
-    → DivergesOnlyIf false ended → CountsFaults counts counts_after ended → IfErr ended (RaisesCount counts counts_after)
-    → PerformedCommand (expectation (option_map (schedule_outcome pairs) told) (λ folder. []) false) (file_state told counts) (file_state after counts_after) ended
-performed pairs told after counts counts_after ended ends same done counted cause = record {
+    → DivergesOnlyIf false ended → CountsFaults counts counts_after ended → AsksFirst (pair_inputs pairs) counts counts_after → OnOk ended (AsksAll (pair_inputs pairs) counts counts_after) → IfErr ended (RaisesCount counts counts_after)
+    → PerformedCommand (expectation (option_map (schedule_outcome pairs) told) (λ folder. []) (λ folder. pair_inputs pairs) false) (file_state told counts) (file_state after counts_after) ended
+performed pairs told after counts counts_after ended ends same done counted asks asks_all cause = record {
   tells = λ o is. let h = outcome_when_told (schedule_outcome pairs) told o is in subst (λ (o : CommandOutcome). TellsOutcome o ended) (sym h.2) (tells pairs h.0 ended (ends h.0 h.1));
   makes = λ o is. let h = outcome_when_told (schedule_outcome pairs) told o is in subst (λ (o : CommandOutcome). MakesWorkFiles ended (writes_of o) told after) (sym h.2) (makes pairs h.0 told after ended (ends h.0 h.1) same);
   names = λ folder is. inl same;
   keeps = keeps told after ended same;
   diverges = done;
   counted = counted;
+  asks = λ folder is. asks;
+  asks_all = λ folder is. asks_all;
   cause = cause;
 }
 

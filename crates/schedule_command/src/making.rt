@@ -1,10 +1,10 @@
 // `schedule MODULE LOG ..`: prints the schedule of the logs of a group.
 ghost use Rattle.std.specs.Prelude.{◌≡◌, [], false, List, length, map, option_map, IfErr, IfOk, MatchResult, ℕ};
 ghost use Rattle.fri_outside.specs.Outside.{Counts, WhenTold};
-ghost use Rattle.command_run.specs.Call.{CountsFaults, RaisesCount, StopsAsCause, reads_after, writes_after};
+ghost use Rattle.command_run.specs.Call.{CountsFaults, CountsNothing, RaisesCount, StopsAsCause};
 ghost use Rattle.command_run.specs.Run.{PerformedCommand, expectation, file_state};
 ghost use Rattle.group_state.specs.Place.{AreGroupReplays, events_of_replays};
-ghost use Rattle.log_pairs.specs.Pairs.{Loaded as LoadedOf};
+ghost use Rattle.log_pairs.specs.Pairs.{Loaded as LoadedOf, pair_inputs};
 ghost use Rattle.log_pairs.specs.Meanings.{AreLoadedPairs, pair_of};
 ghost use Rattle.schedule_back.specs.Meanings.{IncomingAreBytes};
 ghost use Rattle.schedule_command.specs.Schedule.{is_complete, lines_of_replays, schedule_outcome, unless_incomplete};
@@ -63,7 +63,7 @@ fn make<'a>(
         (StopsAsCause (unless_incomplete (map pair_of pairs.now) ls replayers.entry.items)) }
     ensures bytes { IfOk result (λ _. IncomingAreBytes (events_of_replays replayers.entry.items)) }
     ensures cause { (old new : Counts) → IfErr result (RaisesCount old new) }
-    ensures still { (n : ℕ) → (reads_after n result ≡ n) × (writes_after n result ≡ n) }
+    ensures still { CountsNothing result }
 {
     if !is_complete(&replayers) {
         return Err(StopCause::refuse(alloc, first_log(pairs), Reason::Incomplete));
@@ -97,7 +97,7 @@ pub fn schedule<'a, F: Files>(
     pairs: &[Pair<'a>],
     files: &mut F,
 ) -> Result<WorkText, StopCause>
-    ensures performed { PerformedCommand (expectation (option_map (schedule_outcome (map pair_of pairs.now)) (F.told files.old)) (λ folder. []) false)
+    ensures performed { PerformedCommand (expectation (option_map (schedule_outcome (map pair_of pairs.now)) (F.told files.old)) (λ folder. []) (λ folder. pair_inputs (map pair_of pairs.now)) false)
         (file_state (F.told files.old) (F.counts files.old)) (file_state (F.told files.new) (F.counts files.new)) result }
     ensures same { F.told files.new ≡ F.told files.old }
     ensures converse { WhenTold (F.told files.old) (λ folder. IfOk result (AnswerRecordsBack (map pair_of pairs.now) folder)) }

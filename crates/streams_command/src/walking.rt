@@ -2,6 +2,7 @@
 ghost use Rattle.std.specs.Prelude.{◌≡◌, [], false, map, option_map, IfOk};
 ghost use Rattle.command_run.specs.Run.{PerformedCommand, expectation, file_state};
 ghost use Rattle.group_state.specs.Place.{AreGroupReplays, events_of_replays, group_count};
+ghost use Rattle.log_pairs.specs.Pairs.{pair_inputs};
 ghost use Rattle.log_pairs.specs.Meanings.{pair_of};
 ghost use Rattle.streams_command.specs.inside.Meanings.{IsToldOf};
 ghost use Rattle.streams_command.specs.Streams.{streams_outcome, streams_text, traffic_of_events};
@@ -78,7 +79,7 @@ pub fn streams<F: Files>(
     pairs: &[Pair<'_>],
     files: &mut F,
 ) -> Result<WorkText, StopCause>
-    ensures performed { PerformedCommand (expectation (option_map (streams_outcome (map pair_of pairs.now)) (F.told files.old)) (λ folder. []) false)
+    ensures performed { PerformedCommand (expectation (option_map (streams_outcome (map pair_of pairs.now)) (F.told files.old)) (λ folder. []) (λ folder. pair_inputs (map pair_of pairs.now)) false)
         (file_state (F.told files.old) (F.counts files.old)) (file_state (F.told files.new) (F.counts files.new)) result }
     ensures same { F.told files.new ≡ F.told files.old }
 {

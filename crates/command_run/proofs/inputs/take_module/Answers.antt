@@ -1,4 +1,8 @@
+use Rattle.command_run.specs.CountLaws.{counts_still}
 use Rattle.command_run.proofs.inputs.take_module.Goals as goal
 
 pub returns-clause-cause : goal.returns-clause-cause
 returns-clause-cause g c = c.read_module.ensures.cause (g.F.Files.counts c.args.files.now) (g.F.Files.counts c.take_file.new.files)
+
+pub returns-clause-counts : goal.returns-clause-counts
+returns-clause-counts g c = counts_still _ _ _ c.read_module.result c.read_module.ensures.still c.in_ok-bytes.ensures.counts

@@ -1,6 +1,7 @@
 use Rattle.std.proofs.Common.{Ok, Err, map, subst, sym}
 use Rattle.std.proofs.lemmas.Result.{err_from_is_err_and}
 use Rattle.command_run.specs.declared.refusal.WorkText.TheVariants as answered
+use Rattle.command_run.specs.AskedLaws.{asks_first_only, asks_no_more}
 use Rattle.command_run.specs.CountLaws.{counts_still}
 use Rattle.command_run.specs.FileLaws.{some_files_made}
 use Rattle.command_run.specs.OutcomeLaws.{refused_makes_whole, refused_tells}
@@ -115,3 +116,12 @@ returns-clause-least g c =
     let begun = c.in_ok-replayers.ensures.answer pairs told (subst (LoadsFiles pairs told) (sym c.deref.ensures.value) c.in_ok-all.ensures.answer) in
     let works = found_past c.args.process c.args.event pairs told c.deref-2.result.now c.in_ok-replayers.replayers.items (Ok c.in_ok-past.past) loaded begun c.in_ok-past.ensures.answer in
     work_cuts c.args.process c.args.event pairs told c.in_ok-past.past works c.in_ok-replayers.replayers.items begun c.in_ok-past.ensures.least
+
+pub returns-clause-asks : goal.returns-clause-asks
+returns-clause-asks g c = asks_first_only _ _ _ _ c.load_all.ensures.asks c.write_cuts.ensures.asked
+
+pub returns-clause-asks_all : goal.returns-clause-asks_all
+returns-clause-asks_all g c = asks_no_more _ (g.F.Files.counts c.args.files.now) (g.F.Files.counts c.load_all.new.files) (g.F.Files.counts c.write_cuts.new.files) c.in_ok-all.ensures.asks_all c.write_cuts.ensures.asked
+
+pub returns-in_err-write_cuts-clause-asks : goal.returns-in_err-write_cuts-clause-asks
+returns-in_err-write_cuts-clause-asks g c = asks_first_only _ _ _ _ c.load_all.ensures.asks c.write_cuts.ensures.asked

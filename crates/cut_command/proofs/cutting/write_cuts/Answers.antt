@@ -1,6 +1,7 @@
 use Rattle.std.proofs.Common.{◌∙◌, ap, map}
 use Rattle.std.proofs.lemmas.Result.{err_from_is_err_and}
 use Rattle.call_log.specs.Head.{Head}
+use Rattle.fri_outside.specs.Outside.{Counts}
 use Rattle.command_run.specs.CountLaws.{counts_same}
 use Rattle.command_run.specs.FileLaws.{failed_makes}
 use Rattle.cut_command.specs.inside.Meanings.{front_file}
@@ -27,4 +28,5 @@ loop-front-preserved g c =
     (ap (λ (h : Head). h.name) c.head.ensures) (c.deref.ensures.value ∙ c.in_ok-bytes.ensures) in (
       one_made (map front_file c.args.fronts.now) c.loop-front.front-index _ _ _ _ here c.loop-front.invariant.0 c.in_ok-write_file.ensures.ok,
       counts_same _ _ _ _ c.loop-front.invariant.1 c.in_ok-write_file.ensures.counted,
+      ap (λ (n : Counts). n.asked) c.in_ok-write_file.ensures.counted ∙ c.loop-front.invariant.2,
     )

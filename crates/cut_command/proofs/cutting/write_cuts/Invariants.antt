@@ -9,3 +9,4 @@ abbrev pub invariant-loop-front : goal.invariant-loop-front
 invariant-loop-front g l =
     (g.F.Files.told l.files ≡ with_files (take l.front-index (map front_file l.fronts)) (g.F.Files.told l.initial.files))
     × CountsFaults {T = ⊤} (g.F.Files.counts l.initial.files) (g.F.Files.counts l.files) (Ok tt)
+    × ((g.F.Files.counts l.files).asked ≡ (g.F.Files.counts l.initial.files).asked)

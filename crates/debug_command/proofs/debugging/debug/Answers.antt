@@ -14,7 +14,7 @@ returns-in-Err g c =
     let new : Outside = outside (g.F.Files.told c.load_all.new.files) (g.F.Files.counts c.load_all.new.files) (g.T.Sink.hearing c.finish.new.out) (g.T.Sink.taken c.finish.new.out) (g.T.Sink.faults c.finish.new.out) in
     run_unopened (debug_opener pairs) c.in-Err.refusal c.finish.result old new
     (c.finish.ensures _ _ _
-    (opening_performed (debug_opener pairs) c.in-Err.refusal old new c.in-Err.ensures.answer c.in-Err.ensures.cause (counts_of_part _ _ _ c.in-Err.ensures.counts) c.load_all.ensures.same))
+    (opening_performed (debug_opener pairs) c.in-Err.refusal old new c.in-Err.ensures.answer c.in-Err.ensures.cause (counts_of_part _ _ _ c.in-Err.ensures.counts) (λ folder told. c.load_all.ensures.asks) c.load_all.ensures.same))
 
 pub returns-in-Ok-begin_all : goal.returns-in-Ok-begin_all
 returns-in-Ok-begin_all g c =
@@ -22,7 +22,7 @@ returns-in-Ok-begin_all g c =
     let told = g.F.Files.told c.args.files.now in
     run_conversed (debug_opener pairs) c.in-Ok-begin_all.replayers.items c.debug_lines.result _ _
     (c.in-Ok-begin_all.ensures.answer pairs told (subst (λ (all : List Loaded). LoadsFiles pairs told all) (sym c.deref.ensures.value) c.in-Ok.ensures.answer))
-    c.debug_lines.ensures c.load_all.ensures.same (counts_none _ _ _ c.in-Ok.ensures.counts)
+    c.debug_lines.ensures c.load_all.ensures.same (counts_none _ _ _ c.in-Ok.ensures.counts) (λ folder told. c.in-Ok.ensures.asks_all)
 
 pub returns : goal.returns
 returns g c =
@@ -36,4 +36,5 @@ returns g c =
     (c.in-Err-begin_all.ensures.answer pairs told (subst (λ (all : List Loaded). LoadsFiles pairs told all) (sym c.deref.ensures.value) c.in-Ok.ensures.answer))
     (c.in-Err-begin_all.ensures.cause _ _)
     (counts_still _ _ _ _ c.in-Err-begin_all.ensures.still c.in-Ok.ensures.counts)
+    (λ folder told. c.load_all.ensures.asks)
     c.load_all.ensures.same))

@@ -1,8 +1,9 @@
-use Rattle.std.proofs.Common.{◌∙◌, List, Some, ap, false, map, option_map, sym, true}
+use Rattle.std.proofs.Common.{◌∙◌, ◌∷◌, List, [], Some, ap, false, map, option_map, refl, sym, true}
 use Rattle.command_run.specs.Run.{Outside, outside}
 use Rattle.log_pairs.specs.Meanings.{pair_of}
+use Rattle.log_pairs.specs.Pairs.{pair_inputs}
 use Rattle.log_pairs.specs.declared.pairs.Pair.{Pair}
-use Rattle.record_command.specs.Expected.{record_outcome}
+use Rattle.record_command.specs.Expected.{record_inputs, record_outcome}
 use Rattle.replay_command.specs.Report.{replay_outcome}
 use Rattle.cut_command.specs.Cut.{cut_outcome}
 use Rattle.migrate_command.specs.Migrate.{migrate_outcome}
@@ -19,7 +20,7 @@ returns-in-Ok-None g c =
     let old : Outside = outside told counts (g.T.Sink.hearing c.args.io.now) (g.T.Sink.taken c.args.io.now) (g.T.Sink.faults c.args.io.now) in
     let new : Outside = outside told counts (g.T.Sink.hearing c.refuse_words.new.out) (g.T.Sink.taken c.refuse_words.new.out) (g.T.Sink.faults c.refuse_words.new.out) in
     run_same (sym (ap (option_map command_meaning) c.in-Ok-None.field-0-is) ∙ c.in-Ok-None.ensures.names)
-    (run_none c.refuse_words.result old new (e.ends told counts) e.status e.read_fault e.heard)
+    (run_none c.refuse_words.result old new (e.ends told counts) e.status e.read_fault e.heard refl)
 
 pub returns-in-Ok-Some-Record : goal.returns-in-Ok-Some-Record
 returns-in-Ok-Some-Record g c =
@@ -27,7 +28,7 @@ returns-in-Ok-Some-Record g c =
     let arm = c.in-Ok-Some-Record in
     let old : Outside = outside (g.F.Files.told c.args.files.now) (g.F.Files.counts c.args.files.now) (g.T.Sink.hearing c.args.io.now) (g.T.Sink.taken c.args.io.now) (g.T.Sink.faults c.args.io.now) in
     let new : Outside = outside (g.F.Files.told c.record-ended.new.files) (g.F.Files.counts c.record-ended.new.files) (g.T.Sink.hearing c.finish.new.out) (g.T.Sink.taken c.finish.new.out) (g.T.Sink.faults c.finish.new.out) in
-    let finished = c.finish.ensures _ _ _ (performed (record_outcome arm.images arm.schedule_file.now) false old.told new.told old.counts new.counts c.record-ended.result e.tells e.makes e.keeps e.done e.counts e.cause) in
+    let finished = c.finish.ensures _ _ _ (performed (record_outcome arm.images arm.schedule_file.now) (record_inputs arm.schedule_file.now) false old.told new.told old.counts new.counts c.record-ended.result e.tells e.makes e.keeps e.done e.counts e.asks e.asks_all e.cause) in
     run_same (sym (ap (option_map command_meaning) (arm.field-0-is ∙ ap Some arm.field-0-0-is)) ∙ arm.ensures.names)
     (run_finished (Record arm.images arm.schedule_file.now) c.record-ended.result c.finish.result old new finished
     (record_promises c.recordings_agree.ensures c.left_is_shown.ensures arm.images arm.schedule_file.now c.record-ended.result c.finish.result old new finished e.moment))
@@ -39,7 +40,7 @@ returns-in-Ok-Some-Replay g c =
     let pairs = map pair_of c.deref.result.now in
     let old : Outside = outside (g.F.Files.told c.args.files.now) (g.F.Files.counts c.args.files.now) (g.T.Sink.hearing c.args.io.now) (g.T.Sink.taken c.args.io.now) (g.T.Sink.faults c.args.io.now) in
     let new : Outside = outside (g.F.Files.told c.replay-ended.new.files) (g.F.Files.counts c.replay-ended.new.files) (g.T.Sink.hearing c.finish-in-Ok-Some-Replay.new.out) (g.T.Sink.taken c.finish-in-Ok-Some-Replay.new.out) (g.T.Sink.faults c.finish-in-Ok-Some-Replay.new.out) in
-    let finished = c.finish-in-Ok-Some-Replay.ensures _ _ _ (performed_whole c.keeps_files.ensures (replay_outcome arm.images pairs) true old.told new.told old.counts new.counts c.replay-ended.result e.tells e.makes e.keeps (may_diverge c.replay-ended.result) e.counts e.cause) in
+    let finished = c.finish-in-Ok-Some-Replay.ensures _ _ _ (performed_whole c.keeps_files.ensures (replay_outcome arm.images pairs) (λ folder. pair_inputs pairs) true old.told new.told old.counts new.counts c.replay-ended.result e.tells e.makes e.keeps (may_diverge c.replay-ended.result) e.counts (λ folder told. e.asks) (λ folder told. e.asks_all) e.cause) in
     run_same (ap (λ (ps : List Pair). Some (Replay arm.images (map pair_of ps))) c.deref.ensures.value ∙ sym (ap (option_map command_meaning) (arm.field-0-is ∙ ap Some arm.field-0-0-is)) ∙ arm.ensures.names)
     (run_finished (Replay arm.images pairs) c.replay-ended.result c.finish-in-Ok-Some-Replay.result old new finished
     (whole_files (replay_outcome arm.images pairs) c.replay-ended.result c.finish-in-Ok-Some-Replay.result old new finished.input e.makes))
@@ -68,7 +69,7 @@ returns-in-Ok-Some-Migrate g c =
     let finish = c.finish-in-Ok-Some-Migrate in
     let old : Outside = outside (g.F.Files.told c.args.files.now) (g.F.Files.counts c.args.files.now) (g.T.Sink.hearing c.args.io.now) (g.T.Sink.taken c.args.io.now) (g.T.Sink.faults c.args.io.now) in
     let new : Outside = outside (g.F.Files.told c.migrate-ended.new.files) (g.F.Files.counts c.migrate-ended.new.files) (g.T.Sink.hearing finish.new.out) (g.T.Sink.taken finish.new.out) (g.T.Sink.faults finish.new.out) in
-    let finished = finish.ensures _ _ _ (performed_whole c.keeps_files.ensures (migrate_outcome arm.log_file.now arm.new_file.now) false old.told new.told old.counts new.counts c.migrate-ended.result e.tells e.makes e.keeps e.done e.counts e.cause) in
+    let finished = finish.ensures _ _ _ (performed_whole c.keeps_files.ensures (migrate_outcome arm.log_file.now arm.new_file.now) (λ folder. arm.log_file.now ∷ []) false old.told new.told old.counts new.counts c.migrate-ended.result e.tells e.makes e.keeps e.done e.counts (λ folder told. e.asks) (λ folder told. e.asks_all) e.cause) in
     run_same (sym (ap (option_map command_meaning) (arm.field-0-is ∙ ap Some arm.field-0-0-is)) ∙ arm.ensures.names)
     (run_finished (Migrate arm.log_file.now arm.new_file.now) c.migrate-ended.result finish.result old new finished
     (whole_files (migrate_outcome arm.log_file.now arm.new_file.now) c.migrate-ended.result finish.result old new finished.input e.makes))
@@ -96,7 +97,7 @@ returns-in-Ok-Some-Cut g c =
     let finish = c.finish-in-Ok-Some-Cut in
     let old : Outside = outside (g.F.Files.told c.args.files.now) (g.F.Files.counts c.args.files.now) (g.T.Sink.hearing c.args.io.now) (g.T.Sink.taken c.args.io.now) (g.T.Sink.faults c.args.io.now) in
     let new : Outside = outside (g.F.Files.told c.cut-ended.new.files) (g.F.Files.counts c.cut-ended.new.files) (g.T.Sink.hearing finish.new.out) (g.T.Sink.taken finish.new.out) (g.T.Sink.faults finish.new.out) in
-    let finished = finish.ensures _ _ _ (performed_whole c.keeps_files.ensures (cut_outcome arm.process arm.event pairs) false old.told new.told old.counts new.counts c.cut-ended.result e.tells e.makes e.keeps e.done e.counts e.cause) in
+    let finished = finish.ensures _ _ _ (performed_whole c.keeps_files.ensures (cut_outcome arm.process arm.event pairs) (λ folder. pair_inputs pairs) false old.told new.told old.counts new.counts c.cut-ended.result e.tells e.makes e.keeps e.done e.counts (λ folder told. e.asks) (λ folder told. e.asks_all) e.cause) in
     run_same (ap (λ (ps : List Pair). Some (Cut arm.process arm.event (map pair_of ps))) deref.ensures.value ∙ sym (ap (option_map command_meaning) (arm.field-0-is ∙ ap Some arm.field-0-0-is)) ∙ arm.ensures.names)
     (run_finished (Cut arm.process arm.event pairs) c.cut-ended.result finish.result old new finished
     (cut_promises arm.process arm.event pairs c.cut-ended.result finish.result old new finished e.makes e.least))

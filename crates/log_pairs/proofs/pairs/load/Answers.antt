@@ -1,9 +1,10 @@
-use Rattle.std.proofs.Common.{◌≡◌, ◌∙◌, ◌≤◌, None, Err, Ok, ap, arith, length, refl, rules, sym}
+use Rattle.std.proofs.Common.{◌≡◌, ◌∙◌, ◌∷◌, ◌≤◌, [], None, Err, Ok, ap, arith, length, refl, rules, sym}
 use Rattle.std.proofs.lemmas.Result.{err_from_is_err_and}
 use Rattle.wasm_types.specs.Modules.{module_of as shown}
 use Rattle.call_log.specs.Limits.{most_log}
 use Rattle.log_pairs.specs.Pairs.{clash_of_logs}
 use Rattle.log_pairs.specs.Meanings.{pair_of}
+use Rattle.command_run.specs.AskedLaws.{all_are_first, asks_before, asks_first_then, asks_then}
 use Rattle.command_run.specs.CountLaws.{counts_later, counts_none, counts_still}
 use Rattle.log_pairs.proofs.LoadedPairs.{is_loaded, pair_read, read_as}
 use Rattle.log_pairs.proofs.pairs.load.Goals as goal
@@ -47,3 +48,26 @@ returns-clause-fits g c ls are =
         ap (clash_of_logs ls) (sym c.head.ensures) ∙ sym (c.clash_of_logs.ensures.answer ls are) ∙ unclashed,
       ),
     )
+
+-- ---- the files that were asked for
+
+pub returns-in_err-module-clause-asks : goal.returns-in_err-module-clause-asks
+returns-in_err-module-clause-asks g c = asks_before _ (c.args.pair.log_file.now ∷ []) _ _ c.take.ensures.asks
+
+pub returns-in_err-log-clause-asks : goal.returns-in_err-log-clause-asks
+returns-in_err-log-clause-asks g c = asks_first_then _ _ (g.F.Files.counts c.args.files.now) (g.F.Files.counts c.take.new.files) (g.F.Files.counts c.take_log.new.files) c.in_ok-module.ensures.asks_all c.take_log.ensures.asks
+
+pub returns-in_err-begin_log-clause-asks : goal.returns-in_err-begin_log-clause-asks
+returns-in_err-begin_log-clause-asks g c = all_are_first _ _ _ (asks_then _ _ (g.F.Files.counts c.args.files.now) (g.F.Files.counts c.take.new.files) (g.F.Files.counts c.take_log.new.files) c.in_ok-module.ensures.asks_all c.in_ok-log.ensures.asks_all)
+
+pub returns-clause-asks : goal.returns-clause-asks
+returns-clause-asks g c = all_are_first _ _ _ (asks_then _ _ (g.F.Files.counts c.args.files.now) (g.F.Files.counts c.take.new.files) (g.F.Files.counts c.take_log.new.files) c.in_ok-module.ensures.asks_all c.in_ok-log.ensures.asks_all)
+
+pub returns-in-Some-clause-asks : goal.returns-in-Some-clause-asks
+returns-in-Some-clause-asks g c = all_are_first _ _ _ (asks_then _ _ (g.F.Files.counts c.args.files.now) (g.F.Files.counts c.take.new.files) (g.F.Files.counts c.take_log.new.files) c.in_ok-module.ensures.asks_all c.in_ok-log.ensures.asks_all)
+
+pub returns-in_err-name-clause-asks : goal.returns-in_err-name-clause-asks
+returns-in_err-name-clause-asks g c = all_are_first _ _ _ (asks_then _ _ (g.F.Files.counts c.args.files.now) (g.F.Files.counts c.take.new.files) (g.F.Files.counts c.take_log.new.files) c.in_ok-module.ensures.asks_all c.in_ok-log.ensures.asks_all)
+
+pub returns-clause-asks_all : goal.returns-clause-asks_all
+returns-clause-asks_all g c = asks_then _ _ (g.F.Files.counts c.args.files.now) (g.F.Files.counts c.take.new.files) (g.F.Files.counts c.take_log.new.files) c.in_ok-module.ensures.asks_all c.in_ok-log.ensures.asks_all

@@ -30,3 +30,6 @@ returns-clause-answer g c = λ new_name folder told.
 
 pub returns-clause-cause : goal.returns-clause-cause
 returns-clause-cause g c = c.renew.ensures.cause (g.F.Files.counts c.args.files.now) (g.F.Files.counts c.take_log.new.files)
+
+pub returns-clause-counts : goal.returns-clause-counts
+returns-clause-counts g c = counts_still _ _ _ c.renew.result c.renew.ensures.still c.in_ok-bytes.ensures.counts

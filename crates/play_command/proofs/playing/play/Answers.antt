@@ -22,7 +22,7 @@ returns-in-Err g c =
     run_unopened (play_opener name) c.in-Err.stop c.finish.result old new
     (c.finish.ensures _ _ _
     (opening_performed (play_opener name) c.in-Err.stop old new (λ folder told. gathering_stops name folder c.in-Err.stop (c.in-Err.ensures.answer folder told)) c.in-Err.ensures.cause
-    (counts_of_part _ _ _ c.in-Err.ensures.counts) c.gather.ensures.same))
+    (counts_of_part _ _ _ c.in-Err.ensures.counts) c.gather.ensures.asks c.gather.ensures.same))
 
 pub returns : goal.returns
 returns g c =
@@ -40,7 +40,7 @@ returns g c =
     (subst (λ (ms : List SharedModule). GathersFromFolder folder name schedule (map module_of ms)) (sym c.deref.ensures.value) (c.in-Ok.ensures.answer folder told)) c.in-Err-begin.ensures c.refusal_of-stop.ensures)
     (refusal_raises name schedule modules (first_states schedule modules) error stop old.counts new.counts c.in-Err-begin.ensures c.refusal_of-stop.ensures)
     (counts_still _ _ _ _ (refusal_still name schedule modules (first_states schedule modules) error stop c.in-Err-begin.ensures c.refusal_of-stop.ensures) c.in-Ok.ensures.counts)
-    c.gather.ensures.same))
+    c.gather.ensures.asks c.gather.ensures.same))
 
 pub returns-in-Ok-begin : goal.returns-in-Ok-begin
 returns-in-Ok-begin g c =
@@ -53,7 +53,7 @@ returns-in-Ok-begin g c =
     run_conversed (play_opener name) begun c.converse.result _ _
     (begins (g.F.Files.told c.args.files.now) name schedule modules o.0 (λ folder told. subst (λ (ms : List SharedModule). GathersFromFolder folder name schedule (map module_of ms)) (sym c.deref.ensures.value) (c.in-Ok.ensures.answer folder told)) o.1 o.2.room)
     (subst (λ (opening : List ℕ). Converses (talker_of opening begun play_answer) (terminal c.args.io.now) (terminal c.converse.new.io) c.converse.result) o.2.text_is (c.converse.ensures begun o.2.stands))
-    c.gather.ensures.same (counts_none _ _ _ c.in-Ok.ensures.counts)
+    c.gather.ensures.same (counts_none _ _ _ c.in-Ok.ensures.counts) c.in-Ok.ensures.asks_all
 
 pub refusal_of-stop-requires : goal.refusal_of-stop-requires
 refusal_of-stop-requires g c =

@@ -4,6 +4,7 @@ use Rattle.wasm_types.specs.Modules.{module_of as shown}
 use Rattle.record_command.specs.Expected.{record_outcome}
 use Rattle.record_command.specs.Gathering.{GathersFromFolder}
 use Rattle.record_command.proofs.GatheredOutcome.{group_makes, group_tells, inputs_stop, kept_stops}
+use Rattle.command_run.specs.AskedLaws.{asks_first_only, asks_no_more, on_any}
 use Rattle.command_run.specs.CountLaws.{counts_still}
 use Rattle.command_run.specs.OutcomeLaws.{refused_makes, refused_tells}
 use Rattle.record_command.proofs.FolderRecordings.{moment_before, moment_then}
@@ -62,3 +63,9 @@ pub returns-clause-moment : goal.returns-clause-moment
 returns-clause-moment g c =
     moment_then (g.F.Files.told c.args.files.now) (g.F.Files.told c.gather.new.files) (g.F.Files.told c.record_group.new.files) c.args.images c.args.schedule_file.now c.in_ok-inputs.inputs.schedule (map shown c.deref.result.now)
     (λ folder told. subst (λ (ms : List _). GathersFromFolder folder c.args.schedule_file.now c.in_ok-inputs.inputs.schedule (map shown ms)) (sym c.deref.ensures.value) (c.in_ok-inputs.ensures.answer folder told)) c.gather.ensures.same c.record_group.ensures.stopped
+
+pub returns-clause-asks : goal.returns-clause-asks
+returns-clause-asks g c = λ folder told. asks_first_only _ _ _ _ (c.gather.ensures.asks folder told) c.record_group.ensures.asked
+
+pub returns-clause-asks_all : goal.returns-clause-asks_all
+returns-clause-asks_all g c = λ folder told. on_any c.record_group.result (asks_no_more _ (g.F.Files.counts c.args.files.now) (g.F.Files.counts c.gather.new.files) (g.F.Files.counts c.record_group.new.files) (c.in_ok-inputs.ensures.asks_all folder told) c.record_group.ensures.asked)

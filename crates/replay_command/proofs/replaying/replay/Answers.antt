@@ -1,6 +1,7 @@
 use Rattle.std.proofs.Common.{List, Ok, Err, map, subst, sym}
 use Rattle.std.proofs.lemmas.Result.{err_from_is_err_and}
 use Rattle.command_run.specs.declared.refusal.StopCause.TheVariants as refusal
+use Rattle.command_run.specs.AskedLaws.{asks_first_only, asks_no_more}
 use Rattle.command_run.specs.CountLaws.{counts_still}
 use Rattle.command_run.specs.FileLaws.{all_first_made, some_files_made}
 use Rattle.command_run.specs.OutcomeLaws.{refused_makes_whole, refused_tells}
@@ -106,3 +107,18 @@ returns-clause-makes g c =
     (can_work c.args.images (map pair_of c.args.pairs.now) (g.F.Files.told c.args.files.now) c.deref-2.result.now c.in_ok-replayers.replayers.items c.deref-2.ensures.value
     (c.in_ok-replayers.ensures.answer (map pair_of c.args.pairs.now) (g.F.Files.told c.args.files.now) (subst (λ (all : List Loaded). LoadsFiles (map pair_of c.args.pairs.now) (g.F.Files.told c.args.files.now) all) (sym c.deref.ensures.value) c.in_ok-all.ensures.answer)) c.in_ok-keep_pairs.ensures.answer)
     (images_made c.args.images _ _ _ _ _ c.deref-3.ensures.value c.load_all.ensures.same c.in_ok-write_asked.ensures.made)
+
+pub returns-clause-asks : goal.returns-clause-asks
+returns-clause-asks g c = asks_first_only _ _ _ _ c.load_all.ensures.asks c.write_asked.ensures.asked
+
+pub returns-clause-asks_all : goal.returns-clause-asks_all
+returns-clause-asks_all g c = asks_no_more _ (g.F.Files.counts c.args.files.now) (g.F.Files.counts c.load_all.new.files) (g.F.Files.counts c.write_asked.new.files) c.in_ok-all.ensures.asks_all c.write_asked.ensures.asked
+
+pub returns-in_err-write_asked-clause-asks : goal.returns-in_err-write_asked-clause-asks
+returns-in_err-write_asked-clause-asks g c = asks_first_only _ _ _ _ c.load_all.ensures.asks c.write_asked.ensures.asked
+
+pub returns-in_err-report-clause-asks : goal.returns-in_err-report-clause-asks
+returns-in_err-report-clause-asks g c = asks_first_only _ _ _ _ c.load_all.ensures.asks c.write_asked.ensures.asked
+
+pub returns-in_err-print_report-clause-asks : goal.returns-in_err-print_report-clause-asks
+returns-in_err-print_report-clause-asks g c = asks_first_only _ _ _ _ c.load_all.ensures.asks c.write_asked.ensures.asked

@@ -1,8 +1,9 @@
-use Rattle.std.proofs.Common.{◌<◌, length, arith}
+use Rattle.std.proofs.Common.{◌∙◌, ◌<◌, ap, length, arith}
 use Rattle.std.proofs.lemmas.Result.{err_from_is_err_and}
 use Rattle.call_log.specs.Head.{head_of}
 use Rattle.command_run.specs.FileLaws.{failed_makes}
 use Rattle.replay_command.proofs.ReplayImages.{first_made, node_fresh, node_named, one_made, own_files, part_made}
+use Rattle.fri_outside.specs.Outside.{Counts}
 use Rattle.command_run.specs.CountLaws.{counts_same}
 use Rattle.replay_command.proofs.replaying.write_images.Goals as goal
 
@@ -36,4 +37,5 @@ loop-replayer-preserved g c =
     let own = own_files c.args.replayers.now c.loop-replayer.replayer-index c.replayer-item.result (head_of c.head.result) c.as_slice.result.now c.as_slice-in-loop-replayer.result.now c.in_ok-image.image within c.replayer-item.is c.head.ensures c.in_ok-image.ensures c.as_slice.ensures c.as_slice-in-loop-replayer.ensures in (
       one_made c.args.replayers.now c.loop-replayer.replayer-index _ _ _ _ own c.loop-replayer.invariant.0 c.in_ok-write_image.ensures.ok,
       counts_same _ _ _ _ c.loop-replayer.invariant.1 c.in_ok-write_image.ensures.counted,
+      ap (λ (n : Counts). n.asked) c.in_ok-write_image.ensures.counted ∙ c.loop-replayer.invariant.2,
     )

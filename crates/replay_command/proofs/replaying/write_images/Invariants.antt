@@ -9,3 +9,4 @@ abbrev pub invariant-loop-replayer : goal.invariant-loop-replayer
 invariant-loop-replayer g l =
     (g.F.Files.told l.files ≡ with_files (images_in (take l.replayer-index l.replayers)) (g.F.Files.told l.initial.files))
     × CountsFaults {T = ⊤} (g.F.Files.counts l.initial.files) (g.F.Files.counts l.files) (Ok tt)
+    × ((g.F.Files.counts l.files).asked ≡ (g.F.Files.counts l.initial.files).asked)

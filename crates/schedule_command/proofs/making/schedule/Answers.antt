@@ -1,5 +1,6 @@
 use Rattle.std.proofs.Common.{◌≡◌, ◌∙◌, List, Err, map, subst, sym}
 use Rattle.std.proofs.lemmas.Result.{err_from_is_err_and}
+use Rattle.command_run.specs.AskedLaws.{on_any}
 use Rattle.command_run.specs.CountLaws.{counts_of_part, counts_still}
 use Rattle.log_pairs.specs.declared.pairs.Loaded.{Loaded}
 use Rattle.log_pairs.specs.Meanings.{AreLoadedPairs, LoadsFiles, pair_of}
@@ -14,7 +15,7 @@ returns-in_err-all-clause-performed g c =
     let told = g.F.Files.told c.args.files.now in
     rw (p.1, p.2)
     (performed pairs told (g.F.Files.told c.load_all.new.files) (g.F.Files.counts c.args.files.now) (g.F.Files.counts c.load_all.new.files) (Err c.in_err-all.field-0.0)
-    (not_read pairs told c.in_err-all.field-0.0 c.in_err-all.ensures.answer) c.load_all.ensures.same tt (counts_of_part _ _ c.in_err-all.field-0.0 c.in_err-all.ensures.counts) c.in_err-all.ensures.cause)
+    (not_read pairs told c.in_err-all.field-0.0 c.in_err-all.ensures.answer) c.load_all.ensures.same tt (counts_of_part _ _ c.in_err-all.field-0.0 c.in_err-all.ensures.counts) c.load_all.ensures.asks tt c.in_err-all.ensures.cause)
 
 pub returns-in_err-replayers-clause-performed : goal.returns-in_err-replayers-clause-performed
 returns-in_err-replayers-clause-performed g c =
@@ -25,7 +26,7 @@ returns-in_err-replayers-clause-performed g c =
     rw (p.1, p.2)
     (performed pairs told (g.F.Files.told c.load_all.new.files) (g.F.Files.counts c.args.files.now) (g.F.Files.counts c.load_all.new.files) (Err c.in_err-replayers.field-0.0)
     (not_read pairs told c.in_err-replayers.field-0.0 (c.in_err-replayers.ensures.answer pairs told loaded)) c.load_all.ensures.same tt
-    (counts_still _ _ _ (Err c.in_err-replayers.field-0.0) c.in_err-replayers.ensures.still c.in_ok-all.ensures.counts)
+    (counts_still _ _ _ (Err c.in_err-replayers.field-0.0) c.in_err-replayers.ensures.still c.in_ok-all.ensures.counts) c.load_all.ensures.asks tt
     (c.in_err-replayers.ensures.cause (g.F.Files.counts c.args.files.now) (g.F.Files.counts c.load_all.new.files)))
 
 pub returns-clause-performed : goal.returns-clause-performed
@@ -40,7 +41,7 @@ returns-clause-performed g c =
     (was_made pairs told c.deref-2.result.now c.in_ok-replayers.replayers.items c.make.result (subst (LoadsFiles pairs told) (sym same) loaded) (c.in_ok-replayers.ensures.answer pairs told loaded) c.make.ensures.answer)
     c.load_all.ensures.same
     (not_diverged pairs c.deref-2.result.now c.in_ok-replayers.replayers.items c.make.result some.0 are (c.make.ensures.answer some.0 are))
-    (counts_still _ _ _ c.make.result c.make.ensures.still c.in_ok-all.ensures.counts)
+    (counts_still _ _ _ c.make.result c.make.ensures.still c.in_ok-all.ensures.counts) c.load_all.ensures.asks (on_any c.make.result c.in_ok-all.ensures.asks_all)
     (c.make.ensures.cause (g.F.Files.counts c.args.files.now) (g.F.Files.counts c.load_all.new.files))
 
 pub returns-clause-converse : goal.returns-clause-converse
