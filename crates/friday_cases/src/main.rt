@@ -19,6 +19,7 @@
 //! | `fail input N`, `fail output N` | lets the read or the write of this number fail, of those that the next command makes |
 //! | `run WORDS` | makes the call with these words |
 //! | `both WORDS ; WORDS` | makes the call with the first words, and if its work is done the one with the second, by `record_and_show` |
+//! | `stop N WORDS` | makes the call with these words, of whose calls on the files the first N come through and no other, by `friday_stopped` |
 //! | `sum WORDS` | makes the call with these words, and tells the SHA-256 of what it prints |
 //! | `cuts NAME A B WORDS` | makes the call for each N from A to B, with the first N bytes of a file in its place |
 //! | `turns NAME A B WORDS` | makes the call for each N from A to B, with all bits turned in the byte at N of a file |

@@ -55,6 +55,10 @@ pub enum Order<'a> {
         first: &'a str,
         second: &'a str,
     },
+    Stop {
+        calls: usize,
+        words: &'a str,
+    },
     Sum(&'a str),
     Each {
         change: Change,
@@ -126,6 +130,14 @@ fn both(rest: &str) -> anyhow::Result<Order<'_>> {
     Ok(Order::Both { first, second })
 }
 
+fn stop(rest: &str) -> anyhow::Result<Order<'_>> {
+    let (calls, words) = split_word(rest);
+    Ok(Order::Stop {
+        calls: number(calls)?,
+        words,
+    })
+}
+
 fn input(rest: &str) -> anyhow::Result<Order<'_>> {
     let (piece, pieces) = split_word(rest);
     Ok(Order::Input {
@@ -149,6 +161,7 @@ pub fn read_order(line: &str) -> anyhow::Result<Order<'_>> {
         "fail" => fail(rest),
         "run" => Ok(Order::Run(rest)),
         "both" => both(rest),
+        "stop" => stop(rest),
         "sum" => Ok(Order::Sum(rest)),
         "cuts" => each(Change::Cut, rest),
         "turns" => each(Change::Turn(0xff), rest),

@@ -5,10 +5,11 @@ use crate::order::{Change, Order, Side, read_order};
 use crate::outcome::Outcome;
 use anyhow::{Context, ensure};
 use fri_outside::{MemFiles, MemSink, MemSource, MemTerminal};
-use friday_app::{friday, record_and_show};
+use friday_app::{friday, friday_stopped, record_and_show};
 use sha2::{Digest, Sha256};
 use std::alloc::{AllocError, Global};
 use std::fmt::Write;
+use std::mem;
 
 /// The most bytes of a file that are shown.
 const MOST_SHOWN: usize = 512;
@@ -60,6 +61,7 @@ impl Session {
             Order::Fail { side, call } => self.fail(side, call),
             Order::Run(words) => self.run(words),
             Order::Both { first, second } => self.both(first, second),
+            Order::Stop { calls, words } => self.stop(calls, words),
             Order::Sum(words) => self.sum(words),
             Order::Each {
                 change,
@@ -167,6 +169,13 @@ impl Session {
         Ok(format!(in self.alloc; "both {first} ; {second}: {by}{told}")?)
     }
 
+    // Makes the call, of whose calls on the files only so many come through.
+    fn stop(&mut self, calls: usize, words: &str) -> anyhow::Result<String> {
+        let outcome = self.call_stopped(calls, words)?;
+        let told = outcome.tell(self.alloc)?;
+        Ok(format!(in self.alloc; "stop {calls} {words}: {told}")?)
+    }
+
     // Makes the call, and tells the length and the SHA-256 of what it prints.
     fn sum(&mut self, words: &str) -> anyhow::Result<String> {
         let outcome = self.call(words)?;
@@ -221,6 +230,22 @@ impl Session {
             Ok(status) | Err(status) => status,
         };
         Ok((ended.is_ok(), Outcome { status, printed }))
+    }
+
+    fn call_stopped(&mut self, calls: usize, words: &str) -> Result<Outcome, AllocError> {
+        let words = split_words(self.alloc, words)?;
+        let mut terminal = self.terminal()?;
+        let files = mem::replace(&mut self.files, MemFiles::new(self.alloc));
+        let (files, status) = friday_stopped(
+            self.alloc,
+            &words,
+            calls as u64,
+            files,
+            &mut terminal,
+        );
+        self.files = files;
+        let printed = Vec::from_slice(self.alloc, terminal.bytes())?;
+        Ok(Outcome { status, printed })
     }
 
     // Makes the call with these bytes as those of a file, and tells its outcome in a line.

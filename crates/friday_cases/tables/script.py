@@ -111,6 +111,12 @@ class Script:
         self.told.append("both %s ; %s: %s" % (first, second, ended))
         self.told += ["    " + line for line in printed]
 
+    def stop(self, calls, words, status, *printed):
+        """A run of which so many calls on the files come through, by friday_stopped, and what it prints."""
+        self.lines.append("stop %d %s" % (calls, words))
+        self.told.append("stop %d %s: %s" % (calls, words, status))
+        self.told += ["    " + line for line in printed]
+
     def sum(self, words, status, printed):
         """A run of which the length and the SHA-256 of these bytes are told, and not the lines."""
         self.lines.append("sum " + words)

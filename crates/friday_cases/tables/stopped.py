@@ -1,7 +1,7 @@
-"""Recordings that are stopped at each of their calls on files, and what stands of them, replayed and debugged."""
+"""Recordings that are stopped at each of their calls on files, by a fault or a kill, and what stands of them, replayed and debugged."""
 
 from common import refused
-from groups import NAMES, TURNS, group, head, shown
+from groups import NAMES, SUMMARY, TURNS, group, head, shown
 from pairs import ping_and_pong, replays, report, words
 from sessions import PLACES, session
 
@@ -39,6 +39,13 @@ def heads_at(call):
     if call < HEADS:
         return [b"" if MAKES + p < call else None for p in (0, 1)]
     return [head(p) if HEADS + p < call else half(head(p)) if HEADS + p == call else b"" for p in (0, 1)]
+
+
+def killed_at(call):
+    """What the files of the logs hold if the program is killed before this call."""
+    if call < EVENTS:
+        return [head(p) if HEADS + p < call else b"" if MAKES + p < call else None for p in (0, 1)]
+    return [log.cut(count, 0).spelled() for log, count in zip(ping_and_pong(), counts_at(call))]
 
 
 def places(given):
@@ -110,6 +117,15 @@ def each_call(script):
             replayed(script, some)
 
 
+def each_kill(script):
+    """A program is killed between two calls: what it leaves is what a recording has after the first of them."""
+    for calls in range(CALLS):
+        group(script, "ping and pong, killed after %d calls" % calls)
+        ended = ("ReadFault" if calls < READS else "WriteFault",) if calls + 1 < CALLS else ("Done", *SUMMARY)
+        script.stop(calls, "record s", *ended)
+        shown(script, *killed_at(calls + 1))
+
+
 def known_sizes():
     """The sizes and the report where call 12 fails, as they follow from the lengths of heads and entries."""
     given = entries_at(12)
@@ -126,3 +142,4 @@ def table(script):
     known_sizes()
     script.title("Recordings that are stopped")
     each_call(script)
+    each_kill(script)
