@@ -61,9 +61,12 @@ each_of P [] name all (k, below, at) = absurd (omega (arith, below))
 each_of P (first ∷ names) name all (zero, below, at) = subst P at all.0
 each_of P (first ∷ names) name all (suc k, below, at) = each_of P names name all.1 (k, omega (arith, below), at)
 
+none_there : (name : List ℕ) → Contains [] name → ⊥
+none_there name (k, below, at) = omega (arith, below)
+
 pub images_apart : (images : Bool) (run : RecordedRun) (sorted : List ℕ) (schedule : Schedule) → IsWellFormed schedule → (ps : List ℕ) → AllByRecursion (λ p. p < length schedule.processes) ps
     → AreApart (names_of_pairs (pairs_of_processes schedule ps)) (map (λ file. file.0) (if images then recorded_images run sorted else []))
-images_apart false run sorted schedule formed ps below = λ name here there. absurd (omega (arith, there.1.0))
+images_apart false run sorted schedule formed ps below = λ name here there. absurd (none_there name there)
 images_apart true run sorted schedule formed ps below = λ name here there.
     each_of NoImage (names_of_pairs (pairs_of_processes schedule ps)) name (no_images schedule formed ps below) here
     (each_of IsImage (map (λ file. file.0) (recorded_images run sorted)) name (are_images run sorted) there)
