@@ -5,8 +5,8 @@
 //! refuses a name that was read (`specs/Apart`). It comes to a `WorkText` or a `StopCause`; `finish` prints that and gives
 //! the `Status` (`FinishedCommand` of `specs/Run`). Contracts see a command's outcome (`specs/Outcome`: its work, or the
 //! stop at which it ends) as far as the folder tells its files, and say of a call's end what `CallEnds` says.
-//! `specs/OutcomeLaws`, `ApartLaws`, `FileLaws`, `LineLaws` and `CountLaws` are what follows from these definitions by
-//! computing, for the proofs of the commands.
+//! `specs/OutcomeLaws`, `ApartLaws`, `FileLaws`, `LineLaws`, `CountLaws` and `AskedLaws` are what follows from these
+//! definitions by computing, for the proofs of the commands. `specs/Asked` is about the names that a call asks the files for.
 //!
 //! A command's outcome is one definition of its crate (`record_outcome`, `replay_outcome`, `debug_outcome`), over the files
 //! and the input: the work (`CommandWork`: the text, the files that it writes, whether a log diverged) or the stop

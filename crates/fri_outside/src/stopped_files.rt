@@ -1,5 +1,5 @@
 // Files on which only the first calls are made.
-ghost use Rattle.std.specs.Prelude.{◌≡◌};
+ghost use Rattle.std.specs.Prelude.{◌≡◌, ◌<◌, ◌-◌, ◌↔◌, IsTrue};
 
 use crate::fault_counts::FaultCounts;
 use crate::{FileError, Files, WriteError};
@@ -41,6 +41,8 @@ impl<F: Files + Drop> StoppedFiles<F> {
 
     // Whether one more call is made.
     fn count_call(&mut self) -> bool
+        ensures goes_on { IsTrue result ↔ 0 < self.old.calls }
+        ensures counted { self.new.calls ≡ self.old.calls - 1 }
         ensures files { self.new.files ≡ self.old.files }
         ensures faults { self.new.faults ≡ self.old.faults }
     {
