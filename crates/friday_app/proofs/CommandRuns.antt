@@ -11,7 +11,7 @@ use Rattle.command_run.specs.declared.status.Status.TheVariants as ends
 use Rattle.command_run.specs.declared.refusal.WorkText.{WorkText}
 use Rattle.command_run.specs.declared.refusal.WorkText.TheVariants as answered
 use Rattle.command_run.specs.declared.refusal.StopCause.{StopCause}
-use Rattle.command_run.specs.Asked.{AsksAll, AsksFirst, AsksInputs}
+use Rattle.command_run.specs.Asked.{AsksAll, AsksFirst}
 use Rattle.command_run.specs.AskedLaws.{all_are_first, asks_none, begins_asking}
 use Rattle.command_run.specs.Call.{CountsFaults, DivergesOnlyIf, IsAnswerStatus, KeepsFolder, MakesWholeFiles, MakesWorkFiles, RaisesCount, TellsOutcome}
 use Rattle.command_run.specs.FileLaws.{whole_first, whole_makes}
@@ -34,7 +34,6 @@ use Rattle.play_command.specs.Laws.{PlayedIsRecorded}
 use Rattle.play_command.specs.Run.{PlayRun}
 use Rattle.friday_app.specs.Command.{Command, Cut, Debug, Drill, Migrate, Play, Record, Replay, Schedule, Streams}
 use Rattle.friday_app.specs.Expected.{expected}
-use Rattle.friday_app.specs.Inputs.{inputs_of}
 use Rattle.friday_app.specs.Promises.{Promises}
 use Rattle.friday_app.specs.Run.{CommandRun}
 
@@ -86,27 +85,13 @@ may_diverge (Ok (answered.Done text)) = tt
 may_diverge (Ok (answered.Diverged text)) = refl
 may_diverge (Err e) = tt
 
--- the files that are expected to be read are the command's inputs
-expected_inputs : (command : Command) (old new : Outside) (answer : Status)
-    → WhenTold old.told (λ folder. AsksInputs ((expected (Some command) old.told old.hearing.left).inputs folder) old.counts new.counts answer)
-    → WhenTold old.told (λ folder. AsksInputs (inputs_of (Some command) folder) old.counts new.counts answer)
-expected_inputs (Record images name) old new answer asks = asks
-expected_inputs (Replay images pairs) old new answer asks = asks
-expected_inputs (Debug pairs) old new answer asks = asks
-expected_inputs (Drill rounds) old new answer asks = asks
-expected_inputs (Migrate log_name new_name) old new answer asks = asks
-expected_inputs (Schedule pairs) old new answer asks = asks
-expected_inputs (Cut process event pairs) old new answer asks = asks
-expected_inputs (Streams pairs) old new answer asks = asks
-expected_inputs (Play name) old new answer asks = asks
-
 -- its run, with what it promises of its own
 pub run_finished : (command : Command) (ended : Result WorkText StopCause) (answer : Status) (old new : Outside) → FinishedCommand (expected (Some command) old.told old.hearing.left) ended old new answer
     → Promises (Some command) old new answer → CommandRun (Some command) old new answer
 run_finished command ended answer old new f promised = record {
   call = f.call;
   usage = record { only = λ is. absurd (f.is_command is); always = λ none h. cc };
-  asks = expected_inputs command old new answer f.asks;
+  asks = f.asks;
   diverged = f.diverged;
   promises = promised;
 }

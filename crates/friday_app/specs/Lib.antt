@@ -1,5 +1,4 @@
 pub mod Command
-pub mod Inputs
 pub mod Expected
 pub mod Promises
 pub mod Run

@@ -10,7 +10,6 @@ use Rattle.command_run.specs.Outcome.{CommandWork, outcome_status}
 use Rattle.command_run.specs.Run.{CallEnds, NoFault, Outside}
 use Rattle.friday_app.specs.Command.{Command}
 use Rattle.friday_app.specs.Expected.{expected}
-use Rattle.friday_app.specs.Inputs.{inputs_of}
 use Rattle.friday_app.specs.Promises.{Promises}
 use Rattle.friday_app.specs.Valid.{IsValidCall}
 
@@ -25,7 +24,7 @@ pub record CommandRun (command : Option Command) (old new : Outside) (answer : S
   pub call : CallEnds (expected command old.told old.hearing.left).outcome (expected command old.told old.hearing.left).written old new answer
   pub usage : IsExactUsage command answer
   -- the files that were asked for are the first of its inputs, in their order, and all of them if its work was done
-  pub asks : WhenTold old.told (λ folder. AsksInputs (inputs_of command folder) old.counts new.counts answer)
+  pub asks : WhenTold old.told (λ folder. AsksInputs ((expected command old.told old.hearing.left).inputs folder) old.counts new.counts answer)
   pub diverged : answer ≡ ends.Diverged → IsTrue (expected command old.told old.hearing.left).may_diverge
   pub promises : Promises command old new answer
 

@@ -9,8 +9,8 @@
 //! (`specs/inside/Meanings`).
 //!
 //! `expected` gives of each command the outcome, as far as files and input are told, the files that it may write, those that
-//! it reads (`specs/Inputs`), and whether it may tell that a log diverged. `CommandRun` is what all commands share (`CallEnds` of command_run) with the
-//! record of this one (`Promises`), and is the one clause of `friday` apart from `complete`.
+//! it reads, and whether it may tell that a log diverged. `CommandRun` is what all commands share (`CallEnds` of
+//! command_run) with the record of this one (`Promises`), and is the one clause of `friday` apart from `complete`.
 //!
 //! The commands use command_run, which also reads logs; log_pairs, if they replay them; and conversation, if they
 //! read their input line by line. They do not use each other, except that schedule_command cites definitions of

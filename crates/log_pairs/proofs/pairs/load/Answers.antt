@@ -54,20 +54,17 @@ returns-clause-fits g c ls are =
 pub returns-in_err-module-clause-asks : goal.returns-in_err-module-clause-asks
 returns-in_err-module-clause-asks g c = asks_before _ (c.args.pair.log_file.now ∷ []) _ _ c.take.ensures.asks
 
-pub returns-in_err-log-clause-asks : goal.returns-in_err-log-clause-asks
-returns-in_err-log-clause-asks g c = asks_first_then _ _ (g.F.Files.counts c.args.files.now) (g.F.Files.counts c.take.new.files) (g.F.Files.counts c.take_log.new.files) c.in_ok-module.ensures.asks_all c.take_log.ensures.asks
+pub returns-in_err-bytes-clause-asks : goal.returns-in_err-bytes-clause-asks
+returns-in_err-bytes-clause-asks g c = asks_first_then _ _ (g.F.Files.counts c.args.files.now) (g.F.Files.counts c.take.new.files) (g.F.Files.counts c.take_log.new.files) c.in_ok-module.ensures.asks_all c.take_log.ensures.asks
 
-pub returns-in_err-begin_log-clause-asks : goal.returns-in_err-begin_log-clause-asks
-returns-in_err-begin_log-clause-asks g c = all_are_first _ _ _ (asks_then _ _ (g.F.Files.counts c.args.files.now) (g.F.Files.counts c.take.new.files) (g.F.Files.counts c.take_log.new.files) c.in_ok-module.ensures.asks_all c.in_ok-log.ensures.asks_all)
+pub returns-in_err-log-clause-asks : goal.returns-in_err-log-clause-asks
+returns-in_err-log-clause-asks g c = all_are_first _ _ _ (asks_then _ _ (g.F.Files.counts c.args.files.now) (g.F.Files.counts c.take.new.files) (g.F.Files.counts c.take_log.new.files) c.in_ok-module.ensures.asks_all c.in_ok-bytes.ensures.asks_all)
 
 pub returns-clause-asks : goal.returns-clause-asks
-returns-clause-asks g c = all_are_first _ _ _ (asks_then _ _ (g.F.Files.counts c.args.files.now) (g.F.Files.counts c.take.new.files) (g.F.Files.counts c.take_log.new.files) c.in_ok-module.ensures.asks_all c.in_ok-log.ensures.asks_all)
+returns-clause-asks g c = all_are_first _ _ _ (asks_then _ _ (g.F.Files.counts c.args.files.now) (g.F.Files.counts c.take.new.files) (g.F.Files.counts c.take_log.new.files) c.in_ok-module.ensures.asks_all c.in_ok-bytes.ensures.asks_all)
 
 pub returns-in-Some-clause-asks : goal.returns-in-Some-clause-asks
-returns-in-Some-clause-asks g c = all_are_first _ _ _ (asks_then _ _ (g.F.Files.counts c.args.files.now) (g.F.Files.counts c.take.new.files) (g.F.Files.counts c.take_log.new.files) c.in_ok-module.ensures.asks_all c.in_ok-log.ensures.asks_all)
-
-pub returns-in_err-name-clause-asks : goal.returns-in_err-name-clause-asks
-returns-in_err-name-clause-asks g c = all_are_first _ _ _ (asks_then _ _ (g.F.Files.counts c.args.files.now) (g.F.Files.counts c.take.new.files) (g.F.Files.counts c.take_log.new.files) c.in_ok-module.ensures.asks_all c.in_ok-log.ensures.asks_all)
+returns-in-Some-clause-asks g c = all_are_first _ _ _ (asks_then _ _ (g.F.Files.counts c.args.files.now) (g.F.Files.counts c.take.new.files) (g.F.Files.counts c.take_log.new.files) c.in_ok-module.ensures.asks_all c.in_ok-bytes.ensures.asks_all)
 
 pub returns-clause-asks_all : goal.returns-clause-asks_all
-returns-clause-asks_all g c = asks_then _ _ (g.F.Files.counts c.args.files.now) (g.F.Files.counts c.take.new.files) (g.F.Files.counts c.take_log.new.files) c.in_ok-module.ensures.asks_all c.in_ok-log.ensures.asks_all
+returns-clause-asks_all g c = asks_then _ _ (g.F.Files.counts c.args.files.now) (g.F.Files.counts c.take.new.files) (g.F.Files.counts c.take_log.new.files) c.in_ok-module.ensures.asks_all c.in_ok-bytes.ensures.asks_all
