@@ -34,7 +34,7 @@ returns g c =
     (c.finish-in-Err-begin_all.ensures _ _ _
     (opening_performed (debug_opener pairs) c.in-Err-begin_all.refusal old new
     (c.in-Err-begin_all.ensures.answer pairs told (subst (λ (all : List Loaded). LoadsFiles pairs told all) (sym c.deref.ensures.value) c.in-Ok.ensures.answer))
-    (c.in-Err-begin_all.ensures.cause _ _)
+    (c.in-Err-begin_all.ensures.cause (g.F.Files.counts c.args.files.now) (g.F.Files.counts c.load_all.new.files))
     (counts_still _ _ _ _ c.in-Err-begin_all.ensures.still c.in-Ok.ensures.counts)
     (λ folder told. c.load_all.ensures.asks)
     c.load_all.ensures.same))
