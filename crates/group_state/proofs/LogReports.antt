@@ -1,5 +1,5 @@
 -- What is said of all logs, log after log.
-use Rattle.std.proofs.Common.{◌≡◌, ℕ, suc, ◌<◌, ◌^◌, Bool, true, false, if◌then◌else◌, List, [], ◌∷◌, ◌++◌, length, map, append_assoc, append-nil, length-append, refl, sym, ap, subst, ◌∙◌, arith}
+use Rattle.std.proofs.Common.{◌≡◌, ℕ, suc, ◌+◌, ◌<◌, ◌^◌, Bool, true, false, if◌then◌else◌, List, [], ◌∷◌, ◌++◌, length, map, append_assoc, length-append, refl, sym, ap, subst, ◌∙◌, arith}
 use Rattle.std.specs.List.{All}
 use Rattle.std.proofs.lemmas.List.{length-map}
 use Rattle.std.proofs.lemmas.List.Elements.{All-head, All-tail, recursion_from_All}
@@ -10,10 +10,14 @@ use Rattle.proc_replay.specs.Course.{entries_ahead}
 use Rattle.proc_replay.specs.Replaying.{Replaying}
 use Rattle.group_order.specs.Order.{NodeEvent, events_from, insert_event, node_event, event_precedes, sort_events}
 use Rattle.group_order.specs.Sends.{FindsOneMoreSend}
+use Rattle.std.specs.Vec.Iter.{into_iter_len}
+use Rattle.group_state.specs.declared.report.ReportCourse.{ReportCourse}
 use Rattle.group_state.specs.declared.report.ReportLine.{ReportLine}
+use Rattle.group_state.specs.declared.tally.GroupCounts.{GroupCounts}
 use Rattle.group_state.specs.Place.{AreGroupReplays, ReplaysFit, entry_clock, events_of_replays, group_count}
-use Rattle.group_state.specs.Report.{accepted_in, all_accepted_events, report_line}
-use Rattle.group_state.specs.Tally.{AcceptedEvent, tally_of_events}
+use Rattle.group_state.specs.Report.{Reporting, accepted_in, all_accepted_events, report_line, reporting}
+use Rattle.group_state.specs.inside.Reporting.{IsReportCourse, left_of, reporting_of_course}
+use Rattle.group_state.specs.Tally.{AcceptedEvent}
 use Rattle.group_state.specs.inside.Tallying.{AreNewEvents, HasTallyRoomFor, GroupTallying, counts_of, nothing_tallied, with_all_accepted}
 use Rattle.group_state.proofs.EventCounts.{all_new, first_counted, first_new, first_room, has_room}
 use Rattle.group_state.proofs.TallyCounts.{counted}
@@ -52,65 +56,78 @@ as_many start = length_sort (events_from 0 (map entries_ahead start)) ∙ length
 
 -- ---- log after log
 
--- the tally and the lines of all logs but these, the last of all
-pub record Reports (start rest : List Replaying) (t : GroupTallying) (lines : List ReportLine) : Type 0 where
-  pub tallied : with_all_accepted t (all_accepted_events rest) ≡ with_all_accepted (nothing_tallied (group_count start)) (all_accepted_events start)
-  pub new : AreNewEvents t (all_accepted_events rest)
-  pub room : HasTallyRoomFor t (all_accepted_events rest)
-  pub told : lines ++ map report_line rest ≡ map report_line start
-  pub fresh : All (λ r. r.state.events ≡ 0) rest
+all_new_at_first : FindsOneMoreSend → Rises → IsKeptByEvents → (start : List Replaying) → AreGroupReplays start → ReplaysFit start → AreNewEvents (nothing_tallied (group_count start)) (all_accepted_events start)
+all_new_at_first finds rises kept start replayers fits = all_new finds rises kept (group_count start) start replayers.ascends (recursion_from_All (λ r. StateFits r.state) start fits)
 
-replayers_new : FindsOneMoreSend → Rises → IsKeptByEvents → (start : List Replaying) → AreGroupReplays start → ReplaysFit start → AreNewEvents (nothing_tallied (group_count start)) (all_accepted_events start)
-replayers_new finds rises kept start replayers fits = all_new finds rises kept (group_count start) start replayers.ascends (recursion_from_All (λ r. StateFits r.state) start fits)
+same_reporting : (rs ss : List Replaying) (ls ms : List ReportLine) (n m : GroupCounts) → rs ≡ ss → ls ≡ ms → n ≡ m
+    → ◌≡◌ {A = Reporting} (record { left = rs; lines = ls; counts = n }) (record { left = ss; lines = ms; counts = m })
+same_reporting rs ss ls ms n m p q r = rw (p, q, r) refl
 
-pub reports_first : FindsOneMoreSend → Rises → IsKeptByEvents → (start : List Replaying) → AreGroupReplays start → ReplaysFit start → length (events_of_replays start) < 2 ^ 64 → Reports start start (nothing_tallied (group_count start)) []
-reports_first finds rises kept start replayers fits few =
-    let many = as_many start in record {
-      tallied = refl;
-      new = replayers_new finds rises kept start replayers fits;
-      room = has_room (all_accepted_events start) (nothing_tallied (group_count start)) (omega (arith, many, few)) (omega (arith, many, few));
-      told = refl;
-      fresh = replayers.fresh;
+-- none was replayed yet
+pub record IsBegun (start : List Replaying) (c : ReportCourse) : Type 0 where
+  pub left : left_of c ≡ start
+  pub len : into_iter_len c.left ≡ length (left_of c)
+  pub tally : c.tally ≡ nothing_tallied (group_count start)
+  pub lines : c.lines.items ≡ []
+
+pub course_begun : FindsOneMoreSend → Rises → IsKeptByEvents → (start : List Replaying) (c : ReportCourse) → IsBegun start c → AreGroupReplays start → ReplaysFit start → length (events_of_replays start) < 2 ^ 64 → IsReportCourse c
+course_begun finds rises kept start c begun replayers fits few =
+    let many = as_many start in
+    let t : GroupTallying = nothing_tallied (group_count start) in
+    let room : HasTallyRoomFor t (all_accepted_events start) = has_room (all_accepted_events start) t (omega (arith, many, few)) (omega (arith, many, few)) in record {
+      len = begun.len;
+      new = subst (λ (t : GroupTallying). AreNewEvents t (all_accepted_events (left_of c))) (sym begun.tally)
+          (subst (λ (rs : List Replaying). AreNewEvents t (all_accepted_events rs)) (sym begun.left) (all_new_at_first finds rises kept start replayers fits));
+      room = subst (λ (t : GroupTallying). HasTallyRoomFor t (all_accepted_events (left_of c))) (sym begun.tally)
+          (subst (λ (rs : List Replaying). HasTallyRoomFor t (all_accepted_events rs)) (sym begun.left) room);
+      fresh = subst (All (λ r. r.state.events ≡ 0)) (sym begun.left) replayers.fresh;
     }
 
-pub reports_begin : FindsOneMoreSend → Rises → IsKeptByEvents → (start first items : List Replaying) (count : ℕ) (t : GroupTallying) (lines : List ReportLine) → first ≡ start → items ≡ first → count ≡ group_count first
-    → t ≡ nothing_tallied count → lines ≡ [] → AreGroupReplays first → ReplaysFit first → length (events_of_replays first) < 2 ^ 64 → Reports start items t lines
-reports_begin finds rises kept start first items count t lines is_start is_items is_count is_t is_lines replayers fits few =
-    let begun = reports_first finds rises kept first replayers fits few in
-    subst (λ (s : List Replaying). Reports s items t lines) is_start
-    (subst (λ (rs : List Replaying). Reports first rs t lines) (sym is_items)
-    (subst (λ (n : GroupTallying). Reports first first n lines) (sym (is_t ∙ ap nothing_tallied is_count))
-    (subst (Reports first first (nothing_tallied (group_count first))) (sym is_lines) begun)))
+pub reporting_begun : FindsOneMoreSend → Rises → IsKeptByEvents → (start : List Replaying) (c : ReportCourse) → IsBegun start c → AreGroupReplays start → ReplaysFit start → reporting_of_course c ≡ reporting start
+reporting_begun finds rises kept start c begun replayers fits =
+    same_reporting _ _ _ _ _ _ begun.left
+    (ap (λ (ls : List ReportLine). ls ++ map report_line (left_of c)) begun.lines ∙ ap (map report_line) begun.left)
+    (ap (λ (t : GroupTallying). counts_of (with_all_accepted t (all_accepted_events (left_of c)))) begun.tally
+    ∙ ap (λ (rs : List Replaying). counts_of (with_all_accepted (nothing_tallied (group_count start)) (all_accepted_events rs))) begun.left
+    ∙ counted finds (group_count start) (all_accepted_events start) (all_new_at_first finds rises kept start replayers fits))
 
--- the next log can be counted
-pub next_fresh : (start rest : List Replaying) (r : Replaying) (t : GroupTallying) (lines : List ReportLine) → Reports start (r ∷ rest) t lines → r.state.events ≡ 0
-next_fresh start rest r t lines k = All-head (λ r. r.state.events ≡ 0) r rest k.fresh
+-- the next log is r's
+module _ (c : ReportCourse) (r : Replaying) (rest : List Replaying) (k : IsReportCourse c) (next : left_of c ≡ r ∷ rest) where
+  news : AreNewEvents c.tally (all_accepted_events (r ∷ rest))
+  news = subst (λ (rs : List Replaying). AreNewEvents c.tally (all_accepted_events rs)) next k.new
 
-pub next_new : (start rest : List Replaying) (r : Replaying) (t : GroupTallying) (lines : List ReportLine) → Reports start (r ∷ rest) t lines → AreNewEvents t (accepted_in r)
-next_new start rest r t lines k = (first_new (accepted_in r) (all_accepted_events rest) t k.new).0
+  rooms : HasTallyRoomFor c.tally (all_accepted_events (r ∷ rest))
+  rooms = subst (λ (rs : List Replaying). HasTallyRoomFor c.tally (all_accepted_events rs)) next k.room
 
-pub next_room : (start rest : List Replaying) (r : Replaying) (t : GroupTallying) (lines : List ReportLine) → Reports start (r ∷ rest) t lines → HasTallyRoomFor t (accepted_in r)
-next_room start rest r t lines k = (first_room (accepted_in r) (all_accepted_events rest) t k.room).0
+  pub next_fresh : r.state.events ≡ 0
+  next_fresh = All-head (λ r. r.state.events ≡ 0) r rest (subst (All (λ r. r.state.events ≡ 0)) next k.fresh)
 
--- and then it is
-pub reports_more : (start rest : List Replaying) (r : Replaying) (t new : GroupTallying) (lines : List ReportLine) (line : ReportLine) → Reports start (r ∷ rest) t lines
-    → new ≡ with_all_accepted t (accepted_in r) → line ≡ report_line r → Reports start rest new (lines ++ line ∷ [])
-reports_more start rest r t new lines line k counts said =
-    subst (λ (n : GroupTallying). Reports start rest n (lines ++ line ∷ [])) (sym counts) (record {
-      tallied = sym (first_counted (accepted_in r) (all_accepted_events rest) t) ∙ k.tallied;
-      new = (first_new (accepted_in r) (all_accepted_events rest) t k.new).1;
-      room = (first_room (accepted_in r) (all_accepted_events rest) t k.room).1;
-      told = append_assoc lines (line ∷ []) (map report_line rest) ∙ ap (λ (l : ReportLine). lines ++ l ∷ map report_line rest) said ∙ k.told;
-      fresh = All-tail (λ r. r.state.events ≡ 0) r rest k.fresh;
-    })
+  pub next_new : AreNewEvents c.tally (accepted_in r)
+  next_new = (first_new (accepted_in r) (all_accepted_events rest) c.tally news).0
 
--- at the end all logs are counted
-pub all_counted : FindsOneMoreSend → Rises → IsKeptByEvents → (start first items : List Replaying) (t : GroupTallying) (lines : List ReportLine) → first ≡ start → items ≡ [] → AreGroupReplays first → ReplaysFit first
-    → Reports start items t lines → counts_of t ≡ tally_of_events (group_count start) (all_accepted_events start)
-all_counted finds rises kept start first items t lines is_start none replayers fits k =
-    let counts : counts_of (with_all_accepted (nothing_tallied (group_count start)) (all_accepted_events start)) ≡ tally_of_events (group_count start) (all_accepted_events start) =
-    counted finds (group_count start) (all_accepted_events start) (subst (λ (s : List Replaying). AreNewEvents (nothing_tallied (group_count s)) (all_accepted_events s)) is_start (replayers_new finds rises kept first replayers fits)) in
-    ap counts_of (ap (λ (rs : List Replaying). with_all_accepted t (all_accepted_events rs)) (sym none) ∙ k.tallied) ∙ counts
+  pub next_room : HasTallyRoomFor c.tally (accepted_in r)
+  next_room = (first_room (accepted_in r) (all_accepted_events rest) c.tally rooms).0
 
-pub all_lines : (start items : List Replaying) (t : GroupTallying) (lines : List ReportLine) → items ≡ [] → Reports start items t lines → lines ≡ map report_line start
-all_lines start items t lines none k = sym (append-nil lines) ∙ ap (λ (rs : List Replaying). lines ++ map report_line rs) (sym none) ∙ k.told
+-- and then it was replayed
+module _ (c new : ReportCourse) (r : Replaying) (k : IsReportCourse c) (next : left_of c ≡ r ∷ left_of new) (tallied : new.tally ≡ with_all_accepted c.tally (accepted_in r)) where
+  pub course_more : into_iter_len new.left + 1 ≡ into_iter_len c.left → IsReportCourse new
+  course_more len = record {
+    len = omega (arith, len, k.len, ap length next);
+    new = subst (λ (t : GroupTallying). AreNewEvents t (all_accepted_events (left_of new))) (sym tallied)
+        (first_new (accepted_in r) (all_accepted_events (left_of new)) c.tally (news c r (left_of new) k next)).1;
+    room = subst (λ (t : GroupTallying). HasTallyRoomFor t (all_accepted_events (left_of new))) (sym tallied)
+        (first_room (accepted_in r) (all_accepted_events (left_of new)) c.tally (rooms c r (left_of new) k next)).1;
+    fresh = All-tail (λ r. r.state.events ≡ 0) r (left_of new) (subst (All (λ r. r.state.events ≡ 0)) next k.fresh);
+  }
+
+  pub reporting_more : (line : ReportLine) → new.lines.items ≡ c.lines.items ++ line ∷ [] → line ≡ report_line r
+      → reporting_of_course c ≡ record (reporting_of_course new) { left = r ∷ left_of new }
+  reporting_more line pushed said =
+      let rest = left_of new in
+      same_reporting _ _ _ _ _ _ next
+      (ap (λ (rs : List Replaying). c.lines.items ++ map report_line rs) next
+      ∙ ap (λ (l : ReportLine). c.lines.items ++ l ∷ map report_line rest) (sym said)
+      ∙ sym (append_assoc c.lines.items (line ∷ []) (map report_line rest))
+      ∙ ap (λ (ls : List ReportLine). ls ++ map report_line rest) (sym pushed))
+      (ap (λ (rs : List Replaying). counts_of (with_all_accepted c.tally (all_accepted_events rs))) next
+      ∙ ap counts_of (first_counted (accepted_in r) (all_accepted_events rest) c.tally ∙ ap (λ (t : GroupTallying). with_all_accepted t (all_accepted_events rest)) (sym tallied)))

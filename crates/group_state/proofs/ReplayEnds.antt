@@ -61,9 +61,8 @@ image_so turns first last memory printed fresh ends is_memory is_printed =
     same_image : (a b c d : List ℕ) → a ≡ b → c ≡ d → ◌≡◌ {A = Image} (record { memory = a; printed = c }) (record { memory = b; printed = d })
     same_image a b c d p q = rw (p, q) refl
 
--- a copy of the first replay was followed to its end
-pub image_at : AreTurns → (first copy last : Replaying) (before memory printed : List ℕ) → first.state.events ≡ 0 → copy ≡ first → EndsAtReplay copy last → memory ≡ last.state.store.memory.bytes
-    → before ≡ [] → printed ≡ before ++ prints (entries_ahead copy) → ◌≡◌ {A = Image} (record { memory = memory; printed = printed }) (image_of first)
-image_at turns first copy last before memory printed fresh copied ends is_memory empty is_printed =
-    image_so turns copy last memory printed (ap (λ (r : Replaying). r.state.events) copied ∙ fresh) ends is_memory (is_printed ∙ ap (λ (bs : List ℕ). bs ++ prints (entries_ahead copy)) empty)
-    ∙ ap image_of copied
+-- what its events print came after no bytes
+pub image_at : AreTurns → (first last : Replaying) (before memory printed : List ℕ) → first.state.events ≡ 0 → EndsAtReplay first last → memory ≡ last.state.store.memory.bytes
+    → before ≡ [] → printed ≡ before ++ prints (entries_ahead first) → ◌≡◌ {A = Image} (record { memory = memory; printed = printed }) (image_of first)
+image_at turns first last before memory printed fresh ends is_memory empty is_printed =
+    image_so turns first last memory printed fresh ends is_memory (is_printed ∙ ap (λ (bs : List ℕ). bs ++ prints (entries_ahead first)) empty)

@@ -1,5 +1,5 @@
 -- The turns of one replay, to the end of its log.
-use Rattle.std.proofs.Common.{◌≡◌, ℕ, List, ◌∷◌, ◌++◌, append_assoc, append-nil, refl, sym, ap, subst, ◌∙◌, Option, Some, None}
+use Rattle.std.proofs.Common.{◌≡◌, ℕ, Bool, true, false, List, [], ◌∷◌, ◌++◌, append_assoc, append-nil, refl, sym, ap, subst, ◌∙◌, Option, Some, None}
 use Rattle.lib_calls.specs.declared.entry.Entry.{Entry}
 use Rattle.lib_calls.specs.Traffic.{printed, prints}
 use Rattle.call_log.specs.Head.{Head}
@@ -9,7 +9,7 @@ use Rattle.guest_process.specs.Legal.{reason}
 use Rattle.guest_process.specs.declared.verdict.Verdict.{Verdict}
 use Rattle.proc_replay.specs.Course.{AreTurns, TellsVerdict, entries_ahead, outcome_of_replay}
 use Rattle.proc_replay.specs.Replaying.{Makes, Replaying, after_replay_turn, after_at, moved, turn}
-use Rattle.group_state.specs.inside.Turns.{EndsAtReplay}
+use Rattle.group_state.specs.inside.Turns.{EndsAtReplay, kept_after}
 use Rattle.group_state.specs.Report.{accepted_in}
 use Rattle.group_state.specs.Tally.{AcceptedEvent, of_process}
 use Rattle.group_state.specs.inside.Tallying.{AreNewEvents, HasTallyRoom, HasTallyRoomFor, IsNewSend, GroupTallying, with_accepted, with_all_accepted}
@@ -94,22 +94,29 @@ tallies_all turns p t0 t first r v k tells =
 
 -- ---- what the events print
 
+kept_twice : (images : Bool) (a b c : List ℕ) → kept_after images (kept_after images a b) c ≡ kept_after images a (b ++ c)
+kept_twice false a b c = refl
+kept_twice true a b c = append_assoc a b c
+
+kept_nothing : (images : Bool) (a : List ℕ) → kept_after images a [] ≡ a
+kept_nothing false a = refl
+kept_nothing true a = append-nil a
+
 -- the bytes at r, of a replay that began at `first` with the bytes `before`
-pub record Prints (before now : List ℕ) (first r : Replaying) : Type 0 where
-  pub follows : Follows first r
-  pub printed : now ++ prints (entries_ahead r) ≡ before ++ prints (entries_ahead first)
+pub record Prints (images : Bool) (before now : List ℕ) (first r : Replaying) : Type 0 where
+  pub printed : kept_after images now (prints (entries_ahead r)) ≡ kept_after images before (prints (entries_ahead first))
 
-pub prints_first : (before : List ℕ) (first : Replaying) → Prints before before first first
-prints_first before first = record { follows = follows_first first; printed = refl }
+pub prints_first : (images : Bool) (before : List ℕ) (first : Replaying) → Prints images before before first first
+prints_first images before first = record { printed = refl }
 
-pub prints_more : AreTurns → (before now new : List ℕ) (first r more : Replaying) (e : Entry) → Prints before now first r → turn r ≡ Makes e
-    → more ≡ after_replay_turn r → new ≡ now ++ printed e → Prints before new first more
-prints_more turns before now new first r more e k makes moves is =
-    subst (λ (m : Replaying). Prints before new first m) (sym moves) (subst (λ (n : List ℕ). Prints before n first (after_replay_turn r)) (sym is) (record {
-      follows = follows_more turns first r (after_replay_turn r) k.follows refl;
-      printed = append_assoc now (printed e) (prints (entries_ahead (after_replay_turn r))) ∙ ap (λ (es : List Entry). now ++ prints es) (sym ((turns r).makes e makes)) ∙ k.printed;
+pub prints_more : AreTurns → (images : Bool) (before now new : List ℕ) (first r more : Replaying) (e : Entry) → Prints images before now first r → turn r ≡ Makes e
+    → more ≡ after_replay_turn r → new ≡ kept_after images now (printed e) → Prints images before new first more
+prints_more turns images before now new first r more e k makes moves is =
+    subst (λ (m : Replaying). Prints images before new first m) (sym moves) (subst (λ (n : List ℕ). Prints images before n first (after_replay_turn r)) (sym is) (record {
+      printed = kept_twice images now (printed e) (prints (entries_ahead (after_replay_turn r))) ∙ ap (λ (es : List Entry). kept_after images now (prints es)) (sym ((turns r).makes e makes)) ∙ k.printed;
     }))
 
-pub prints_all : AreTurns → (before now : List ℕ) (first r : Replaying) (v : Verdict) → Prints before now first r → TellsVerdict (turn r) r.left.bytes v → now ≡ before ++ prints (entries_ahead first)
-prints_all turns before now first r v k tells =
-    sym (append-nil now) ∙ ap (λ (es : List Entry). now ++ prints es) (sym ((turns r).none v tells)) ∙ k.printed
+pub prints_all : AreTurns → (images : Bool) (before now : List ℕ) (first r : Replaying) (v : Verdict) → Prints images before now first r → TellsVerdict (turn r) r.left.bytes v
+    → now ≡ kept_after images before (prints (entries_ahead first))
+prints_all turns images before now first r v k tells =
+    sym (kept_nothing images now) ∙ ap (λ (es : List Entry). kept_after images now (prints es)) (sym ((turns r).none v tells)) ∙ k.printed

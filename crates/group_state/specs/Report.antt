@@ -37,7 +37,17 @@ all_accepted_events start = flat_map accepted_in start
 abbrev pub counts_in : Report → GroupCounts
 counts_in report = record { sends = report.sends; receives = report.receives; unmatched = report.unmatched; untagged = report.untagged }
 
+-- A report that is made log after log: the replays of the logs that are left, and the lines and counts of all logs.
+pub record Reporting : Type 0 where
+  pub left : List Replaying
+  pub lines : List ReportLine
+  pub counts : GroupCounts
+
 -- a line for each log, and the counts of all accepted events
-pub record IsReport (start : List Replaying) (report : Report) : Type 0 where
-  pub lines : report.lines.items ≡ map report_line start
-  pub counts : counts_in report ≡ tally_of_events (group_count start) (all_accepted_events start)
+abbrev pub reporting : List Replaying → Reporting
+reporting start = record { left = start; lines = map report_line start; counts = tally_of_events (group_count start) (all_accepted_events start) }
+
+-- the report says that
+pub record IsReport (made : Reporting) (report : Report) : Type 0 where
+  pub lines : report.lines.items ≡ made.lines
+  pub counts : counts_in report ≡ made.counts

@@ -4,3 +4,4 @@ pub mod Motions
 pub mod Stands
 pub mod Tallying
 pub mod Turns
+pub mod Reporting

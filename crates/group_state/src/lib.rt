@@ -4,7 +4,7 @@
 //! Contracts see a `Group` as the replays at position 0 and a position (`specs/Place`), so that no answer depends on how the
 //! group came there. `forward` and `goto` move it (`specs/Moves`), and the calls that show it give what its states say; as a
 //! `View` of `watch_expr` and a `TouchView` of `page_watch` it shows its nodes (`specs/Nodes`), and the last position at which
-//! an event touched each place (`specs/Touch`). `report` says what came of each log and counts datagrams (`specs/Report`,
+//! an event touched each place (`specs/Touch`). A `Reporter` says what came of each log and counts datagrams (`specs/Report`,
 //! `specs/Tally`). The laws `ordered` and `stepwise` say that sends come before receives in the order, and what one event
 //! changes.
 //!
@@ -25,11 +25,11 @@
 //! replay keeps what its next turn gives, so that the clock which the order asks for costs nothing: each entry is read and
 //! judged once. The positions at which nodes had their events are inside too (`specs/inside/Motions`).
 //!
-//! A report (`report_of`) and an image (`image_of`) are of the replays before their first events, and need no order and no
-//! group, which would copy each process to go back to. The report takes the replays and follows log after log to its end,
-//! so that no log's verdict depends on another. It counts sends and receives in a `Tally`, which finds sends by `SendIndex`
-//! of group_order (`specs/Tally` says what is counted, `specs/inside/Tallying` how a tally grows). An image follows a copy
-//! of one replay.
+//! A report (`Reporter`) is of the replays before their first events, and needs no order and no group, which would copy
+//! each process to go back to. It follows log after log to its end, so that no log's verdict depends on another. With the end
+//! of a log at hand it gives the image of what the process leaves, so that each log is replayed once, and one image is kept at
+//! a time. It counts sends and receives in a `Tally`, which finds sends by `SendIndex` of group_order (`specs/Tally` says what
+//! is counted, `specs/inside/Tallying` how a tally grows).
 #![tactic(auto)]
 
 mod checkpoints;
@@ -49,7 +49,7 @@ mod work;
 
 pub use event::GroupEvent;
 pub use group::Group;
-pub use image::{Image, image_of};
-pub use report::{Report, ReportLine, report_of};
+pub use image::Image;
+pub use report::{Report, ReportLine, Reporter};
 pub use view::signed_global;
 pub use work::Work;

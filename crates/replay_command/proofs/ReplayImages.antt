@@ -1,7 +1,7 @@
 -- The images that a replay makes, one process after the other.
-use Rattle.std.proofs.Common.{◌≡◌, ◌∙◌, ◌+◌, ◌<◌, ◌++◌, ℕ, zero, suc, List, [], ◌∷◌, length, get_or, take, drop, slice_get, true, Option, Some, refl, ap, subst, sym, arith}
+use Rattle.std.proofs.Common.{◌≡◌, ◌∙◌, ◌++◌, ℕ, List, [], ◌∷◌, true, Option, refl, ap, append_assoc, append-nil, subst, sym}
 use Rattle.std.specs.Prelude.{All}
-use Rattle.std.proofs.lemmas.Option.{same_Some, slice_get_read}
+use Rattle.std.proofs.lemmas.List.Elements.{All-head, All-tail}
 use Rattle.fri_outside.specs.Outside.{Folder}
 use Rattle.fri_outside.specs.Several.{AreFirstMade, with_files}
 use Rattle.call_log.specs.Head.{Head, IsHead}
@@ -10,83 +10,90 @@ use Rattle.process_files.specs.FirstLaws.{first_after, first_of_more}
 use Rattle.process_files.specs.Images.{image_files}
 use Rattle.proc_replay.specs.Replaying.{Replaying}
 use Rattle.group_state.specs.declared.image.Image.{Image}
+use Rattle.group_state.specs.declared.report.Report.{Report}
 use Rattle.group_state.specs.Image.{image_of, memory_of_image, print_of_image}
+use Rattle.group_state.specs.Report.{IsReport, Reporting, reporting}
 use Rattle.command_run.specs.FileLaws.{all_first_made, with_more_files}
 use Rattle.replay_command.specs.Report.{images_in}
+use Rattle.replay_command.specs.inside.Reporting.{SaysSame}
 
 -- the two files of a process
 abbrev pub files_of : Replaying → List (List ℕ × List ℕ)
 files_of r = image_files r.head.name (memory_of_image r) (print_of_image r)
 
--- ---- the log of a node
-
--- its replay has had no event
-pub node_fresh : (start : List Replaying) (node : ℕ) (r : Replaying) → All (λ r. r.state.events ≡ 0) start → node < length start → r ≡ get_or start node r → r.state.events ≡ 0
-node_fresh start node r fresh within read = subst (λ (r : Replaying). r.state.events ≡ 0) (sym read) (fresh node r within)
-
--- the name of its process is one
-pub node_named : (start : List Replaying) (node : ℕ) (r : Replaying) (head : Head) → All (λ r. IsHead r.head) start → node < length start → r ≡ get_or start node r → head ≡ r.head → is_name head.name ≡ true
-node_named start node r head heads within read is =
-    ap (λ (h : Head). is_name h.name) is ∙ (subst (λ (r : Replaying). IsHead r.head) (sym read) (heads node r within)).named
-
 -- the files that are made of it are its own
-pub record AreOwn (start : List Replaying) (node : ℕ) (files : List (List ℕ × List ℕ)) : Type 0 where
-  pub replay : Replaying
-  pub is : slice_get start node ≡ Some replay
-  pub own : files ≡ files_of replay
+pub own_files : (r : Replaying) (head : Head) (memory printed : List ℕ) (image : Image) → head ≡ r.head → image ≡ image_of r → memory ≡ image.memory → printed ≡ image.printed → image_files head.name memory printed ≡ files_of r
+own_files r head memory printed image headed leaves has prints =
+    ap (λ (h : Head). image_files h.name memory printed) headed
+    ∙ ap (λ (memory : List ℕ). image_files r.head.name memory printed) (has ∙ ap (λ (i : Image). i.memory) leaves)
+    ∙ ap (λ (printed : List ℕ). image_files r.head.name (memory_of_image r) printed) (prints ∙ ap (λ (i : Image). i.printed) leaves)
 
-pub own_files : (start : List Replaying) (node : ℕ) (r : Replaying) (head : Head) (memory printed : List ℕ) (image : Image) → node < length start → r ≡ get_or start node r → head ≡ r.head → image ≡ image_of r
-    → memory ≡ image.memory → printed ≡ image.printed → AreOwn start node (image_files head.name memory printed)
-own_files start node r head memory printed image within read headed leaves has prints = record {
-  replay = r;
-  is = slice_get_read start (length start) node r refl within read;
-  own = ap (λ (h : Head). image_files h.name memory printed) headed
-      ∙ ap (λ (memory : List ℕ). image_files r.head.name memory printed) (has ∙ ap (λ (i : Image). i.memory) leaves)
-      ∙ ap (λ (printed : List ℕ). image_files r.head.name (memory_of_image r) printed) (prints ∙ ap (λ (i : Image). i.printed) leaves);
+images_in_both : (rs ss : List Replaying) → images_in (rs ++ ss) ≡ images_in rs ++ images_in ss
+images_in_both [] ss = refl
+images_in_both (r ∷ rs) ss = ap (λ (files : List (List ℕ × List ℕ)). files_of r ++ files) (images_in_both rs ss) ∙ sym (append_assoc (files_of r) (images_in rs) (images_in ss))
+
+-- the images of all replays but these, the last of all, are made, and what is said of all is the same
+pub record AreMade (begun : Reporting) (before : Option Folder) (at : Reporting) (now : Option Folder) : Type 0 where
+  pub first : List Replaying
+  pub all_are : begun.left ≡ first ++ at.left
+  pub made : now ≡ with_files (images_in first) before
+  pub heads : All (λ r. IsHead r.head) at.left
+  pub same : SaysSame begun at
+
+pub none_made : (begun : Reporting) (before : Option Folder) → All (λ r. IsHead r.head) begun.left → AreMade begun before begun before
+none_made begun before heads = record { first = []; all_are = refl; made = refl; heads = heads; same = record { lines = refl; counts = refl } }
+
+-- one more was replayed
+module _ (begun old new : Reporting) (before mid : Option Folder) (r : Replaying) (k : AreMade begun before old mid) (next : old ≡ record new { left = r ∷ new.left }) where
+  left_is : old.left ≡ r ∷ new.left
+  left_is = ap (λ (o : Reporting). o.left) next
+
+  heads_were : All (λ r. IsHead r.head) (r ∷ new.left)
+  heads_were = subst (All (λ r. IsHead r.head)) left_is k.heads
+
+  pub named : (head : Head) → head ≡ r.head → is_name head.name ≡ true
+  named head is = ap (λ (h : Head). is_name h.name) is ∙ (All-head (λ r. IsHead r.head) r new.left heads_were).named
+
+  -- and its files were made
+  pub one_made : (files : List (List ℕ × List ℕ)) (after : Option Folder) → files ≡ files_of r → after ≡ with_files files mid → AreMade begun before new after
+  one_made files after own made = record {
+    first = k.first ++ r ∷ [];
+    all_are = k.all_are ∙ ap (λ (rs : List Replaying). k.first ++ rs) left_is ∙ sym (append_assoc k.first (r ∷ []) new.left);
+    made = made ∙ ap (λ (f : List (List ℕ × List ℕ)). with_files f mid) own ∙ ap (with_files (files_of r)) k.made ∙ sym (with_more_files (images_in k.first) (files_of r) before)
+        ∙ ap (λ (f : List (List ℕ × List ℕ)). with_files (images_in k.first ++ f) before) (sym (append-nil (files_of r)))
+        ∙ ap (λ (f : List (List ℕ × List ℕ)). with_files f before) (sym (images_in_both k.first (r ∷ [])));
+    heads = All-tail (λ r. IsHead r.head) r new.left heads_were;
+    same = record {
+      lines = sym (ap (λ (o : Reporting). o.lines) next) ∙ k.same.lines;
+      counts = sym (ap (λ (o : Reporting). o.counts) next) ∙ k.same.counts;
+    };
+  }
+
+  -- or the first of them
+  pub part_made : (files : List (List ℕ × List ℕ)) (after : Option Folder) → files ≡ files_of r → AreFirstMade files mid after → AreFirstMade (images_in begun.left) before after
+  part_made files after own made =
+      let mine = subst (λ (f : List (List ℕ × List ℕ)). AreFirstMade f mid after) own made in
+      subst (λ (f : List (List ℕ × List ℕ)). AreFirstMade f before after) (sym (ap images_in (k.all_are ∙ ap (λ (rs : List Replaying). k.first ++ rs) left_is) ∙ images_in_both k.first (r ∷ new.left)))
+      (first_after (images_in k.first) (files_of r ++ images_in new.left) before mid after k.made
+      (first_of_more (files_of r) (images_in new.left) mid after mine))
+
+-- those of the first processes alone
+pub first_made : (begun at : Reporting) (before mid : Option Folder) → AreMade begun before at mid → AreFirstMade (images_in begun.left) before mid
+first_made begun at before mid k =
+    subst (λ (f : List (List ℕ × List ℕ)). AreFirstMade f before mid) (sym (ap images_in k.all_are ∙ images_in_both k.first at.left))
+    (first_of_more (images_in k.first) (images_in at.left) before mid (all_first_made (images_in k.first) before mid k.made))
+
+-- no log is left
+pub all_made : (begun at : Reporting) (before now : Option Folder) → AreMade begun before at now → at.left ≡ [] → now ≡ with_files (images_in begun.left) before
+all_made begun at before now k none =
+    k.made ∙ ap (λ (rs : List Replaying). with_files (images_in rs) before) (sym (k.all_are ∙ ap (λ (rs : List Replaying). k.first ++ rs) none ∙ append-nil k.first))
+
+pub all_same : (begun at new : Reporting) (before now : Option Folder) → AreMade begun before at now → new ≡ at → SaysSame begun new
+all_same begun at new before now k is = subst (SaysSame begun) (sym is) k.same
+
+-- the report of all logs
+pub report_is : (start : List Replaying) (begun at : Reporting) (report : Report) → begun ≡ reporting start → SaysSame begun at → IsReport at report → IsReport (reporting start) report
+report_is start begun at report is same says = record {
+  lines = says.lines ∙ same.lines ∙ ap (λ (r : Reporting). r.lines) is;
+  counts = says.counts ∙ same.counts ∙ ap (λ (r : Reporting). r.counts) is;
 }
-
--- ---- the files of the first nodes
-
--- those of one node more
-more_images : (start : List Replaying) (node : ℕ) (r : Replaying) → slice_get start node ≡ Some r → images_in (take (suc node) start) ≡ images_in (take node start) ++ files_of r
-more_images [] node r is = cc
-more_images (s ∷ start) zero r is = ap files_of (same_Some _ _ is)
-more_images (s ∷ start) (suc node) r is = ap (λ (files : List (List ℕ × List ℕ)). files_of s ++ files) (more_images start node r is)
-
--- those of a node stand after those of the nodes before it
-images_around : (start : List Replaying) (node : ℕ) (r : Replaying) → slice_get start node ≡ Some r → images_in start ≡ images_in (take node start) ++ (files_of r ++ images_in (drop (suc node) start))
-images_around [] node r is = cc
-images_around (s ∷ start) zero r is = ap (λ (s : Replaying). files_of s ++ images_in start) (same_Some _ _ is)
-images_around (s ∷ start) (suc node) r is = ap (λ (files : List (List ℕ × List ℕ)). files_of s ++ files) (images_around start node r is)
-
-images_before : (start : List Replaying) (node : ℕ) → images_in start ≡ images_in (take node start) ++ images_in (drop node start)
-images_before start zero = refl
-images_before [] (suc node) = refl
-images_before (s ∷ start) (suc node) = ap (λ (files : List (List ℕ × List ℕ)). files_of s ++ files) (images_before start node)
-
--- ---- what was made
-
--- the two files of a node, too
-pub one_made : (start : List Replaying) (node : ℕ) (files : List (List ℕ × List ℕ)) (before mid after : Option Folder) → AreOwn start node files → mid ≡ with_files (images_in (take node start)) before
-    → after ≡ with_files files mid → after ≡ with_files (images_in (take (node + 1) start)) before
-one_made start node files before mid after a so_far made =
-    let first = images_in (take node start) in
-    let next : suc node ≡ node + 1 = omega arith in
-    made ∙ ap (λ (f : List (List ℕ × List ℕ)). with_files f mid) a.own ∙ ap (with_files (files_of a.replay)) so_far ∙ sym (with_more_files first (files_of a.replay) before)
-    ∙ ap (λ (f : List (List ℕ × List ℕ)). with_files f before) (sym (more_images start node a.replay a.is))
-    ∙ ap (λ (k : ℕ). with_files (images_in (take k start)) before) next
-
--- those of the first nodes alone
-pub first_made : (start : List Replaying) (node : ℕ) (before mid : Option Folder) → mid ≡ with_files (images_in (take node start)) before → AreFirstMade (images_in start) before mid
-first_made start node before mid so_far =
-    subst (λ (files : List (List ℕ × List ℕ)). AreFirstMade files before mid) (sym (images_before start node))
-    (first_of_more (images_in (take node start)) (images_in (drop node start)) before mid (all_first_made (images_in (take node start)) before mid so_far))
-
--- and the first of the next one's
-pub part_made : (start : List Replaying) (node : ℕ) (files : List (List ℕ × List ℕ)) (before mid after : Option Folder) → AreOwn start node files → mid ≡ with_files (images_in (take node start)) before
-    → AreFirstMade files mid after → AreFirstMade (images_in start) before after
-part_made start node files before mid after a so_far first =
-    let own = subst (λ (f : List (List ℕ × List ℕ)). AreFirstMade f mid after) a.own first in
-    subst (λ (files : List (List ℕ × List ℕ)). AreFirstMade files before after) (sym (images_around start node a.replay a.is))
-    (first_after (images_in (take node start)) (files_of a.replay ++ images_in (drop (suc node) start)) before mid after so_far
-    (first_of_more (files_of a.replay) (images_in (drop (suc node) start)) mid after own))

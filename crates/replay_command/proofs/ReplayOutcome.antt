@@ -7,7 +7,7 @@ use Rattle.group_state.specs.declared.report.Report.{Report}
 use Rattle.group_state.specs.declared.report.ReportLine.{ReportLine}
 use Rattle.group_state.specs.declared.tally.GroupCounts.{GroupCounts}
 use Rattle.group_state.specs.Place.{group_count}
-use Rattle.group_state.specs.Report.{IsReport, all_accepted_events, counts_in}
+use Rattle.group_state.specs.Report.{IsReport, all_accepted_events, counts_in, reporting}
 use Rattle.group_state.specs.Tally.{tally_of_events}
 use Rattle.command_run.specs.declared.refusal.WorkText.{WorkText}
 use Rattle.command_run.specs.declared.refusal.WorkText.TheVariants as answered
@@ -84,7 +84,7 @@ says_of images start o (answered.Done text) is says = (replay_work images start,
 says_of images start o (answered.Diverged text) is says = (replay_work images start, is, says.0, says.1)
 
 -- the report was printed
-pub report_tells : (images : Bool) (pairs : List Pair) (told : Option Folder) (start : List Replaying) (report : Report) (answer : WorkText) → CanWork images pairs told start → IsReport start report
+pub report_tells : (images : Bool) (pairs : List Pair) (told : Option Folder) (start : List Replaying) (report : Report) (answer : WorkText) → CanWork images pairs told start → IsReport (reporting start) report
     → PrintsAtEnd (report_text report.lines.items (counts_in report)) (some_log_diverges report.lines.items) answer
     → (o : CommandOutcome) → option_map (replay_outcome images pairs) told ≡ Some o → TellsOutcome o (Ok answer)
 report_tells images pairs told start report answer opens is says o here =

@@ -1,11 +1,13 @@
 // `replay [--images] MODULE LOG ..`: the events of a group's logs, made again.
-ghost use Rattle.std.specs.Prelude.{◌≡◌, All, List, map, option_map, IfErr, OnOk};
+ghost use Rattle.std.specs.Prelude.{◌≡◌, All, Err, List, map, option_map, IfErr, IfOk, OnOk};
 ghost use Rattle.fri_outside.specs.Outside.{WhenTold};
+ghost use Rattle.fri_outside.specs.Several.{with_files};
 ghost use Rattle.call_log.specs.Head.{IsHead};
 ghost use Rattle.command_run.specs.Asked.{AsksAll, AsksFirst};
 ghost use Rattle.command_run.specs.Call.{CountsFaults, KeepsFolder, MakesWholeFiles, MakesAllFiles, RaisesCount, TellsOutcome};
 ghost use Rattle.command_run.specs.Outcome.{writes_of};
 ghost use Rattle.replay_command.specs.Report.{images_if, images_in, replay_outcome};
+ghost use Rattle.replay_command.specs.inside.Reporting.{SaysSame};
 ghost use Rattle.log_pairs.specs.Meanings.{pair_of};
 ghost use Rattle.log_pairs.specs.Pairs.{pair_inputs};
 
@@ -13,56 +15,61 @@ use crate::names::keep_pairs;
 use crate::report::print_report;
 use command_run::{StopCause, WorkText};
 use fri_outside::Files;
-use group_state::{image_of, report_of};
+use group_state::Reporter;
 use log_pairs::{Pair, begin_all, load_all};
-use proc_replay::Replayer;
 use process_files::write_image;
 use std::alloc::Global;
 
-// Writes what each process leaves, in order of the processes' numbers.
-fn write_images<F: Files>(
+// Replays each log and writes what its process leaves, in order of the processes' numbers.
+fn write_images<'m, 'a, F: Files>(
     alloc: Global,
-    replayers: &[Replayer<'_, '_>],
+    reporter: Reporter<'m, 'a>,
     files: &mut F,
-) -> Result<(), StopCause>
-    requires heads { All (λ r. IsHead r.head) replayers.now }
-    requires fresh { All (λ r. r.state.events ≡ 0) replayers.now }
-    ensures made { MakesAllFiles result (images_in replayers.now) (F.told files.old) (F.told files.new) }
+) -> Result<Reporter<'m, 'a>, StopCause>
+    requires { All (λ r. IsHead r.head) reporter.left }
+    ensures made { IfOk result (λ _. F.told files.new ≡ with_files (images_in reporter.entry.left) (F.told files.old)) }
+    ensures part { IfErr result (λ why. MakesAllFiles (Err why) (images_in reporter.entry.left) (F.told files.old) (F.told files.new)) }
+    ensures same { IfOk result (SaysSame reporter.entry) }
     ensures counts { CountsFaults (F.counts files.old) (F.counts files.new) result }
     ensures asked { (F.counts files.new).asked ≡ (F.counts files.old).asked }
     ensures cause { IfErr result (RaisesCount (F.counts files.old) (F.counts files.new)) }
 {
-    for replayer in replayers {
-        let image = image_of(alloc, replayer)?;
+    let mut reporter = reporter;
+    'images: loop {
+        let (next, image) = reporter.next_image(alloc)?;
+        reporter = next;
+        let Some((head, image)) = image else {
+            return Ok(reporter);
+        };
         write_image(
             alloc,
-            replayer.head().name,
+            head.name,
             image.memory.as_slice(),
             image.printed.as_slice(),
             files,
         )?;
     }
-    Ok(())
 }
 
-// The same where images were asked for, and else none.
-fn write_asked<F: Files>(
+// The same if images were asked for, and else nothing.
+fn write_asked<'m, 'a, F: Files>(
     alloc: Global,
     images: bool,
-    replayers: &[Replayer<'_, '_>],
+    reporter: Reporter<'m, 'a>,
     files: &mut F,
-) -> Result<(), StopCause>
-    requires heads { All (λ r. IsHead r.head) replayers.now }
-    requires fresh { All (λ r. r.state.events ≡ 0) replayers.now }
-    ensures made { MakesAllFiles result (images_if images replayers.now) (F.told files.old) (F.told files.new) }
+) -> Result<Reporter<'m, 'a>, StopCause>
+    requires { All (λ r. IsHead r.head) reporter.left }
+    ensures made { IfOk result (λ _. F.told files.new ≡ with_files (images_if images reporter.entry.left) (F.told files.old)) }
+    ensures part { IfErr result (λ why. MakesAllFiles (Err why) (images_if images reporter.entry.left) (F.told files.old) (F.told files.new)) }
+    ensures same { IfOk result (SaysSame reporter.entry) }
     ensures counts { CountsFaults (F.counts files.old) (F.counts files.new) result }
     ensures asked { (F.counts files.new).asked ≡ (F.counts files.old).asked }
     ensures cause { IfErr result (RaisesCount (F.counts files.old) (F.counts files.new)) }
 {
     if images {
-        write_images(alloc, replayers, files)
+        write_images(alloc, reporter, files)
     } else {
-        Ok(())
+        Ok(reporter)
     }
 }
 
@@ -87,7 +94,8 @@ pub fn replay<F: Files>(
     let all = load_all(alloc, pairs, files)?;
     let replayers = begin_all(alloc, &all)?;
     keep_pairs(alloc, images, pairs, &replayers)?;
-    write_asked(alloc, images, &replayers, files)?;
-    let report = report_of(alloc, replayers)?;
+    let begun = Reporter::begin(alloc, replayers);
+    let reporter = write_asked(alloc, images, begun, files)?;
+    let report = reporter.finish(alloc)?;
     Ok(print_report(alloc, &report)?)
 }

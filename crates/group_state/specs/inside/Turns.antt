@@ -1,5 +1,5 @@
 -- The turn of one node of a group, the head that it then has, and where its turns end.
-use Rattle.std.specs.Prelude.{◌≡◌, ℕ, List, Some, slice_get, slice_set, Option, None}
+use Rattle.std.specs.Prelude.{◌≡◌, ◌++◌, ℕ, Bool, true, false, List, Some, slice_get, slice_set, Option, None}
 use Rattle.proc_replay.specs.Replaying.{Replaying, after_replay_turn, turn, Diverges, Ends, Makes, ReplayMove}
 use Rattle.guest_process.specs.declared.verdict.Verdict.{Verdict}
 use Rattle.proc_replay.specs.Course.{TellsVerdict, outcome_of_replay}
@@ -23,3 +23,8 @@ pub record EndsAtReplay (first last : Replaying) : Type 0 where
   pub head : last.head ≡ first.head
   pub verdict : Verdict
   pub tells : TellsVerdict (turn last) last.left.bytes verdict
+
+-- these bytes, or with images those that come after them too
+abbrev pub kept_after : Bool → List ℕ → List ℕ → List ℕ
+kept_after false before bytes = before
+kept_after true before bytes = before ++ bytes
