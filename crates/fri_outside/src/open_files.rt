@@ -30,13 +30,27 @@ impl<F: OpenFile + Drop> OpenFiles<F> {
     }
 
     /// The file of this name, where it is open.
+    #[inline(always)]
     pub(crate) fn get_mut(&mut self, name: &str) -> Option<&mut F> {
-        let index = self.index_of(name)?;
-        self.last = index;
-        Some(&mut self.files[index].file)
+        if !self.is_at(self.last, name) {
+            self.last = self.index_of(name)?;
+        }
+        match self.files.get_mut(self.last) {
+            Some(open) => Some(&mut open.file),
+            None => None,
+        }
     }
 
-    /// Where the file of this name is among those that are open.
+    // Whether the file at this place has this name.
+    #[inline(always)]
+    fn is_at(&self, index: usize, name: &str) -> bool {
+        match self.files.get(index) {
+            Some(open) => open.name.as_str() == name,
+            None => false,
+        }
+    }
+
+    // Where the file of this name is among those that are open.
     fn index_of(&self, name: &str) -> Option<usize>
         ensures { IfSome result (λ index. index < vec_len self.now.files) }
     {
@@ -76,7 +90,7 @@ impl<F: OpenFile + Drop> OpenFiles<F> {
     }
 }
 
-/// Where the file of this name is among these.
+// Where the file of this name is among these.
 fn index_in<F: Drop>(files: &[NamedFile<F>], name: &str) -> Option<usize>
     ensures { IfSome result (λ index. index < length files.now) }
 {
