@@ -37,6 +37,13 @@ more_begun count p m ms S states starts rest = record { many = ap suc rest.many;
       let from = rest.each place T at in
       record { «module» = from.«module»; found = from.found; starts = ap (λ (n : ℕ). start from.«module» n count) (omega arith) ∙ from.starts }
 
+-- apart from how a module starts, over which `cc` would look for long
+not_begun : {P : Type 0} (made : Result (List State) ℕ) (p : ℕ) (first : List State) → made ≡ Err p → made ≡ Ok first → P
+not_begun made p first fails is = cc
+
+same_begun : (made : Result (List State) ℕ) (states first : List State) → made ≡ Ok states → made ≡ Ok first → states ≡ first
+same_begun made states first begins is = cc
+
 each_begun : (count p : ℕ) (ms : List Module) (first : List State) → first_states_from count p ms ≡ Ok first → Begun count p ms first
 each_begun count p [] first is =
     let same : [] ≡ first = cc in
@@ -44,11 +51,10 @@ each_begun count p [] first is =
 each_begun count p (m ∷ ms) first is = by_start (start m p count) refl (first_states_from count (suc p) ms) refl (λ states rest_is. each_begun count (suc p) ms states rest_is) is where
   by_start : (o : Option State) → start m p count ≡ o → (rest : Result (List State) ℕ) → first_states_from count (suc p) ms ≡ rest
       → ((states : List State) → first_states_from count (suc p) ms ≡ Ok states → Begun count (suc p) ms states) → with_first_state o p rest ≡ Ok first → Begun count p (m ∷ ms) first
-  by_start None starts rest rest_is more comes = cc
-  by_start (Some S) starts (Err q) rest_is more comes = cc
+  by_start None starts rest rest_is more comes = not_begun _ p first refl comes
+  by_start (Some S) starts (Err q) rest_is more comes = not_begun _ q first refl comes
   by_start (Some S) starts (Ok states) rest_is more comes =
-      let same : (S ∷ states) ≡ first = cc in
-      subst (λ (states : List State). Begun count p (m ∷ ms) states) same (more_begun count p m ms S states starts (more states rest_is))
+      subst (λ (states : List State). Begun count p (m ∷ ms) states) (same_begun _ (S ∷ states) first refl comes) (more_begun count p m ms S states starts (more states rest_is))
 
 valid_at : (ms : List Module) (place : ℕ) (m : Module) → slice_get ms place ≡ Some m → All IsValid ms → IsValid m
 valid_at ms place m found all = subst IsValid (get_or_from_slice_get ms place m m found) (All-get_or IsValid ms place m (slice_get_within ms place m found) all)

@@ -94,14 +94,18 @@ by_test : {A : Type 0} (test : Bool) (o : Option A) (x : A) → cond test o None
 by_test true o x is = is
 by_test false o x is = cc
 
+-- apart from the calls that are answered, over which `cc` would look for long
+no_value : {P : Type 0} (e : Event) → None ≡ Some e → P
+no_value e none = cc
+
 pub comes_in : (S : State) (env : Env) (thread : ℕ) (e : Event) → live S thread env ≡ Some e → ComesIn S env thread e
 comes_in S env thread e comes = by_thread (thread_at S thread) refl (by_test _ (event_of_waiting S thread env (thread_at S thread)) e comes) where
   mapped : (w : Waiting) → thread_at S thread ≡ Some w → (o : Option AnsweredCall) → answered_now (need w.call.kind S thread w.call) (from_world w.call.kind S w.call env) ≡ o → option_map (event S thread env w) o ≡ Some e → ComesIn S env thread e
-  mapped w there None answer is = cc
+  mapped w there None answer is = no_value e is
   mapped w there (Some given) answer is = record { waiting = w; there = there; given = given; answer = answer; is = sym (same_Some _ _ is) }
 
   by_thread : (o : Option Waiting) → thread_at S thread ≡ o → event_of_waiting S thread env o ≡ Some e → ComesIn S env thread e
-  by_thread None there is = cc
+  by_thread None there is = no_value e is
   by_thread (Some w) there is = mapped w there _ refl is
 
 -- the event answers a call of the kind of the thread's

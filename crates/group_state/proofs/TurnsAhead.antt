@@ -32,6 +32,13 @@ pub turns_more : (n : ℕ) (r : Replaying) → after_turns r (suc n) ≡ after_r
 turns_more zero r = refl
 turns_more (suc n) r = turns_more n (after_replay_turn r)
 
+-- apart from the turns, over which `cc` would look for long
+same_first : (e f : Entry) (es fs : List Entry) → e ∷ es ≡ f ∷ fs → e ≡ f
+same_first e f es fs same = cc
+
+none_first : {P : Type 0} (e : Entry) (es : List Entry) → [] ≡ e ∷ es → P
+none_first e es same = cc
+
 module _ (course : AreTurns) where
   turn_cases : (r : Replaying) → Made r ⊎ Stood r
   turn_cases r = by_move (turn r) refl
@@ -76,6 +83,6 @@ module _ (course : AreTurns) where
   -- where something is ahead, the turn makes the first of it
   pub made_first : (r : Replaying) (e : Entry) (es : List Entry) → entries_ahead r ≡ e ∷ es → turn r ≡ Makes e
   made_first r e es is = elim (turn_cases r) [
-    | inl m ↦ let same : m.entry ∷ entries_ahead (after_replay_turn r) ≡ e ∷ es = sym m.first ∙ is in let first : m.entry ≡ e = cc in m.makes ∙ ap Makes first
-    | inr s ↦ let none : [] ≡ e ∷ es = sym s.none ∙ is in absurd (cc)
+    | inl m ↦ m.makes ∙ ap Makes (same_first m.entry e (entries_ahead (after_replay_turn r)) es (sym m.first ∙ is))
+    | inr s ↦ none_first e es (sym s.none ∙ is)
   ]
