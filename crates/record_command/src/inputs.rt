@@ -1,13 +1,14 @@
 // Reads a schedule, and the modules of its processes.
 ghost use Rattle.std.specs.Prelude.{◌≡◌, ◌<◌, ◌∷◌, ◌++◌, ℕ, [], All, length, map, IfOk, IfErr, OnOk};
-ghost use Rattle.fri_outside.specs.Outside.{WhenTold};
+ghost use Rattle.fri_outside.specs.Outside.{Counts, WhenTold};
 ghost use Rattle.wasm_types.specs.Modules.{module_of as shown};
+ghost use Rattle.schedule_text.specs.Reading.{schedule_of};
 ghost use Rattle.schedule_text.specs.Schedule.{IsProcess, IsSchedule};
 ghost use Rattle.command_run.specs.Asked.{AsksAll, AsksFirst, kept_names, unless_named};
-ghost use Rattle.command_run.specs.Call.{CountsFaults, RaisesCount, RefusesFile, TellsResult};
+ghost use Rattle.command_run.specs.Call.{CountsFaults, CountsNothing, RaisesCount, RefusesFile, TellsResult};
 ghost use Rattle.command_run.specs.Inputs.{module_in};
 ghost use Rattle.command_run.specs.Kept.{AreOfFiles};
-ghost use Rattle.record_command.specs.Expected.{module_files, module_name, modules_of, record_inputs, schedule_in};
+ghost use Rattle.record_command.specs.Expected.{module_files, module_name, modules_of, record_inputs, schedule_in, schedule_or_refusal};
 ghost use Rattle.record_command.specs.Gathering.{GathersInputs, IsRefusalOf};
 
 use command_run::{ModuleFiles, Reason, StopCause, take_file};
@@ -62,6 +63,23 @@ pub fn take_modules<F: Files>(
     Ok(modules)
 }
 
+// The schedule that the bytes of a file spell.
+fn spelled(alloc: Global, name: &str, bytes: &[u8]) -> Result<Schedule, StopCause>
+    ensures in_range { IfOk result IsSchedule }
+    ensures answer { TellsResult (λ schedule. schedule) (schedule_or_refusal name.now (schedule_of bytes.now)) result }
+    ensures cause { (old new : Counts) → IfErr result (RaisesCount old new) }
+    ensures still { CountsNothing result }
+{
+    match read_schedule(alloc, bytes) {
+        Ok(schedule) => Ok(schedule),
+        Err(ScheduleError::BadLine(line)) => {
+            Err(StopCause::refuse(alloc, name, Reason::BadLine(line)))
+        }
+        Err(ScheduleError::TooMany) => Err(StopCause::refuse(alloc, name, Reason::TooMany)),
+        Err(ScheduleError::NoMemory) => Err(StopCause::NoMemory),
+    }
+}
+
 /// The schedule of a schedule file.
 pub fn take_schedule<F: Files>(
     alloc: Global,
@@ -77,14 +95,7 @@ pub fn take_schedule<F: Files>(
     ensures cause { IfErr result (RaisesCount (F.counts files.old) (F.counts files.new)) }
 {
     let bytes = take_file(alloc, name, MOST_SCHEDULE, files)?;
-    match read_schedule(alloc, &bytes) {
-        Ok(schedule) => Ok(schedule),
-        Err(ScheduleError::BadLine(line)) => {
-            Err(StopCause::refuse(alloc, name, Reason::BadLine(line)))
-        }
-        Err(ScheduleError::TooMany) => Err(StopCause::refuse(alloc, name, Reason::TooMany)),
-        Err(ScheduleError::NoMemory) => Err(StopCause::NoMemory),
-    }
+    spelled(alloc, name, &bytes)
 }
 
 // Refuses the module of process p, with which it does not begin.
