@@ -43,8 +43,6 @@ def page():
 def find(again):
     """The file and the reason, and where these are not asked of the program, the lines about it; or None."""
     name = again.command.name
-    if name == "drill":
-        return "drill", "item N LogFull", ["a log would have more than %d bytes" % MOST_LOG]
     if name == "migrate":
         return of_migrate(again.files[0])
     if name == "play":

@@ -1,9 +1,8 @@
 -- The trees of instructions that hold others.
-use Rattle.std.proofs.Common.{◌≡◌, ◌∙◌, List, [], Option, None, ap}
+use Rattle.std.proofs.Common.{◌≡◌, ◌∙◌, List, [], None, ap}
 use Rattle.std.specs.Global.{Vec}
 use Rattle.wasm_types.specs.declared.code.Instr.{Instr}
 use Rattle.wasm_types.specs.declared.code.Instr.TheVariants as instr
-use Rattle.wasm_types.specs.declared.code.ValType.{ValType}
 use Rattle.wasm_types.specs.Code.{End, If, Loop, tree, trees}
 use Rattle.wasm_types.specs.CodeLaws.{tree-if, tree-loop}
 

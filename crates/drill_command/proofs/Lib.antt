@@ -1,4 +1,7 @@
-pub mod FewerRounds
+pub mod ShortEntries
+pub mod RingRuns
+pub mod RingStates
+pub mod RunFits
 pub mod ProcessesBegin
 pub mod Instructions
 pub mod DrillOutcome

@@ -1,6 +1,5 @@
 -- The replays of the logs that were recorded.
-use Rattle.std.proofs.Common.{◌≡◌, ◌∙◌, ◌<◌, ◌≤◌, ◌-◌, ◌++◌, ℕ, List, [], ◌∷◌, Option, Some, None, drop, length, ap, arith, refl, subst, sym}
-use Rattle.std.specs.Prelude.{All, option_copied}
+use Rattle.std.proofs.Common.{◌≡◌, ◌∙◌, ◌<◌, ◌≤◌, ℕ, List, [], ◌∷◌, Some, None, drop, length, ap, arith, refl, subst, sym}
 use Rattle.std.specs.FinMap.{get}
 use Rattle.std.proofs.Math.Seq.{drop-append_seam}
 use Rattle.std.proofs.lemmas.List.{length-drop}

@@ -1,6 +1,6 @@
 -- A walk over the positions of a group, one further position at a time.
-use Rattle.std.proofs.Common.{◌≡◌, ◌∙◌, ◌<◌, ◌≤◌, ◌+◌, ℕ, zero, suc, Bool, true, false, cond, not, List, [], ◌∷◌, ◌++◌, Option, Some, None, length, map, ap, arith, refl, sym}
-use Rattle.std.specs.Prelude.{count_by, is_none, is_some, option_map, slice_get, sum_by, ℤ}
+use Rattle.std.proofs.Common.{◌≡◌, ◌∙◌, ◌<◌, ◌≤◌, ◌+◌, ℕ, zero, suc, true, false, cond, not, List, [], ◌∷◌, ◌++◌, Option, Some, None, length, ap, arith, sym}
+use Rattle.std.specs.Prelude.{count_by, is_some, slice_get, sum_by, ℤ}
 use Rattle.std.specs.List.{range_with_len}
 use Rattle.std.proofs.lemmas.List.Sums.{count_by-le-length, sum_by-append}
 use Rattle.std.proofs.lemmas.Option.{slice_get_within}
@@ -11,7 +11,6 @@ use Rattle.group_state.specs.Moves.{GroupMoves, event_of}
 use Rattle.group_state.specs.Place.{GroupPlace, events_of_replays}
 use Rattle.page_watch.specs.Firing.{is_same_value}
 use Rattle.shell_points.specs.Firing.{watchpoint_fires, place_at, value_at_position}
-use Rattle.expression_text.specs.Expression.{Expression}
 use Rattle.drill_command.specs.Drill.{drill_watch}
 use Rattle.drill_command.specs.inside.Results.{IsWatchedDrill}
 

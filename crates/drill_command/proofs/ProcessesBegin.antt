@@ -1,5 +1,5 @@
 -- All processes of the group begin.
-use Rattle.std.proofs.Common.{◌≡◌, ◌∙◌, ℕ, Bool, true, false, List, [], ◌∷◌, Option, Some, None, Result, Ok, Err, ap, refl}
+use Rattle.std.proofs.Common.{◌≡◌, ℕ, true, List, [], ◌∷◌, Option, Some, None, Result, Ok, Err, refl}
 use Rattle.std.specs.Prelude.{is_some, is_ok, unwrap_or}
 use Rattle.std.specs.Result.{result_ok}
 use Rattle.guest_process.specs.Start.{start}

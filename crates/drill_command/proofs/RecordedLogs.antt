@@ -1,6 +1,6 @@
 -- The logs that the recording leaves in memory.
-use Rattle.std.proofs.Common.{◌≡◌, ◌≢◌, ◌∙◌, ◌<◌, ℕ, zero, suc, Bool, false, List, [], ◌∷◌, ◌++◌, Option, Some, None, Result, Ok, Err, length, map, get_or, ap, arith, refl, subst, sym}
-use Rattle.std.specs.Prelude.{All, AllPairs, codes, string_bytes}
+use Rattle.std.proofs.Common.{◌≡◌, ◌≢◌, ◌∙◌, ◌<◌, ◌≤◌, ℕ, zero, suc, false, List, [], ◌∷◌, ◌++◌, Option, Some, None, Ok, Err, get_or, ap, arith, refl, subst, sym}
+use Rattle.std.specs.Prelude.{All, AllPairs}
 use Rattle.std.specs.FinMap.{empty, get}
 use Rattle.std.specs.List.{AllByRecursion}
 use Rattle.std.proofs.lemmas.List.Kept.{AllPairs-cons}
@@ -13,6 +13,7 @@ use Rattle.wasm_types.specs.Modules.{Module}
 use Rattle.guest_module.specs.Valid.{IsValid}
 use Rattle.wasm_validate.specs.Fault.{ExactFault}
 use Rattle.schedule_text.specs.Drill.{drill_schedule}
+use Rattle.schedule_text.specs.Limits.{most_rounds}
 use Rattle.schedule_text.specs.Schedule.{IsInRange, IsSchedule, Schedule}
 use Rattle.guest_process.specs.State.{State}
 use Rattle.group_record.specs.declared.error.RecordError.{RecordError}
@@ -23,16 +24,11 @@ use Rattle.group_record.specs.Laws.{Agreement, Beginning, IsBegun}
 use Rattle.group_record.specs.Logs.{TellsEvents, log_name, logs_of_steps}
 use Rattle.group_record.specs.Files.{change}
 use Rattle.group_record.specs.Run.{RunStep, log_of, name_of_process, run, processes_in_group}
-use Rattle.command_run.specs.declared.refusal.Reason.TheVariants as reason
-use Rattle.command_run.specs.declared.refusal.StopCause.{StopCause}
-use Rattle.command_run.specs.declared.refusal.StopCause.TheVariants as refusal
-use Rattle.command_run.specs.Call.{RefusesFile}
 use Rattle.command_run.specs.OutcomeLaws.{same_Ok_value}
-use Rattle.drill_command.specs.declared.recording.Recording.{Recording}
 use Rattle.drill_command.specs.Drill.{drill_group, drill_modules, drill_run, drill_states}
-use Rattle.drill_command.specs.Ring.{ring_module}
-use Rattle.drill_command.specs.inside.Results.{HoldLogs, HasAllRounds, StopsDrill}
+use Rattle.drill_command.specs.inside.Results.{HasAllRounds}
 use Rattle.drill_command.proofs.ProcessesBegin.{all_begin}
+use Rattle.drill_command.proofs.RunFits.{fills_no_log}
 use Rattle.drill_command.proofs.RingIsValid.{ring_is_valid}
 
 -- ---- lists of four
@@ -117,7 +113,6 @@ recorded keeps exact beginning agreement rounds schedule ms are summary files (f
     let is : IsRecordedWhole false drill_group (drill_run rounds) summary (change (Some empty) (Some files.folder)) =
     subst (λ (states : List State). IsRecordedWhole false (group_of (drill_schedule rounds) states) (run (group_of (drill_schedule rounds) states) (drill_schedule rounds).items) summary (change (Some empty) (Some files.folder))) same done in
     record {
-      room = is.room;
       idle = is.summary.idle;
       logs = record {
         logs = logs_held keeps (drill_run rounds).steps files.folder is.files;
@@ -142,28 +137,22 @@ never_bad rounds ms are p before after answers = refuted (sym answers.0 ∙ ap (
     refuted : Err p ≡ Ok drill_states → ⊥
     refuted e = cc
 
-pub full_stops : (rounds : ℕ) (ms : List Module) → ms ≡ drill_modules → (item : ℕ) (before after : Option Folder)
-    → RecordAnswers (drill_schedule rounds) false (first_states (drill_schedule rounds) ms) (Err (errors.LogFull item)) (change before after)
-    → (e : StopCause) → RefusesFile (codes "drill") (reason.LogFull item) e → StopsDrill rounds e
+-- no log was full
+pub never_full : (rounds : ℕ) → rounds ≤ most_rounds → (ms : List Module) → ms ≡ drill_modules → (s : Schedule) → s ≡ drill_schedule rounds
+    → (item : ℕ) (error : RecordError) → error ≡ errors.LogFull item → (before after : Option Folder) → RecordAnswers s false (first_states s ms) (Err error) (change before after) → ⊥
 unfolding drill_run
-full_stops rounds ms are item before after (first, begun, full) e refuses = stops e refuses
+never_full rounds few ms are s is item error full before after answers = refuted (sym (fills_no_log rounds few) ∙ full_is)
   where
-    same : first ≡ drill_states
-    same = same_Ok_value (first_states_from 4 0 ms) first drill_states begun (ap (first_states_from 4 0) are ∙ all_begin)
+    answers_of : RecordAnswers (drill_schedule rounds) false (first_states (drill_schedule rounds) ms) (Err (errors.LogFull item)) (change before after)
+    answers_of =
+        subst (λ (x : RecordError). RecordAnswers (drill_schedule rounds) false (first_states (drill_schedule rounds) ms) (Err x) (change before after)) full
+        (subst (λ (x : Schedule). RecordAnswers x false (first_states x ms) (Err error) (change before after)) is answers)
 
-    is : (drill_run rounds).full ≡ Some item
-    is = (subst (λ (states : List State). IsFullLogOfRun (group_of (drill_schedule rounds) states) (run (group_of (drill_schedule rounds) states) (drill_schedule rounds).items) item before after) same full).full
+    same : answers_of.0 ≡ drill_states
+    same = same_Ok_value (first_states_from 4 0 ms) answers_of.0 drill_states answers_of.1 (ap (first_states_from 4 0) are ∙ all_begin)
 
-    stops : (e : StopCause) → RefusesFile (codes "drill") (reason.LogFull item) e → StopsDrill rounds e
-    stops (refusal.Refused file why) (named, because) = rw because (named, is)
-    stops refusal.NoMemory refuses = tt
-    stops other refuses = absurd refuses
+    full_is : (drill_run rounds).full ≡ Some item
+    full_is = (subst (λ (states : List State). IsFullLogOfRun (group_of (drill_schedule rounds) states) (run (group_of (drill_schedule rounds) states) (drill_schedule rounds).items) item before after) same answers_of.2).full
 
--- the same of a schedule and an answer that are these
-pub full_stops_by : (rounds : ℕ) (ms : List Module) → ms ≡ drill_modules → (s : Schedule) → s ≡ drill_schedule rounds → (item : ℕ) (error : RecordError) → error ≡ errors.LogFull item
-    → (before after : Option Folder) → RecordAnswers s false (first_states s ms) (Err error) (change before after)
-    → (e : StopCause) → RefusesFile (codes "drill") (reason.LogFull item) e → StopsDrill rounds e
-full_stops_by rounds ms are s is item error full before after answers =
-    full_stops rounds ms are item before after
-    (subst (λ (x : RecordError). RecordAnswers (drill_schedule rounds) false (first_states (drill_schedule rounds) ms) (Err x) (change before after)) full
-    (subst (λ (x : Schedule). RecordAnswers x false (first_states x ms) (Err error) (change before after)) is answers))
+    refuted : None ≡ Some item → ⊥
+    refuted e = cc

@@ -1,9 +1,9 @@
 -- The module `ring` is valid.
-use Rattle.std.proofs.Common.{◌≡◌, List, [], ◌∷◌, Option, None, map, refl, subst, sym}
+use Rattle.std.proofs.Common.{◌≡◌, None, refl, subst, sym}
 use Rattle.call_table.specs.Table.{kind_named}
 use Rattle.wasm_types.specs.declared.modules.Module.{Module as RustModule}
 use Rattle.guest_module.specs.Library.{importable}
-use Rattle.wasm_types.specs.Modules.{Module, module_of}
+use Rattle.wasm_types.specs.Modules.{module_of}
 use Rattle.guest_module.specs.Valid.{IsValid}
 use Rattle.wasm_validate.specs.Fault.{ExactFault, fault}
 use Rattle.drill_command.specs.Ring.{ring_module}

@@ -1,5 +1,5 @@
 -- What `drill_rounds` comes to.
-use Rattle.std.specs.Prelude.{ℕ, suc, false, List, [], ◌∷◌, ◌++◌, length, drop, map, decimal, codes, count_by, unwrap_or, Option, Some, None, Ok, Err}
+use Rattle.std.specs.Prelude.{ℕ, suc, false, List, [], ◌∷◌, ◌++◌, length, drop, map, decimal, codes, count_by, unwrap_or, Ok}
 use Rattle.std.specs.List.{range_with_len}
 use Rattle.std.specs.Result.{result_ok}
 use Rattle.wasm_types.specs.Modules.{Module}
@@ -17,8 +17,7 @@ use Rattle.expression_text.specs.declared.expr.Width.TheVariants.{I64}
 use Rattle.expression_text.specs.Expression.{Expression, Number, Over, Load}
 use Rattle.point_programs.specs.Running.{value_word}
 use Rattle.shell_points.specs.Firing.{watchpoint_fires, value_at_position}
-use Rattle.command_run.specs.declared.refusal.Reason.TheVariants as reason
-use Rattle.command_run.specs.Outcome.{CommandOutcome, CommandWork, refuses_at_once}
+use Rattle.command_run.specs.Outcome.{CommandOutcome, CommandWork}
 use Rattle.drill_command.specs.Ring.{ring_module}
 
 -- ---- the recording
@@ -80,11 +79,6 @@ drill_text rounds idle start =
 abbrev pub drill_work : ℕ → RunProgress → CommandWork
 drill_work rounds done = record { text = drill_text rounds done.idle (replays_of_logs drill_group done.steps); writes = []; diverged = false }
 
-abbrev pub drill_by_room : ℕ → RunProgress → Option ℕ → CommandOutcome
-drill_by_room rounds done None = Ok (drill_work rounds done)
-drill_by_room rounds done (Some item) = Err (refuses_at_once (codes "drill") (reason.LogFull item))
-
--- The group is recorded, its logs are replayed, and all positions are watched. Where a log has no room for an event, that
--- item of the schedule is told.
+-- the group is recorded, its logs are replayed, and all positions are watched
 abbrev pub drill_outcome : ℕ → CommandOutcome
-drill_outcome rounds = drill_by_room rounds (drill_run rounds) (drill_run rounds).full
+drill_outcome rounds = Ok (drill_work rounds (drill_run rounds))

@@ -9,7 +9,7 @@ use Rattle.command_run.specs.Run.{NoFault, Outside, TellsFaults}
 use Rattle.record_command.specs.Laws.{RecordingsWork}
 use Rattle.replay_command.specs.Laws.{ReplaysWork}
 use Rattle.debug_command.specs.Laws.{SessionsWork}
-use Rattle.drill_command.specs.Drill.{drill_run, drill_work, drill_by_room}
+use Rattle.drill_command.specs.Drill.{drill_run, drill_work}
 use Rattle.migrate_command.specs.Laws.{MigrationsWork}
 use Rattle.schedule_command.specs.Laws.{SchedulesWork}
 use Rattle.cut_command.specs.Laws.{CutsWork}
@@ -50,7 +50,7 @@ module _ (recordings : RecordingsWork) (replays : ReplaysWork) (sessions : Sessi
   has_work (Record images schedule_name) folder left h = let w = recordings.work images schedule_name folder h in (w.0, ap Some w.1)
   has_work (Replay images pairs) folder left h = let w = replays images pairs folder h in (w.0, ap Some w.1)
   has_work (Debug pairs) folder left h = sessions pairs folder left h
-  has_work (Drill rounds) folder left h = (drill_work rounds (drill_run rounds), ap (λ full. Some (drill_by_room rounds (drill_run rounds) full)) h)
+  has_work (Drill rounds) folder left h = (drill_work rounds (drill_run rounds), refl)
   has_work (Migrate log_name new_name) folder left h = let w = migrations log_name new_name folder h in (w.0, ap Some w.1)
   has_work (Schedule pairs) folder left h = let w = schedules pairs folder h in (w.0, ap Some w.1)
   has_work (Cut process event pairs) folder left h = let w = cuts process event pairs folder h in (w.0, ap Some w.1)

@@ -1,11 +1,10 @@
--- Words, files and an input at which a command does its work.
-use Rattle.std.specs.Prelude.{◌≡◌, ℕ, List, Option, Some, None}
+-- Words, files and an input at which a command does its work. A drill needs no more than its words.
+use Rattle.std.specs.Prelude.{ℕ, List, Option, Some, None}
 use Rattle.fri_outside.specs.Outside.{Folder}
 use Rattle.log_pairs.specs.Valid.{IsGroup}
 use Rattle.record_command.specs.Valid.{RecordsApart}
 use Rattle.replay_command.specs.Valid.{CanBeReplayed}
 use Rattle.debug_command.specs.Valid.{IsSession}
-use Rattle.drill_command.specs.Drill.{drill_run}
 use Rattle.migrate_command.specs.Valid.{IsMigration}
 use Rattle.schedule_command.specs.Valid.{CanBeScheduled}
 use Rattle.cut_command.specs.Valid.{HasEventOfProcess}
@@ -17,7 +16,7 @@ IsValidCall None folder left = ⊥
 IsValidCall (Some (Record images schedule_name)) folder left = RecordsApart images folder schedule_name
 IsValidCall (Some (Replay images pairs)) folder left = CanBeReplayed images folder pairs
 IsValidCall (Some (Debug pairs)) folder left = IsSession folder pairs left
-IsValidCall (Some (Drill rounds)) folder left = (drill_run rounds).full ≡ None
+IsValidCall (Some (Drill rounds)) folder left = Unit {0}
 IsValidCall (Some (Migrate log_name new_name)) folder left = IsMigration folder log_name
 IsValidCall (Some (Schedule pairs)) folder left = CanBeScheduled folder pairs
 IsValidCall (Some (Cut process event pairs)) folder left = HasEventOfProcess folder pairs process event

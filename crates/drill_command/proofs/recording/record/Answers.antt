@@ -1,10 +1,7 @@
-use Rattle.std.proofs.Common.{ℕ, Some, map, ap, subst}
-use Rattle.std.specs.Prelude.{codes}
-use Rattle.command_run.specs.Call.{RefusesFile}
-use Rattle.command_run.specs.declared.refusal.Reason.TheVariants as reason
+use Rattle.std.proofs.Common.{Some, map, ap}
 use Rattle.fri_outside.specs.Memory.{FilesInMemory}
 use Rattle.wasm_types.specs.Modules.{module_of}
-use Rattle.drill_command.proofs.RecordedLogs.{full_stops_by, recorded_by}
+use Rattle.drill_command.proofs.RecordedLogs.{never_full, recorded_by}
 use Rattle.drill_command.proofs.recording.record.Goals as goal
 
 pub returns-in-Ok : goal.returns-in-Ok
@@ -13,8 +10,7 @@ returns-in-Ok c =
     (map module_of c.args.modules.now) c.requires.modules c.in_ok-schedule.schedule c.in_ok-schedule.ensures.exact
     c.new-files.result.folder (ap (λ (f : FilesInMemory). f.folder) c.new-files.ensures) c.in-Ok.summary c.run_record.new.files c.in-Ok.ensures.answers
 
-pub returns-in-Err-LogFull : goal.returns-in-Err-LogFull
-returns-in-Err-LogFull c =
-    full_stops_by c.args.rounds (map module_of c.args.modules.now) c.requires.modules c.in_ok-schedule.schedule c.in_ok-schedule.ensures.exact
-    c.in-Err-LogFull.item c.in-Err-LogFull.field-0 c.in-Err-LogFull.field-0-is (Some c.new-files.result.folder) (Some c.run_record.new.files.folder) c.in-Err-LogFull.ensures.answers c.refuse.result
-    (subst (λ (item : ℕ). RefusesFile (codes "drill") (reason.LogFull item) c.refuse.result) c.in-Err-LogFull.item-is c.refuse.ensures)
+pub unreachable-requires : goal.unreachable-requires
+unreachable-requires c =
+    never_full c.args.rounds c.requires.few (map module_of c.args.modules.now) c.requires.modules c.in_ok-schedule.schedule c.in_ok-schedule.ensures.exact
+    c.in-Err-LogFull.field-0-0 c.in-Err-LogFull.field-0 c.in-Err-LogFull.field-0-is (Some c.new-files.result.folder) (Some c.run_record.new.files.folder) c.in-Err-LogFull.ensures.answers

@@ -1,4 +1,4 @@
-use Rattle.std.proofs.Common.{◌≡◌, ◌∙◌, List, Some, ap, sym}
+use Rattle.std.proofs.Common.{◌∙◌, List, ap, sym}
 use Rattle.std.specs.Prelude.{option_copied}
 use Rattle.call_log.specs.Head.{Head}
 use Rattle.wasm_types.specs.Modules.{module_of}
