@@ -23,12 +23,13 @@ impl<'m, 'a> Group<'m, 'a> {
     ghost use Rattle.std.specs.Prelude.{◌<◌, ◌^◌, Some, length, slice_get};
     ghost use Rattle.group_state.specs.Place.{states_of_nodes};
 
-    // The process of a node that is there.
+    // The process of a node that is there, of which an expression reads something.
     fn at(&self, node: u32) -> &Process<'m>
         requires { node < length (states_of_nodes self.now.start self.now.at) }
         ensures found { slice_get (states_of_nodes self.now.start self.now.at) node ≡ Some result.now }
         ensures few { result.now.events < 2 ^ 61 }
     {
+        self.course().counter.count_read();
         let Some(replay) = self.replay(node) else {
             unreachable!();
         };
@@ -48,7 +49,6 @@ impl<'m, 'a> View for Group<'m, 'a> {
     }
 
     fn lent(&self, node: u32, addr: u64, len: u64) -> Option<&[u8]> {
-        self.course().counter.count_load();
         self.at(node).memory().lent(addr, len)
     }
 

@@ -3,26 +3,26 @@
 use crate::group::Group;
 use std::cell::Cell;
 
-/// How many events a group has replayed since it began, those that it replayed again included, and how often a
-/// part of a memory was asked of it. Each count begins again after 2^64 - 1.
+/// How many events a group has replayed since it began, those that it replayed again included, and how often an
+/// expression read something of one of its nodes. Each count begins again after 2^64 - 1.
 #[derive(Clone, Copy)]
 pub struct Work {
     pub events: u64,
-    pub loads: u64,
+    pub reads: u64,
 }
 
 /// Counts what a group does.
 #[derive(Drop)]
 pub(crate) struct Counter {
     events: u64,
-    loads: Cell<u64>,
+    reads: Cell<u64>,
 }
 
 impl Counter {
     pub(crate) fn new() -> Counter {
         Counter {
             events: 0,
-            loads: Cell::new(0),
+            reads: Cell::new(0),
         }
     }
 
@@ -30,8 +30,8 @@ impl Counter {
         self.events = self.events.wrapping_add(1);
     }
 
-    pub(crate) fn count_load(&self) {
-        self.loads.set(self.loads.get().wrapping_add(1));
+    pub(crate) fn count_read(&self) {
+        self.reads.set(self.reads.get().wrapping_add(1));
     }
 }
 
@@ -41,7 +41,7 @@ impl<'m, 'a> Group<'m, 'a> {
         let counter = &self.course().counter;
         Work {
             events: counter.events,
-            loads: counter.loads.get(),
+            reads: counter.reads.get(),
         }
     }
 }

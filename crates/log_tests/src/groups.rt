@@ -1,19 +1,13 @@
 // A group that goes forwards and backwards over the logs of a ring.
-ghost use Rattle.std.specs.Prelude.{IfOk, List};
-ghost use Rattle.log_pairs.specs.Pairs.{Loaded as LoadedOf};
-ghost use Rattle.log_pairs.specs.Meanings.{AreLoadedPairs, AreOneGroup};
-
 use crate::recorded::{begin, load, record, shared};
 use fri_outside::MemFiles;
 use fri_text::Text;
 use group_state::Group;
 use guest_module::SharedModule;
-use lib_calls::memory_bytes;
-use log_pairs::{Loaded, Pair};
+use log_pairs::Pair;
 use std::alloc::{AllocError, Global};
 use std::process::Abort;
 use std::test::Fail;
-use watch_expr::View;
 
 // Each process of the ring takes a datagram, counts it at 64 and at 1024, and sends what is at 64 to the next.
 const RING: &[u8] = b"\0asm\x01\0\0\0\x01\x0f\x03`\0\x01\x7f`\x03\x7f\x7f\x7f\x01\x7f`\0\0\
@@ -99,156 +93,59 @@ fn files(rt: &(impl Abort + AllocGlobal)) -> Result<MemFiles, Fail> {
     Ok(files)
 }
 
-// What was recorded of the ring.
-fn recorded(rt: &(impl Abort + AllocGlobal)) -> Result<Vec<Loaded<'static>>, Fail>
-    ensures loaded { IfOk result (λ all. (ls : List LoadedOf) × AreLoadedPairs all.items ls) }
-    ensures apart { IfOk result (λ all. AreOneGroup all.items) }
-{
-    let mut files = files(rt)?;
-    load(rt.alloc(), PAIRS, &mut files)
-}
-
-// The bytes of all memories.
-fn memories(alloc: Global, group: &Group<'_, '_>) -> Result<Vec<u8>, Fail> {
-    let mut all = Vec::new(alloc);
-    for node in 0..group.nodes() {
-        let process = group.process(node).ok_or("no process")?;
-        all.extend_from_slice(memory_bytes(alloc, process.memory())?.as_slice())?;
-    }
-    Ok(all)
-}
-
-// A position to go to, whether it is there, and how many events are replayed on the way.
-type Way = (u64, bool, u64);
+// A position to go to, where the group is then, and how many events are replayed on the way.
+type Way = (u64, u64, u64);
 
 // Checkpoints come at 256 and its multiples up to 1,792. At 2,048 there would be nine, and from there on they are 512
-// apart.
+// apart. The events are 4,009; the way to a position past them leads to the last one, and back.
 const WAYS: &[Way] = &[
-    (3000, true, 3000),
-    (2999, true, 439),
-    (1, true, 1),
-    (3000, true, 440),
-    (2560, true, 0),
-    (2561, true, 1),
-    (2559, true, 511),
-    (1792, true, 256),
-    (5000, false, 1449 + 256),
-    (4009, true, 425),
-    (4010, false, 0),
+    (3000, 3000, 3000),
+    (2999, 2999, 439),
+    (1, 1, 1),
+    (3000, 3000, 440),
+    (2560, 2560, 0),
+    (2561, 2561, 1),
+    (2559, 2559, 511),
+    (1792, 1792, 256),
+    (5000, 1792, 1449 + 256),
+    (4009, 4009, 425),
+    (4010, 4009, 0),
 ];
 
-// What a group shows after it went a way: whether the position is there, where the group is, how many events it has
-// replayed since it began, and the bytes of all memories.
-#[derive(Drop)]
-struct Arrival {
-    way: Way,
-    there: bool,
-    position: u64,
-    events: u64,
-    memories: Vec<u8>,
+// Where the group is, and how many events it has replayed since it began.
+fn shown(group: &Group<'_, '_>) -> (u64, u64) {
+    (group.position(), group.work().events)
 }
 
-fn arrival_of(
-    alloc: Global,
-    group: &Group<'_, '_>,
-    way: Way,
-    there: bool,
-) -> Result<Arrival, Fail> {
-    let position = group.position();
-    let events = group.work().events;
-    let memories = memories(alloc, group)?;
-    Ok(Arrival {
-        way,
-        there,
-        position,
-        events,
-        memories,
-    })
-}
-
-// The group after it went this way.
+// The group after it went to a position.
 fn go<'m>(
     alloc: Global,
     group: Group<'m, 'm>,
-    way: Way,
-    arrivals: &mut Vec<Arrival>,
-) -> Result<Group<'m, 'm>, Fail> {
-    let (group, there) = group.goto(alloc, way.0)?;
-    arrivals.push(arrival_of(alloc, &group, way, there)?)?;
+    target: u64,
+    ways: &mut Vec<Way>,
+) -> Result<Group<'m, 'm>, AllocError> {
+    let (_, before) = shown(&group);
+    let (group, _) = group.goto(alloc, target)?;
+    let (position, events) = shown(&group);
+    ways.push((target, position, events.wrapping_sub(before)))?;
     Ok(group)
 }
 
-// What the group shows after each of the ways.
-fn arrivals_of<'m>(alloc: Global, group: Group<'m, 'm>) -> Result<Vec<Arrival>, Fail> {
-    let mut arrivals = Vec::new(alloc);
+// The ways of a group that goes to each of the positions.
+fn ways_of<'m>(alloc: Global, group: Group<'m, 'm>) -> Result<Vec<Way>, AllocError> {
+    let mut ways = Vec::new(alloc);
     let mut group = group;
-    for way in WAYS {
-        group = go(alloc, group, *way, &mut arrivals)?;
+    for (target, _, _) in WAYS {
+        group = go(alloc, group, *target, &mut ways)?;
     }
-    Ok(arrivals)
-}
-
-// What a group shows that goes to the position from the beginning.
-fn straight_to(alloc: Global, all: &[Loaded<'_>], position: u64) -> Result<Arrival, Fail>
-    requires loaded { (ls : List LoadedOf) × AreLoadedPairs all.now ls }
-    requires apart { AreOneGroup all.now }
-{
-    let (group, there) = begin(alloc, all)?.goto(alloc, position)?;
-    arrival_of(alloc, &group, (position, true, position), there)
-}
-
-// The group came from the position `at`, and had replayed so many events.
-fn assert_went(rt: &impl Abort, arrival: &Arrival, at: u64, events: u64) {
-    let Arrival {
-        way,
-        there,
-        position,
-        ..
-    } = arrival;
-    assert_eq!(rt; *there, way.1);
-    assert_eq!(rt; *position, if *there { way.0 } else { at });
-    assert_eq!(rt; arrival.events.wrapping_sub(events), way.2);
-}
-
-// The group reached the same memories as one that goes there from the beginning.
-fn assert_straight(rt: &impl Abort, arrival: &Arrival, straight: &Arrival) {
-    assert_eq!(rt; straight.position, arrival.position);
-    assert!(rt; straight.memories == arrival.memories);
+    Ok(ways)
 }
 
 #[test]
 fn a_group_goes_back_from_its_checkpoints(rt: HostRuntime) -> Result<(), Fail> {
-    let all = recorded(&rt)?;
-    let arrivals = arrivals_of(rt.alloc(), begin(rt.alloc(), &all)?)?;
-    let mut at = 0;
-    let mut events = 0;
-    for arrival in &arrivals {
-        assert_went(&rt, arrival, at, events);
-        assert_straight(
-            &rt,
-            arrival,
-            &straight_to(rt.alloc(), &all, arrival.position)?,
-        );
-        at = arrival.position;
-        events = arrival.events;
-    }
-    assert_eq!(rt; arrivals.len(), WAYS.len());
-    Ok(())
-}
-
-// Whether a part of a memory was lent, and how often one was asked for by then.
-fn asked_once(group: &Group<'_, '_>) -> (bool, u64) {
-    if group.node_count() == 0 {
-        return (false, 0);
-    }
-    let lent = group.lent(0, 64, 8).is_some();
-    (lent, group.work().loads)
-}
-
-#[test]
-fn parts_that_are_asked_for_are_counted(rt: HostRuntime) -> Result<(), Fail> {
-    let all = recorded(&rt)?;
-    let asked = asked_once(&begin(rt.alloc(), &all)?);
-    assert_eq!(rt; asked, (true, 1));
+    let mut files = files(&rt)?;
+    let all = load(rt.alloc(), PAIRS, &mut files)?;
+    let ways = ways_of(rt.alloc(), begin(rt.alloc(), &all)?)?;
+    assert_eq!(rt; ways.as_slice(), WAYS);
     Ok(())
 }
