@@ -1,7 +1,5 @@
-// Spellings of numbers from the WebAssembly standard and from LEB128's usual examples, and numbers of fixed
-// widths.
-use fri_bytes::{Bytes, Cursor, put_byte, put_bytes, put_u16, put_u32, put_u64};
-use std::test::Fail;
+// Spellings of numbers from the WebAssembly standard and from LEB128's usual examples.
+use fri_bytes::Cursor;
 
 // Bytes, and the number that they spell: without a sign, with one in 32 bits, and with one in 64.
 const SPELLINGS: &[(&[u8], Option<u32>, Option<i32>, Option<i64>)] = &[
@@ -102,9 +100,6 @@ const SPELLINGS: &[(&[u8], Option<u32>, Option<i32>, Option<i64>)] = &[
     (b"\x80\x80\x80\x80\x80\x80\x80\x80\x80", None, None, None),
 ];
 
-// A number of 2 bytes, of 4, of 8 and of 1, and three bytes.
-const NUMBERS: &[u8] = b"\x0b\x0a\x14\0\0\0\x08\x07\x06\x05\x04\x03\x02\x01\x05end";
-
 #[test]
 fn numbers_are_read_in_leb128(rt: HostRuntime) {
     for &(bytes, unsigned, signed, wide) in SPELLINGS {
@@ -112,34 +107,4 @@ fn numbers_are_read_in_leb128(rt: HostRuntime) {
         assert_eq!(rt; Cursor::new(bytes).leb_s32(), signed, "of {bytes:?}");
         assert_eq!(rt; Cursor::new(bytes).leb_s64(), wide, "of {bytes:?}");
     }
-}
-
-#[test]
-fn numbers_are_put(rt: HostRuntime) -> Result<(), Fail> {
-    let mut out = Vec::new(rt.alloc());
-    put_u16(&mut out, 0x0a0b)?;
-    put_u32(&mut out, 20)?;
-    put_u64(&mut out, 0x0102_0304_0506_0708)?;
-    put_byte(&mut out, 5)?;
-    put_bytes(&mut out, b"end")?;
-    assert_eq!(rt; out.as_slice(), NUMBERS);
-    Ok(())
-}
-
-#[test]
-fn numbers_are_read(rt: HostRuntime) {
-    let mut cursor = Cursor::new(NUMBERS);
-    assert_eq!(rt; cursor.u16_le(), Some(0x0a0b));
-    assert_eq!(rt; cursor.u32_le(), Some(20));
-    assert_eq!(rt; cursor.u64_le(), Some(0x0102_0304_0506_0708));
-    assert_eq!(rt; cursor.byte(), Some(5));
-    assert_eq!(rt; cursor.rest(), b"end".as_slice());
-}
-
-#[test]
-fn lists_of_bytes_grow(rt: HostRuntime) -> Result<(), Fail> {
-    let mut bytes = Bytes::new(rt.alloc());
-    bytes.push_all(b"log")?;
-    assert_eq!(rt; bytes, Bytes::from_slice(rt.alloc(), b"log")?);
-    Ok(())
 }

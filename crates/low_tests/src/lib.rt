@@ -1,13 +1,11 @@
-//! Tests of the lower crates through their public calls: bytes, the outside, tags, datagrams and streams, the order of events,
-//! threads and signals, and memories. They lie in a crate of their own, since a crate with tests is proved twice.
+//! Tests of the lower crates through their public calls: spellings of numbers, the outside, datagrams, streams and memories.
+//! They lie in a crate of their own, since a crate with tests is proved twice.
 //!
-//! Each file is about one of these: spellings of numbers with known values, objects of the outside with a call that fails,
-//! datagrams that are delivered twice, a stream that is read in part, and a memory beside a plain list of bytes. Nothing else
-//! is in this crate.
+//! They are about what no stored run shows: numbers that the standard spells, each object of the outside with a call that
+//! fails, datagrams to their own sender, a stream that is read in part, pages that a write stamps, and datagrams and snapshots
+//! of which copies would not fit into memory. Nothing else is in this crate.
 #![tactic(auto)]
 
-#[cfg(test)]
-mod beside;
 #[cfg(test)]
 mod bytes;
 #[cfg(test)]
@@ -15,10 +13,6 @@ mod datagrams;
 #[cfg(test)]
 mod memories;
 #[cfg(test)]
-mod order;
-#[cfg(test)]
 mod outside;
-#[cfg(test)]
-mod states;
 #[cfg(test)]
 mod streams;

@@ -1,38 +1,7 @@
-// Memories: their bytes, their snapshots and their stamps.
+// The stamps of a memory, and its snapshots.
 use guest_memory::Memory;
 use std::alloc::{AllocError, Global};
 use std::test::Fail;
-
-#[test]
-fn memories_end_with_their_last_byte(rt: HostRuntime) -> Result<(), Fail> {
-    let mut memory = Memory::new(rt.alloc(), 1, 1)?;
-    assert!(rt; memory.store(65_534, 2, 0x0102)?);
-    assert!(rt; !memory.store(65_535, 2, 0x0304)?);
-    assert_eq!(rt; memory.load(65_534, 2), Some(0x0102));
-    assert_eq!(rt; memory.load(65_535, 2), None);
-    Ok(())
-}
-
-#[test]
-fn a_memory_is_lent_in_parts(rt: HostRuntime) -> Result<(), Fail> {
-    let mut memory = Memory::new(rt.alloc(), 1, 1)?;
-    assert!(rt; memory.write(4094, b"debug")?);
-    // A part ends with its page of 4,096 bytes.
-    assert_eq!(rt; memory.lent(4094, 5), Some(b"de".as_slice()));
-    assert_eq!(rt; memory.lent(4096, 3), Some(b"bug".as_slice()));
-    Ok(())
-}
-
-#[test]
-fn a_snapshot_grows_by_itself(rt: HostRuntime) -> Result<(), Fail> {
-    let memory = Memory::new(rt.alloc(), 1, 2)?;
-    let mut copy = memory.snapshot()?;
-    assert_eq!(rt; copy.grow(2)?, None);
-    assert_eq!(rt; copy.grow(1)?, Some(1));
-    assert_eq!(rt; copy.size(), 2);
-    assert_eq!(rt; memory.size(), 1);
-    Ok(())
-}
 
 #[test]
 fn a_write_stamps_each_page_that_it_touches(rt: HostRuntime) -> Result<(), Fail> {

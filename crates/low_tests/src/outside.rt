@@ -1,18 +1,10 @@
-// Each object of the outside through its trait, with a call that fails.
+// Each object of the outside through its trait, with a call that fails. `real_cases` tries what commands do with real files.
 use fri_outside::{
     Console, FileError, Files, MemFiles, MemSink, MemSource, MemTerminal, ReaderSource, RealFiles,
     Sink, Source, Terminal, WriteError, WriterSink, write_whole,
 };
 use std::alloc::Global;
-use std::fs;
-use std::os::unix::fs::symlink;
 use std::test::Fail;
-
-const FOLDER: &str = "low_tests_folder";
-
-const NAME: &str = "low_tests_folder/a";
-
-const REPLACED: &str = "low_tests_replaced";
 
 // What is in a file, or why it was not read.
 fn text_of<F: Files>(files: &mut F, alloc: Global, name: &str) -> Result<Vec<u8>, FileError> {
@@ -112,55 +104,10 @@ fn a_console(rt: HostRuntime) -> Result<(), Fail> {
     Ok(())
 }
 
+// No command adds to a file that it did not make.
 #[test]
-fn real_files(rt: HostRuntime) -> Result<(), Fail> {
-    let _ = fs::remove_dir_all(&rt, FOLDER);
-    fs::create_dir(&rt, FOLDER)?;
+fn a_folder_takes_no_bytes(rt: HostRuntime) {
     let mut files = RealFiles::new(rt.alloc(), &rt);
-    let made = make(&mut files, NAME, b"abc", b"de");
-    let bytes = text_of(&mut files, rt.alloc(), NAME);
-    assert!(rt; !files.close().is_lost());
-    fs::remove_dir_all(&rt, FOLDER)?;
-    made?;
-    assert_eq!(rt; bytes?.as_slice(), b"abcde".as_slice());
-    Ok(())
-}
-
-// A file behind a link is replaced, and the link stays. Where nothing can be made beside a file, that file stands.
-#[test]
-fn real_files_are_replaced(rt: HostRuntime) -> Result<(), Fail> {
-    let _ = fs::remove_dir_all(&rt, REPLACED);
-    fs::create_dir(&rt, REPLACED)?;
-    fs::write(&rt, "low_tests_replaced/a", "old")?;
-    fs::write(&rt, "low_tests_replaced/b", "old")?;
-    symlink(&rt, "a", "low_tests_replaced/link")?;
-    fs::create_dir(&rt, "low_tests_replaced/b.friday-new")?;
-    let mut files = RealFiles::new(rt.alloc(), &rt);
-    let replaced = files.replace("low_tests_replaced/link", b"new");
-    let refused = files.replace("low_tests_replaced/b", b"new");
-    let first = text_of(&mut files, rt.alloc(), "low_tests_replaced/a");
-    let second = text_of(&mut files, rt.alloc(), "low_tests_replaced/b");
-    assert!(rt; !files.close().is_lost());
-    let link = fs::symlink_metadata(&rt, "low_tests_replaced/link")?;
-    let is_left = fs::exists(&rt, "low_tests_replaced/a.friday-new")?;
-    fs::remove_dir_all(&rt, REPLACED)?;
-    replaced?;
-    assert_eq!(rt; refused, Err(WriteError::Failed));
-    assert_eq!(rt; first?.as_slice(), b"new".as_slice());
-    assert_eq!(rt; second?.as_slice(), b"old".as_slice());
-    assert!(rt; link.is_symlink() && !is_left);
-    Ok(())
-}
-
-// A folder is no file, and it is not absent.
-#[test]
-fn folders_are_no_files(rt: HostRuntime) {
-    let mut files = RealFiles::new(rt.alloc(), &rt);
-    assert_eq!(rt;
-        text_of(&mut files, rt.alloc(), "/").err(),
-        Some(FileError::Failed)
-    );
-    assert_eq!(rt; files.create("/"), Err(WriteError::Failed));
     assert_eq!(rt; files.append("/", b"a"), Err(WriteError::Failed));
     assert!(rt; !files.close().is_lost());
 }

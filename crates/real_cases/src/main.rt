@@ -144,6 +144,15 @@ fn rewrite<R: Files + Print + AllocGlobal>(rt: &R) -> io::Result<()> {
     play(rt, "migrate ping.log none/new.log", "")
 }
 
+// A file stays if nothing can be made beside it, and a folder takes no file's place.
+fn stay<R: Files + Print + AllocGlobal>(rt: &R) -> io::Result<()> {
+    fs::write(rt, "kept", "old")?;
+    fs::create_dir(rt, "kept.friday-new")?;
+    play(rt, "migrate ping.log kept", "")?;
+    show(rt, "kept")?;
+    play(rt, "migrate ping.log kept.friday-new", "")
+}
+
 fn fill<R: Files + Print + AllocGlobal>(rt: &R) -> io::Result<()> {
     play_unheard(rt, "replay ping.wasm ping.log")?;
     play_unheard(rt, "debug ping.wasm ping.log")?;
@@ -160,5 +169,6 @@ fn main(rt: HostRuntime) -> io::Result<()> {
     play_on(&rt)?;
     refuse(&rt)?;
     rewrite(&rt)?;
+    stay(&rt)?;
     fill(&rt)
 }

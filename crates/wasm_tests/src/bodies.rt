@@ -1,7 +1,7 @@
 // Instructions that are decoded, as the body of a module's one function.
 use std::alloc::{AllocError, Global};
 use std::test::Fail;
-use wasm_decode::{DecodeError, decode};
+use wasm_decode::decode;
 
 // A module of one function up to its code section.
 const FRONT: &[u8] = b"\0asm\x01\0\0\0\x01\x04\x01`\0\0\x03\x02\x01\0\x0a";
@@ -107,26 +107,5 @@ fn instructions_are_decoded(rt: HostRuntime) -> Result<(), Fail> {
         let text = body_text(rt.alloc(), instrs)?;
         assert_eq!(rt; text.as_str(), want, "{instrs:?}");
     }
-    Ok(())
-}
-
-// A module with so many blocks, each in the one before.
-fn nested(alloc: Global, depth: usize) -> Result<Vec<u8>, AllocError> {
-    let mut instrs = b"\x02\x40".repeat(alloc, depth)?;
-    let ends = b"\x0b".repeat(alloc, depth)?;
-    instrs.extend_from_slice(&ends)?;
-    with_body(alloc, &instrs)
-}
-
-// Such blocks are decoded, compared and dropped by recursion.
-#[test]
-fn blocks_nest_a_thousand_deep(rt: HostRuntime) -> Result<(), Fail> {
-    let deepest = nested(rt.alloc(), 1000)?;
-    let first = decode(rt.alloc(), &deepest)?;
-    let second = decode(rt.alloc(), &deepest)?;
-    assert!(rt; first == second);
-    let deeper = nested(rt.alloc(), 1001)?;
-    let refused = decode(rt.alloc(), &deeper).err();
-    assert_eq!(rt; refused, Some(DecodeError::Malformed));
     Ok(())
 }
