@@ -49,6 +49,13 @@ impl Text {
         self.bytes
     }
 
+    /// Takes all bytes out. Their room is kept.
+    pub fn clear(&mut self)
+        ensures { self.new ≡ [] }
+    {
+        self.bytes.clear();
+    }
+
     /// Adds the text.
     pub fn push_str(&mut self, s: &str) -> Result<(), AllocError>
         ensures ok { OnOk result (self.new ≡ self.old ++ s.now) }
