@@ -1,3 +1,2 @@
 -- What no public contract cites.
 pub mod Reader
-pub mod Saying

@@ -107,8 +107,8 @@ fn answer<S: LineSession, K: Sink>(
     ensures counted { K.faults out.new ≡ failed_says_of_session (K.faults out.old) result }
     ensures heard { K.hearing out.new ≡ K.hearing out.old }
 {
-    let (session, said, goes) = session.answer_line(alloc, line)?;
-    write_whole(out, said.bytes())?;
+    let (session, goes) = session.answer_line(alloc, line)?;
+    write_whole(out, session.said())?;
     match goes {
         Go::On => Ok(session),
         Go::Quit => Err(Ended::Done),

@@ -1,5 +1,5 @@
 -- What the shell answers, as a conversation sees it.
-use Rattle.std.proofs.Common.{◌≡◌, ◌∙◌, ℕ, List, subst}
+use Rattle.std.proofs.Common.{◌≡◌, ℕ, List, subst}
 use Rattle.friday_shell.specs.Answer.{answer}
 use Rattle.friday_shell.specs.Meanings.{IsLineAnswer}
 use Rattle.friday_shell.specs.Points.{SessionState}
@@ -7,9 +7,9 @@ use Rattle.conversation.specs.declared.session.Go.{Go}
 use Rattle.conversation.specs.Talker.{AnswersSo}
 use Rattle.debug_command.specs.Debug.{shell_answer}
 
-here : (state : SessionState) (line : List ℕ) (new : SessionState) (text told : List ℕ) (goes : Go) → told ≡ text → IsLineAnswer (answer state line) new text goes → AnswersSo (shell_answer state line) (λ after. new ≡ after) told goes
-here state line new text told goes same said = record { text_is = same ∙ said.text_is; stands_in = said.state; quits_is = said.quits }
+here : (state : SessionState) (line : List ℕ) (new : SessionState) (text : List ℕ) (goes : Go) → IsLineAnswer (answer state line) new text goes → AnswersSo (shell_answer state line) (λ after. new ≡ after) text goes
+here state line new text goes said = record { text_is = said.text; stands_in = said.state; quits_is = said.quits }
 
-pub shell_answers : (old : SessionState) (line : List ℕ) (new : SessionState) (text told : List ℕ) (goes : Go) → told ≡ text → IsLineAnswer (answer old line) new text goes
-    → (state : SessionState) → old ≡ state → AnswersSo (shell_answer state line) (λ after. new ≡ after) told goes
-shell_answers old line new text told goes same said state is = subst (λ (s : SessionState). AnswersSo (shell_answer s line) (λ after. new ≡ after) told goes) is (here old line new text told goes same said)
+pub shell_answers : (old : SessionState) (line : List ℕ) (new : SessionState) (text : List ℕ) (goes : Go) → IsLineAnswer (answer old line) new text goes
+    → (state : SessionState) → old ≡ state → AnswersSo (shell_answer state line) (λ after. new ≡ after) text goes
+shell_answers old line new text goes said state is = subst (λ (s : SessionState). AnswersSo (shell_answer s line) (λ after. new ≡ after) text goes) is (here old line new text goes said)

@@ -8,7 +8,7 @@ ghost use Rattle.debug_command.specs.Debug.{shell_answer, shell_talker};
 
 use command_run::Status;
 use conversation::laws::ends_unbegun;
-use conversation::{Go, LineSession, Saying, converse};
+use conversation::{Go, LineSession, converse};
 use fri_outside::Terminal;
 use fri_text::Text;
 use friday_shell::Session;
@@ -18,11 +18,12 @@ use std::alloc::{AllocError, Global};
 use std::sync::ledger::{Blank, Ledger};
 use watch_expr::Steps;
 
-// A session of the shell, with the counter of the evaluations of watchpoints.
+// A session of the shell, with the counter of the evaluations of watchpoints, and what it answered last.
 #[derive(Drop)]
 struct Debugger<'m, 'a, L: Ledger> {
     session: Session<'m, 'a>,
     steps: Steps<L>,
+    said: Text,
 }
 
 impl<'m, 'a, L: Ledger> LineSession for Debugger<'m, 'a, L> {
@@ -32,10 +33,25 @@ impl<'m, 'a, L: Ledger> LineSession for Debugger<'m, 'a, L> {
 
     ghost stands = { λ debugger state. debugger.session ≡ state };
 
-    fn answer_line(self, alloc: Global, line: &[u8]) -> Result<(Self, Saying, Go), AllocError> {
-        let Debugger { session, mut steps } = self;
-        let (session, text, goes) = session.answer_line(alloc, line, &mut steps)?;
-        Ok((Debugger { session, steps }, Saying::made(text), goes))
+    ghost text = { λ debugger. debugger.said };
+
+    fn answer_line(self, alloc: Global, line: &[u8]) -> Result<(Self, Go), AllocError> {
+        let Debugger {
+            session,
+            mut steps,
+            said: _,
+        } = self;
+        let (session, said, goes) = session.answer_line(alloc, line, &mut steps)?;
+        let debugger = Debugger {
+            session,
+            steps,
+            said,
+        };
+        Ok((debugger, goes))
+    }
+
+    fn said(&self) -> &[u8] {
+        self.said.bytes()
     }
 }
 
@@ -55,7 +71,12 @@ fn begin<'m, 'a, L: Ledger>(
     let steps = Steps::new(blank);
     let group = Group::begin(alloc, replayers)?;
     let (session, opening) = Session::begin(alloc, group)?;
-    Ok((Debugger { session, steps }, opening))
+    let debugger = Debugger {
+        session,
+        steps,
+        said: Text::new(alloc),
+    };
+    Ok((debugger, opening))
 }
 
 /// Answers each whole line of the input before it asks for more, and ends after a line that ends the session, or

@@ -18,8 +18,9 @@ use Rattle.play_lines.specs.declared.refusal.PlayRefusal.TheVariants as refusal
 use Rattle.play_command.specs.Play.{PlayState, counts_line, full_line, played_text, items_so_far, plays_item, process_of_item, refuses_play, played_run, step_lines, steps_since, with_played}
 use Rattle.play_command.specs.declared.live_play.Play.{Play}
 use Rattle.play_command.specs.declared.told.Told.{Told}
-use Rattle.play_command.specs.inside.Answers.{AnswersOnce, StandsInPlay}
+use Rattle.play_command.specs.inside.Answers.{AnswersOnce, StandsInPlay, StaysAndSays}
 use Rattle.play_command.specs.inside.Playing.{GoesOnBy, IsPlaying, WentOn, told_if}
+use Rattle.play_command.specs.inside.Said.{said_of}
 use Rattle.play_command.proofs.CountRoom.{tries_more}
 use Rattle.play_command.proofs.ItemsDone.{items_more}
 use Rattle.play_command.proofs.Reached.{none_of, still_under_way}
@@ -47,19 +48,19 @@ over n m is = grind (arith, nat_tests)
 within : (n m : ℕ) → m ≤ n → nat_lt n m ≡ false
 within n m is = grind (arith, nat_tests)
 
-pub refuses_many : (old : Play) (i : Item) (tries_then : ℕ) (text : List ℕ) → tries_then ≡ old.tries + tries i → most_runs < tries_then → text ≡ play_refusal_line refusal.TooManyTries → AnswersOnce old (λ state. plays_item state i) old text
-refuses_many old i tries_then text is many said state s =
+pub refuses_many : (old new : Play) (i : Item) (tries_then : ℕ) → tries_then ≡ old.tries + tries i → most_runs < tries_then → StaysAndSays old (play_refusal_line refusal.TooManyTries) new → AnswersOnce old (λ state. plays_item state i) new (said_of new)
+refuses_many old new i tries_then is many stays state s =
     let more = counted_more state i in
     let here : nat_lt most_runs (run_count (items_so_far (with_played state i))) ≡ true = over _ _ (omega (arith, is, many, more, s.tries)) in
-    subst (λ (many : Bool). AnswersIn old text (plays_as many (is_some (played_run state).full) state i)) (sym here) (said, refl, s)
+    subst (λ (many : Bool). AnswersIn new (said_of new) (plays_as many (is_some (played_run state).full) state i)) (sym here) (stays.1, refl, stays.0 state s)
 
 few_yet : (old : Play) (i : Item) (tries_then : ℕ) (state : PlayState) → tries_then ≡ old.tries + tries i → tries_then ≤ most_runs → StandsInPlay old state → nat_lt most_runs (run_count (items_so_far (with_played state i))) ≡ false
 few_yet old i tries_then state is few s = let more = counted_more state i in within _ _ (omega (arith, is, few, more, s.tries))
 
-pub refuses_full : (old : Play) (i : Item) (tries_then : ℕ) (text : List ℕ) → tries_then ≡ old.tries + tries i → tries_then ≤ most_runs → old.full ≡ true → text ≡ play_refusal_line refusal.Full → AnswersOnce old (λ state. plays_item state i) old text
-refuses_full old i tries_then text is few full said state s =
-    subst (λ (many : Bool). AnswersIn old text (plays_as many (is_some (played_run state).full) state i)) (sym (few_yet old i tries_then state is few s))
-    (subst (λ (full : Bool). AnswersIn old text (plays_as false full state i)) (sym full ∙ s.full) (said, refl, s))
+pub refuses_full : (old new : Play) (i : Item) (tries_then : ℕ) → tries_then ≡ old.tries + tries i → tries_then ≤ most_runs → old.full ≡ true → StaysAndSays old (play_refusal_line refusal.Full) new → AnswersOnce old (λ state. plays_item state i) new (said_of new)
+refuses_full old new i tries_then is few full stays state s =
+    subst (λ (many : Bool). AnswersIn new (said_of new) (plays_as many (is_some (played_run state).full) state i)) (sym (few_yet old i tries_then state is few s))
+    (subst (λ (full : Bool). AnswersIn new (said_of new) (plays_as false full state i)) (sym full ∙ s.full) (stays.1, refl, stays.0 state s))
 
 -- ---- what is told of it
 

@@ -10,3 +10,4 @@ pub mod ItemAnswers
 pub mod PlayedIsRecorded
 pub mod GatheredPlay
 pub mod OutcomeIsWork
+pub mod SaidLast

@@ -3,3 +3,4 @@ pub mod Counts
 pub mod Playing
 pub mod Shown
 pub mod Answers
+pub mod Said

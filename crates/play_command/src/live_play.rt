@@ -3,12 +3,14 @@ ghost use Rattle.std.specs.Prelude.{map};
 ghost use Rattle.wasm_types.specs.Modules.{module_of};
 ghost use Rattle.play_command.specs.inside.Playing.{IsPlaying};
 
+use crate::told::Told;
 use fri_bytes::Bytes;
 use group_record::LiveGroup;
 use guest_module::SharedModule;
 use schedule_text::Schedule;
 
-/// A group that goes on by the items so far, how often these try, and whether a log is full.
+/// A group that goes on by the items so far, how often these try, whether a log is full, and what was said last: `usual`, or
+/// else the text of `told`.
 #[derive(Drop)]
 pub(crate) struct Play<'m> {
     pub(crate) schedule: &'m Schedule,
@@ -17,6 +19,8 @@ pub(crate) struct Play<'m> {
     pub(crate) live: LiveGroup<'m>,
     pub(crate) tries: u64,
     pub(crate) full: bool,
+    pub(crate) told: Told,
+    pub(crate) usual: Option<&'static str>,
 }
 
 /// A play whose group stands in a run.

@@ -1,14 +1,16 @@
 // What each line does to a play, and answers.
-ghost use Rattle.std.specs.Prelude.{◌≡◌, ◌≤◌, ◌+◌, ◌++◌, IfOk, IfSome, OnOk, false, length, map, if◌then◌else◌};
+ghost use Rattle.std.specs.Prelude.{◌≡◌, ◌≤◌, ◌+◌, ◌++◌, IfOk, IfSome, None, OnOk, false, length, map, if◌then◌else◌};
 ghost use Rattle.wasm_types.specs.Modules.{module_of};
 ghost use Rattle.schedule_text.specs.Limits.{most_runs};
 ghost use Rattle.schedule_text.specs.Schedule.{IsInRange, run_count, tries as tries_of_item};
 ghost use Rattle.group_record.specs.Answer.{first_states, names_of};
 ghost use Rattle.play_lines.specs.Lines.{Again};
+ghost use Rattle.play_lines.specs.Refusals.{play_refusal_line};
 ghost use Rattle.play_lines.specs.Spelled.{player_command};
 ghost use Rattle.play_command.specs.Play.{command_in_play, counts_line, full_line, plays_item, process_of_item};
-ghost use Rattle.play_command.specs.inside.Answers.{AnswersOnce, AnswersPlay, OpensPlay};
+ghost use Rattle.play_command.specs.inside.Answers.{AnswersOnce, AnswersPlay, OpensPlay, StaysAndSays};
 ghost use Rattle.play_command.specs.inside.Playing.{IsPlaying};
+ghost use Rattle.play_command.specs.inside.Said.{said_by, said_of};
 ghost use Rattle.play_command.specs.inside.Shown.{Shows};
 
 use crate::going::{perform, perform_all};
@@ -17,7 +19,7 @@ use crate::shown::{
     show_datagram, show_memory, show_printed, show_processes, show_threads, show_value,
 };
 use crate::told::Told;
-use conversation::{Go, LineSession, Saying};
+use conversation::{Go, LineSession};
 use fri_bytes::Bytes;
 use fri_text::Text;
 use group_record::{LiveGroup, RecordError};
@@ -53,12 +55,14 @@ impl<'m> Playing<'m> {
             live,
             tries: tries_of(schedule.items()),
             full: false,
+            told,
+            usual: None,
         };
         let play = Box::new(alloc, play)?;
         Ok((Playing { play }, text))
     }
 
-    // The same play with the items of the file alone.
+    // The same play with the items of the file alone, and the line with which it begins.
     fn again(self, alloc: Global) -> Result<(Playing<'m>, Text), AllocError>
         ensures { IfOk result (λ said. AnswersOnce self.entry.play.value (λ state. command_in_play state Again) said.0.play.value said.1) }
     {
@@ -69,59 +73,85 @@ impl<'m> Playing<'m> {
         }
     }
 
+    // The same play, which says this. Apart, as what follows, so that items pay nothing for it.
+    #[inline(never)]
+    #[tactic(auto, using(crate::proofs::SaidLast::says))]
+    fn saying(self, text: Text) -> Playing<'m>
+        ensures { StaysAndSays self.entry.play.value text result.play.value }
+    {
+        let Playing { mut play } = self;
+        play.say(text);
+        Playing { play }
+    }
+
+    // The same play, which says why a line is refused.
+    #[inline(never)]
+    fn refusing(self, alloc: Global, why: PlayRefusal) -> Result<Playing<'m>, AllocError>
+        ensures { IfOk result (λ playing. StaysAndSays self.entry.play.value (play_refusal_line why) playing.play.value) }
+    {
+        let text = refused_play(alloc, why)?;
+        Ok(self.saying(text))
+    }
+
     // Does an item, unless there would be too many tries, or a log was full before.
-    fn play_item(self, alloc: Global, item: &Item) -> Result<(Playing<'m>, Saying), AllocError>
+    fn play_item(self, alloc: Global, item: &Item) -> Result<Playing<'m>, AllocError>
         requires { IsInRange (length self.play.value.names.items) item.now }
-        ensures { IfOk result (λ said. AnswersOnce self.entry.play.value (λ state. plays_item state item.now) said.0.play.value said.1) }
+        ensures { IfOk result (λ playing. AnswersOnce self.entry.play.value (λ state. plays_item state item.now) playing.play.value (said_of playing.play.value)) }
     {
         let tries = self.play.tries + item.tries();
         if tries > MOST_RUNS {
-            let text = refused_play(alloc, PlayRefusal::TooManyTries)?;
-            return Ok((self, Saying::made(text)));
+            return self.refusing(alloc, PlayRefusal::TooManyTries);
         }
         if self.play.full {
-            let text = refused_play(alloc, PlayRefusal::Full)?;
-            return Ok((self, Saying::made(text)));
+            return self.refusing(alloc, PlayRefusal::Full);
         }
-        self.do_item(alloc, item, tries)
+        self.do_item(item, tries)
     }
 
     // Does an item, with which there are so many tries.
-    fn do_item(
-        self,
-        alloc: Global,
-        item: &Item,
-        tries: u64,
-    ) -> Result<(Playing<'m>, Saying), AllocError>
+    fn do_item(self, item: &Item, tries: u64) -> Result<Playing<'m>, AllocError>
         requires in_range { IsInRange (length self.play.value.names.items) item.now }
         requires room { self.play.value.full ≡ false }
         requires tries { tries ≡ self.play.value.tries + tries_of_item item.now }
         requires few { tries ≤ most_runs }
-        ensures { IfOk result (λ said. AnswersOnce self.entry.play.value (λ state. plays_item state item.now) said.0.play.value said.1) }
+        ensures { IfOk result (λ playing. AnswersOnce self.entry.play.value (λ state. plays_item state item.now) playing.play.value (said_of playing.play.value)) }
     {
         let Playing { mut play } = self;
-        let saying = play.take_item(alloc, item, tries)?;
-        Ok((Playing { play }, saying))
+        play.take_item(item, tries)?;
+        Ok(Playing { play })
     }
 
-    // What a command answers, and whether the session goes on. Apart, so that items pay nothing for what it needs.
+    // Answers a command, and tells whether the session goes on. Apart, so that items pay nothing for what it needs.
     #[inline(never)]
+    #[tactic(auto, using(crate::proofs::SaidLast::says_play))]
     fn command(
         self,
         alloc: Global,
         command: &PlayerCommand,
-    ) -> Result<(Playing<'m>, Saying, Go), AllocError>
+    ) -> Result<(Playing<'m>, Go), AllocError>
+        ensures { IfOk result (λ said. AnswersPlay self.entry.play.value (λ state. command_in_play state (player_command command.now)) said.0.play.value (said_of said.0.play.value) said.1) }
+    {
+        let (playing, text, goes) = self.answer(alloc, command)?;
+        Ok((playing.saying(text), goes))
+    }
+
+    // What a command answers, and whether the session goes on.
+    fn answer(
+        self,
+        alloc: Global,
+        command: &PlayerCommand,
+    ) -> Result<(Playing<'m>, Text, Go), AllocError>
         ensures { IfOk result (λ said. AnswersPlay self.entry.play.value (λ state. command_in_play state (player_command command.now)) said.0.play.value said.1 said.2) }
     {
         match command {
             PlayerCommand::Again => {
                 let (playing, text) = self.again(alloc)?;
-                Ok((playing, Saying::made(text), Go::On))
+                Ok((playing, text, Go::On))
             }
-            PlayerCommand::Quit => Ok((self, Saying::fixed(""), Go::Quit)),
+            PlayerCommand::Quit => Ok((self, Text::new(alloc), Go::Quit)),
             _ => {
                 let text = self.shown(alloc, command)?;
-                Ok((self, Saying::made(text), Go::On))
+                Ok((self, text, Go::On))
             }
         }
     }
@@ -147,29 +177,39 @@ impl<'m> Playing<'m> {
 }
 
 impl<'m> Play<'m> {
+    // Says this.
+    fn say(&mut self, text: Text)
+        ensures { self.new ≡ record self.old { told = record self.old.told { text = text }; usual = None } }
+    {
+        self.told.text = text;
+        self.usual = None;
+    }
+
     // Does an item, with which there are so many tries. After want of memory the group may have no process.
-    fn take_item(&mut self, alloc: Global, item: &Item, tries: u64) -> Result<Saying, AllocError>
+    fn take_item(&mut self, item: &Item, tries: u64) -> Result<(), AllocError>
         requires playing { IsPlaying self.old.schedule.now (map module_of self.old.modules.now) self.old.names.items self.old.live self.old.tries }
         requires in_range { IsInRange (length self.old.names.items) item.now }
         requires room { self.old.full ≡ false }
         requires tries { tries ≡ self.old.tries + tries_of_item item.now }
         requires few { tries ≤ most_runs }
-        ensures answers { IfOk result (λ text. AnswersOnce self.old (λ state. plays_item state item.now) self.new text) }
+        ensures answers { OnOk result (AnswersOnce self.old (λ state. plays_item state item.now) self.new (said_of self.new)) }
         ensures playing { OnOk result (IsPlaying self.new.schedule.now (map module_of self.new.modules.now) self.new.names.items self.new.live self.new.tries) }
     {
-        let mut told = Told::new(alloc, true);
-        let full = perform(&mut self.live, &self.names, item, &mut told)?;
+        self.told.restart();
+        let full = perform(&mut self.live, &self.names, item, &mut self.told)?;
         let name = self.names[process_of_item(item) as usize].as_slice();
-        let saying = ended(told, full, name)?;
+        let usual = end(&mut self.told, full, name)?;
         self.tries = tries;
         self.full = full;
-        Ok(saying)
+        self.usual = usual;
+        Ok(())
     }
 }
 
 impl<'m> LineSession for Playing<'m> {
     ghost use Rattle.play_command.specs.Play.{PlayState, play_answer};
     ghost use Rattle.play_command.specs.inside.Answers.{StandsInPlay};
+    ghost use Rattle.play_command.specs.inside.Said.{said_of};
 
     ghost State = { PlayState };
 
@@ -177,23 +217,29 @@ impl<'m> LineSession for Playing<'m> {
 
     ghost stands = { λ playing. StandsInPlay playing.play.value };
 
-    fn answer_line(
-        self,
-        alloc: Global,
-        line: &[u8],
-    ) -> Result<(Playing<'m>, Saying, Go), AllocError> {
+    ghost text = { λ playing. said_of playing.play.value };
+
+    #[tactic(auto, using(crate::proofs::SaidLast::says_play))]
+    fn answer_line(self, alloc: Global, line: &[u8]) -> Result<(Playing<'m>, Go), AllocError> {
         schedule_text::laws::exact_item_lines();
         match read_play_line(alloc, line, &self.play.names)? {
-            PlayLine::Silent => Ok((self, Saying::fixed(""), Go::On)),
+            PlayLine::Silent => Ok((self.saying(Text::new(alloc)), Go::On)),
             PlayLine::Refused(why) => {
-                let text = refused_play(alloc, why)?;
-                Ok((self, Saying::made(text), Go::On))
+                let playing = self.refusing(alloc, why)?;
+                Ok((playing, Go::On))
             }
             PlayLine::Plays(item) => {
-                let (playing, saying) = self.play_item(alloc, &item)?;
-                Ok((playing, saying, Go::On))
+                let playing = self.play_item(alloc, &item)?;
+                Ok((playing, Go::On))
             }
             PlayLine::Does(command) => self.command(alloc, &command),
+        }
+    }
+
+    fn said(&self) -> &[u8] {
+        match self.play.usual {
+            Some(line) => line.as_bytes(),
+            None => self.play.told.text.bytes(),
         }
     }
 }
@@ -236,34 +282,33 @@ fn process_of_item(item: &Item) -> u32
     }
 }
 
-// What was told of an item, and its counts, or that the log of the process with this name has no room.
-fn ended(told: Told, full: bool, name: &[u8]) -> Result<Saying, AllocError>
-    ensures { IfOk result (λ said. said ≡ told.text ++ (if full then full_line name.now else counts_line told.acted told.idle)) }
+// Ends what is told of an item with its counts, or with that the log of the process with this name has no room. If a text of the
+// program is all that is told, it is given and not copied.
+fn end(told: &mut Told, full: bool, name: &[u8]) -> Result<Option<&'static str>, AllocError>
+    ensures { IfOk result (λ usual. said_by usual told.new.text ≡ told.old.text ++ (if full then full_line name.now else counts_line told.old.acted told.old.idle)) }
 {
     if !full {
-        return counted(told);
+        return count(told);
     }
-    let mut text = told.text;
-    text.push_str("full ")?;
-    text.push_bytes(name)?;
-    text.push_str("\n")?;
-    Ok(Saying::made(text))
+    told.text.push_str("full ")?;
+    told.text.push_bytes(name)?;
+    told.text.push_str("\n")?;
+    Ok(None)
 }
 
-// What was told of an item, and its counts.
-fn counted(told: Told) -> Result<Saying, AllocError>
-    ensures { IfOk result (λ said. said ≡ told.text ++ counts_line told.acted told.idle) }
+// Ends it with its counts.
+fn count(told: &mut Told) -> Result<Option<&'static str>, AllocError>
+    ensures { IfOk result (λ usual. said_by usual told.new.text ≡ told.old.text ++ counts_line told.old.acted told.old.idle) }
 {
-    let mut text = told.text;
     let Some(line) = usual_counts(told.acted, told.idle) else {
-        push_counts(&mut text, told.acted, told.idle)?;
-        return Ok(Saying::made(text));
+        push_counts(&mut told.text, told.acted, told.idle)?;
+        return Ok(None);
     };
-    if text.bytes().is_empty() {
-        return Ok(Saying::fixed(line));
+    if told.text.bytes().is_empty() {
+        return Ok(Some(line));
     }
-    text.push_str(line)?;
-    Ok(Saying::made(text))
+    told.text.push_str(line)?;
+    Ok(None)
 }
 
 // The line of the counts, where it is that of most items.

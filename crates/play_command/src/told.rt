@@ -1,5 +1,5 @@
 // What is told of items as they are done.
-ghost use Rattle.std.specs.Prelude.{◌≡◌, ◌+◌, ◌-◌, ◌<◌, ◌^◌, [], OnOk};
+ghost use Rattle.std.specs.Prelude.{◌≡◌, ◌+◌, ◌-◌, ◌<◌, ◌^◌, [], true, OnOk};
 ghost use Rattle.lib_calls.specs.Entry.{entry_of};
 ghost use Rattle.play_command.specs.inside.Playing.{told_event};
 
@@ -31,6 +31,19 @@ impl Told {
             acted: 0,
             idle: 0,
         }
+    }
+
+    /// Begins to tell anew. The room of the text is kept.
+    pub(crate) fn restart(&mut self)
+        ensures text { self.new.text ≡ [] }
+        ensures tells { self.new.tells ≡ true }
+        ensures acted { self.new.acted ≡ 0 }
+        ensures idle { self.new.idle ≡ 0 }
+    {
+        self.text.clear();
+        self.tells = true;
+        self.acted = 0;
+        self.idle = 0;
     }
 
     /// Tells an event of the process with this name.

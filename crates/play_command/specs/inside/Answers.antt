@@ -11,6 +11,7 @@ use Rattle.group_record.specs.declared.error.RecordError.TheVariants as errors
 use Rattle.conversation.specs.Talker.{Answered, AnswersSo}
 use Rattle.conversation.specs.declared.session.Go.{Go}
 use Rattle.play_command.specs.Outcome.{opening_play}
+use Rattle.play_command.specs.inside.Said.{said_of}
 use Rattle.play_command.specs.Play.{PlayState, items_so_far, opening_line, played_run}
 use Rattle.play_command.specs.declared.live_play.Play.{Play}
 use Rattle.play_command.specs.declared.live_play.Playing.{Playing}
@@ -23,6 +24,10 @@ pub record StandsInPlay (play : Play) (state : PlayState) : Type 0 where
   pub live : IsLiveAfter state.group (played_run state).steps play.live
   pub tries : play.tries ≡ run_count (items_so_far state)
   pub full : play.full ≡ is_some (played_run state).full
+
+-- wherever a play stood, it stands there still, and says this
+abbrev pub StaysAndSays : Play → List ℕ → Play → Type 0
+StaysAndSays old text new = ((state : PlayState) → StandsInPlay old state → StandsInPlay new state) × (said_of new ≡ text)
 
 -- a play began over this schedule and these modules, with its first line
 pub record OpensWith (schedule : Schedule) (modules : List Module) (first : List State) (play : Play) (text : List ℕ) : Type 0 where

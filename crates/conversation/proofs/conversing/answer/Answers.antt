@@ -11,8 +11,8 @@ returns-in_err-write_whole-clause-said g c =
     let wrote = c.in_err-write_whole.ensures.err in
     let old = g.K.Sink.taken c.args.out.now in
     rw (p.1, p.2) (told_part g.S.LineSession.stands g.S.LineSession.answer c.args.session c.args.line.now old (g.K.Sink.taken c.write_whole.new.out)
-    c.in_ok-session.session c.in_ok-session.said c.in_ok-session.goes wrote.0 _ c.in_ok-session.ensures
-    (wrote.1 ∙ ap (λ (l : List ℕ). append_known old (take wrote.0 l)) c.bytes.ensures))
+    c.in_ok-session.session (g.S.LineSession.text c.in_ok-session.session) c.in_ok-session.goes wrote.0 _ c.in_ok-session.ensures
+    (wrote.1 ∙ ap (λ (l : List ℕ). append_known old (take wrote.0 l)) c.said.ensures))
 
 pub returns-in_err-session-clause-said : goal.returns-in_err-session-clause-said
 returns-in_err-session-clause-said g c =
@@ -23,12 +23,12 @@ pub returns-in-On-clause-said : goal.returns-in-On-clause-said
 returns-in-On-clause-said g c =
     let old = g.K.Sink.taken c.args.out.now in
     told_on g.S.LineSession.stands g.S.LineSession.answer c.args.session c.args.line.now old (g.K.Sink.taken c.write_whole.new.out)
-    c.in_ok-session.session c.in_ok-session.said c.in_ok-session.goes c.in_ok-session.ensures (ap is_quit c.in-On.is)
-    (c.in_ok-write_whole.ensures.ok ∙ ap (append_known old) c.bytes.ensures)
+    c.in_ok-session.session (g.S.LineSession.text c.in_ok-session.session) c.in_ok-session.goes c.in_ok-session.ensures (ap is_quit c.in-On.is)
+    (c.in_ok-write_whole.ensures.ok ∙ ap (append_known old) c.said.ensures)
 
 pub returns-in-Quit-clause-said : goal.returns-in-Quit-clause-said
 returns-in-Quit-clause-said g c =
     let old = g.K.Sink.taken c.args.out.now in
     told_last g.S.LineSession.stands g.S.LineSession.answer c.args.session c.args.line.now old (g.K.Sink.taken c.write_whole.new.out)
-    c.in_ok-session.session c.in_ok-session.said c.in_ok-session.goes c.in_ok-session.ensures (ap is_quit c.in-Quit.is)
-    (c.in_ok-write_whole.ensures.ok ∙ ap (append_known old) c.bytes.ensures)
+    c.in_ok-session.session (g.S.LineSession.text c.in_ok-session.session) c.in_ok-session.goes c.in_ok-session.ensures (ap is_quit c.in-Quit.is)
+    (c.in_ok-write_whole.ensures.ok ∙ ap (append_known old) c.said.ensures)
