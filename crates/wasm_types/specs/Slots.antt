@@ -5,6 +5,14 @@ use Rattle.wasm_types.specs.declared.code.Value.{Value}
 use Rattle.wasm_types.specs.declared.code.Value.TheVariants.{I32, I64}
 use Rattle.wasm_types.specs.declared.slot.Slot.TheInside.{Inside}
 
+-- a value of 32 bits
+abbrev pub IsNarrow : Value → Type 0
+IsNarrow v = (x : ℕ) × (v ≡ I32 x)
+
+-- a value of 64 bits
+abbrev pub IsLong : Value → Type 0
+IsLong v = (x : ℕ) × (v ≡ I64 x)
+
 abbrev pub value_by : ℕ → ℕ → Value
 value_by zero bits = I32 bits
 value_by (suc n) bits = I64 bits

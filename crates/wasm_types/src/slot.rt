@@ -1,6 +1,7 @@
 // A value as two words.
 ghost use Rattle.std.specs.Prelude.{◌≡◌};
 ghost use Rattle.wasm_types.specs.declared.code.Value.TheVariants.{I32, I64};
+ghost use Rattle.wasm_types.specs.Slots.{IsLong, IsNarrow};
 
 use crate::code::Value;
 use std::marker::Model;
@@ -73,5 +74,23 @@ impl Slot {
         } else {
             Value::I64(self.bits)
         }
+    }
+
+    /// The number that a value of 32 bits is, whose type is not looked at.
+    #[inline(always)]
+    pub fn as_narrow(self) -> u32
+        requires { IsNarrow self }
+        ensures { self ≡ I32 result }
+    {
+        self.bits as u32
+    }
+
+    /// The same of 64 bits.
+    #[inline(always)]
+    pub fn as_long(self) -> u64
+        requires { IsLong self }
+        ensures { self ≡ I64 result }
+    {
+        self.bits
     }
 }
