@@ -1,10 +1,19 @@
--- The locals that a function declares, without the runs of count 0.
-use Rattle.std.proofs.Common.{◌≡◌, ℕ, Bool, true, false, List, [], ◌∷◌, ◌++◌, Option, Some, option_map, if◌then◌else◌, nat_lt, replicate, refl, sym, ap, ◌∙◌, arith}
+-- What is kept of a function for its calls: its locals without the runs of count 0, and what its type says.
+use Rattle.std.proofs.Common.{◌≡◌, ℕ, Bool, true, false, List, [], ◌∷◌, ◌++◌, Option, Some, None, IsSomeAnd, option_and_then, option_map, if◌then◌else◌, length, nat_lt, replicate, slice_get, refl, sym, ap, ◌∙◌, subst, arith, All}
+use Rattle.std.proofs.lemmas.Option.{get_or_from_slice_get, slice_get_within}
+use Rattle.std.specs.Option.{option_map_or}
 use Rattle.std.proofs.lemmas.Bool.Decides.{nat_tests}
 use Rattle.wasm_types.specs.declared.code.ValType.{ValType}
 use Rattle.wasm_types.specs.declared.code.Value.{Value}
-use Rattle.wasm_types.specs.Context.{filled_runs}
-use Rattle.wasm_types.specs.Modules.{Func}
+use Rattle.wasm_types.specs.Calls.{result_of}
+use Rattle.wasm_types.specs.Context.{context_of, expand_locals, filled_runs}
+use Rattle.wasm_types.specs.Modules.{Func, FuncType, Module}
+use Rattle.wasm_types.specs.Rules.{IsTypedFunc}
+use Rattle.wasm_types.specs.Typing.{IsWellTyped}
+use Rattle.guest_module.specs.Calls.{HasCallType}
+use Rattle.guest_module.specs.Valid.{IsValid}
+use Rattle.guest_module.specs.declared.valid.CallRow.{CallRow}
+use Rattle.guest_module.specs.inside.CallRows.{row_of}
 use Rattle.wasm_types.specs.Locals.{zero_of, zeros}
 
 -- a run that is left out adds no local
@@ -19,12 +28,32 @@ zeros-filled [] = refl
 zeros-filled (run ∷ runs) =
     zeros-kept run (filled_runs runs) (nat_lt 0 run.0) refl ∙ ap (λ (rest : List Value). replicate run.0 (zero_of run.1) ++ rest) (zeros-filled runs)
 
--- the runs that are kept of a function start as its locals do
-pub zeros_at : (o : Option Func) (f : Func) (runs : List (ℕ × ValType)) → o ≡ Some f →
-    option_map (λ (f : Func). filled_runs f.locals) o ≡ Some runs → zeros runs ≡ zeros f.locals
-zeros_at o f runs e kept =
-    let same : filled_runs f.locals ≡ runs = some_same (sym (ap (option_map (λ (f : Func). filled_runs f.locals)) e) ∙ kept) in
-    ap zeros (sym same) ∙ zeros-filled f.locals
-  where
-    some_same : {a b : List (ℕ × ValType)} → Some a ≡ Some b → a ≡ b
-    some_same e = cc
+-- ---- the row of a function
+
+at_all : {X : Type 0} (P : X → Type 0) (xs : List X) (k : ℕ) (x : X) → All P xs → slice_get xs k ≡ Some x → P x
+at_all P xs k x h at = subst P (get_or_from_slice_get xs k x x at) (h k x (slice_get_within xs k x at))
+
+module _ (m : Module) (o : Option Func) (f : Func) (row : CallRow) (at : o ≡ Some f) (kept : option_map (row_of m) o ≡ Some row) where
+  same_row : row_of m f ≡ row
+  same_row = some_same (sym (ap (option_map (row_of m)) at) ∙ kept)
+    where
+      some_same : {a b : CallRow} → Some a ≡ Some b → a ≡ b
+      some_same e = cc
+
+  -- what it keeps starts as the function's locals do
+  pub row_zeros : zeros row.declared ≡ zeros f.locals
+  row_zeros = ap (λ (row : CallRow). zeros row.declared) (sym same_row) ∙ zeros-filled f.locals
+
+  -- of a valid module it has what the function's type says
+  pub row_typed : (place : ℕ) → IsValid m → slice_get m.funcs place ≡ Some f → HasCallType m f row.takes row.gives
+  row_typed place v own = by_type (slice_get m.types f.type_index) refl (at_all (IsTypedFunc m) m.funcs place f v.typed.funcs own)
+    where
+      by_type : (type : Option FuncType) → slice_get m.types f.type_index ≡ type → IsSomeAnd type (λ t. IsWellTyped (context_of m (t.params ++ expand_locals f.locals) (result_of t)) f.body)
+          → HasCallType m f row.takes row.gives
+      by_type None e h = absurd h
+      by_type (Some type) e h = record {
+        type = type;
+        at = e;
+        takes_is = ap (λ (row : CallRow). row.takes) (sym same_row) ∙ ap (λ o. option_map_or (λ (t : FuncType). length t.params) o 0) e;
+        gives_is = ap (λ (row : CallRow). row.gives) (sym same_row) ∙ ap (option_and_then result_of) e;
+      }

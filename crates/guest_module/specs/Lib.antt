@@ -1,3 +1,4 @@
+pub mod Calls
 pub mod Library
 pub mod Valid
 pub mod Start

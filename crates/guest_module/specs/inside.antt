@@ -1,2 +1,2 @@
 -- What no public contract cites.
-pub mod Slots
+pub mod CallRows

@@ -1,12 +1,13 @@
 // A function of the module as calls take it.
 ghost use Rattle.std.specs.Prelude.{◌≡◌, IfNone, IfSome, None, Some, slice_get};
+ghost use Rattle.guest_module.specs.Calls.{HasCallType};
 ghost use Rattle.wasm_types.specs.Code.{trees};
 ghost use Rattle.wasm_types.specs.Locals.{zeros};
 ghost use Rattle.wasm_types.specs.Modules.{module_of};
 
 use crate::valid::ValidModule;
 use std::marker::Model;
-use wasm_types::{Declared, Func, Instr};
+use wasm_types::{Declared, Func, Instr, ValType};
 
 /// A function of the module, and the locals that it declares. Contracts see the function alone.
 #[derive(Drop)]
@@ -34,6 +35,7 @@ impl<'m> Model for Callee<'m> {
 
 impl<'m> Callee<'m> {
     /// The index of its type.
+    #[inline(always)]
     pub fn type_index(&self) -> u32
         ensures { result ≡ self.now.type_index }
     {
@@ -41,6 +43,7 @@ impl<'m> Callee<'m> {
     }
 
     /// Its instructions.
+    #[inline(always)]
     pub fn body(&self) -> &'m [Instr]
         ensures { trees result.now ≡ self.now.body }
     {
@@ -48,6 +51,7 @@ impl<'m> Callee<'m> {
     }
 
     /// Its declared locals.
+    #[inline(always)]
     pub fn declared(&self) -> &'m Declared
         ensures { zeros result.now ≡ zeros self.now.locals }
     {
@@ -56,6 +60,7 @@ impl<'m> Callee<'m> {
 }
 
 /// The module's own function at this place.
+#[inline(always)]
 pub fn callee_at<'m>(module: &'m ValidModule, place: usize) -> Option<Callee<'m>>
     ensures some { IfSome result (λ callee. slice_get (module_of «module».now).funcs place ≡ Some callee) }
     ensures none { IfNone result (slice_get (module_of «module».now).funcs place ≡ None) }
@@ -63,8 +68,31 @@ pub fn callee_at<'m>(module: &'m ValidModule, place: usize) -> Option<Callee<'m>
     let Some(func) = module.module().funcs.get(place) else {
         return None;
     };
-    match module.declared(place) {
-        Some(declared) => Some(Callee { func, declared }),
-        None => unreachable!(),
-    }
+    let declared = &module.row(place).declared;
+    Some(Callee { func, declared })
+}
+
+/// A function of the module, with how many operands a call of it takes and the type of what that leaves.
+#[derive(Drop)]
+pub struct Called<'m> {
+    pub callee: Callee<'m>,
+    pub takes: usize,
+    pub gives: Option<ValType>,
+}
+
+/// The same with what a call takes and gives.
+#[inline(always)]
+pub fn called_at<'m>(module: &'m ValidModule, place: usize) -> Option<Called<'m>>
+    ensures own { IfSome result (λ called. slice_get (module_of «module».now).funcs place ≡ Some called.callee) }
+    ensures typed { IfSome result (λ called. HasCallType (module_of «module».now) called.callee called.takes called.gives) }
+{
+    // Its `ensures` tells the proof that the module is valid.
+    let _ = module.module();
+    let callee = callee_at(module, place)?;
+    let row = module.row(place);
+    Some(Called {
+        callee,
+        takes: row.takes,
+        gives: row.gives,
+    })
 }

@@ -1,9 +1,9 @@
 // Modules that are known to be valid.
-ghost use Rattle.std.specs.Prelude.{◌≡◌, IfNone, IfOk, IfSome, None, Some, map, option_map, slice_get};
+ghost use Rattle.std.specs.Prelude.{◌≡◌, ◌<◌, IfOk, IfSome, Some, length, map, option_map, slice_get};
 ghost use Rattle.wasm_types.specs.Context.{filled_runs};
-ghost use Rattle.guest_module.specs.inside.Slots.{filled_locals};
+ghost use Rattle.guest_module.specs.inside.CallRows.{call_rows, row_of};
 ghost use Rattle.guest_module.specs.Library.{importable, kind_at};
-ghost use Rattle.wasm_types.specs.Modules.{module_of};
+ghost use Rattle.wasm_types.specs.Modules.{func, module_of};
 ghost use Rattle.guest_module.specs.Start.{IsOwnPlain, entry_from};
 ghost use Rattle.guest_module.specs.Valid.{IsValid};
 
@@ -12,10 +12,19 @@ use crate::start::exported_start;
 use call_table::Kind;
 use std::alloc::{AllocError, Global};
 use std::marker::Model;
-use wasm_types::{Declared, Import, Module};
+use wasm_types::{Declared, Func, Import, Module, ValType, result_of, type_at};
 
 /// Of so many locals what they start as is kept, in all of a module.
 const MOST_KEPT_LOCALS: usize = 1_048_576;
+
+/// What calls of one of the module's own functions look up: the locals that it declares, how many operands a call takes, and
+/// the type of what it leaves.
+#[derive(Debug, Drop)]
+pub(crate) struct CallRow {
+    pub(crate) declared: Declared,
+    pub(crate) takes: usize,
+    pub(crate) gives: Option<ValType>,
+}
 
 /// A module that is valid. Contracts see it as its module.
 #[derive(Debug, Drop)]
@@ -23,8 +32,8 @@ pub struct ValidModule {
     valid: Module,
     // For each import, the kind of its calls.
     kinds: Vec<Option<Kind>>,
-    // For each of the module's own functions, the locals that it declares.
-    locals: Vec<Declared>,
+    // For each of the module's own functions.
+    rows: Vec<CallRow>,
     // The function that is exported as its start.
     entry: u32,
 }
@@ -39,7 +48,7 @@ impl Model for ValidModule {
     ghost coded = { Prim.hlevel (codes, instr.the_row.coded) };
 
     ghost use Rattle.std.specs.Prelude.{◌≡◌, Some, map};
-    ghost use Rattle.guest_module.specs.inside.Slots.{filled_locals};
+    ghost use Rattle.guest_module.specs.inside.CallRows.{call_rows};
     ghost use Rattle.guest_module.specs.Library.{importable};
     ghost use Rattle.wasm_types.specs.Modules.{module_of};
     ghost use Rattle.guest_module.specs.Start.{entry_from};
@@ -49,7 +58,7 @@ impl Model for ValidModule {
 
     ghost invariant = { λ v.
         IsValid (module_of v.valid)
-        × (v.locals.items ≡ filled_locals (module_of v.valid))
+        × (v.rows.items ≡ call_rows (module_of v.valid))
         × (v.kinds.items ≡ map (λ i. importable i.name.items) v.valid.imports.items)
         × (entry_from (module_of v.valid) (module_of v.valid).exports ≡ Some v.entry) };
 }
@@ -60,12 +69,12 @@ pub fn claim(alloc: Global, module: Module) -> Result<ValidModule, AllocError>
     ensures { IfOk result (λ v. v ≡ «module») }
 {
     let kinds = import_kinds(alloc, &module.imports)?;
-    let locals = filled_locals(alloc, &module)?;
+    let rows = call_rows(alloc, &module)?;
     let entry = entry(&module);
     Ok(ValidModule {
         valid: module,
         kinds,
-        locals,
+        rows,
         entry,
     })
 }
@@ -80,9 +89,9 @@ fn import_kinds(alloc: Global, imports: &[Import]) -> Result<Vec<Option<Kind>>, 
         .collect(alloc)
 }
 
-// The locals of each of the module's own functions. What they start as is kept of the first 1,048,576 in all.
-fn filled_locals(alloc: Global, module: &Module) -> Result<Vec<Declared>, AllocError>
-    ensures { IfOk result (λ all. all.items ≡ filled_locals (module_of «module».now)) }
+// What calls of each of the module's own functions look up. What locals start as is kept of the first 1,048,576 in all.
+fn call_rows(alloc: Global, module: &Module) -> Result<Vec<CallRow>, AllocError>
+    ensures { IfOk result (λ all. all.items ≡ call_rows (module_of «module».now)) }
 {
     let mut all = Vec::new(alloc);
     let mut most = MOST_KEPT_LOCALS;
@@ -91,9 +100,28 @@ fn filled_locals(alloc: Global, module: &Module) -> Result<Vec<Declared>, AllocE
         if let Some(starts) = declared.starts() {
             most = most.saturating_sub(starts.len());
         }
-        all.push(declared)?;
+        all.push(row_of(module, function, declared))?;
     }
     Ok(all)
+}
+
+// What calls of this function look up, which declares these locals.
+fn row_of(module: &Module, function: &Func, declared: Declared) -> CallRow
+    requires { declared ≡ filled_runs (func function.now).locals }
+    ensures { result ≡ row_of (module_of «module».now) (func function.now) }
+{
+    match type_at(module, function.type_index) {
+        Some(typing) => CallRow {
+            declared,
+            takes: typing.params.len(),
+            gives: result_of(typing),
+        },
+        None => CallRow {
+            declared,
+            takes: 0,
+            gives: None,
+        },
+    }
 }
 
 // The function that a valid module exports as its start.
@@ -124,14 +152,15 @@ impl ValidModule {
         self.kinds.get(func as usize).copied().flatten()
     }
 
-    /// The locals that the module's own function at this place declares. `None` comes exactly where the module has no
-    /// such function.
-    pub fn declared(&self, place: usize) -> Option<&Declared>
-        ensures some { IfSome result (λ declared. option_map (λ f. filled_runs f.locals) (slice_get (module_of self.now).funcs place) ≡ Some declared.now) }
-        ensures none { IfNone result (slice_get (module_of self.now).funcs place ≡ None) }
+    // What calls of the module's own function at this place look up, which there is.
+    #[inline(always)]
+    pub(crate) fn row(&self, place: usize) -> &CallRow
+        requires { place < length (module_of self.now).funcs }
+        ensures { option_map (row_of (module_of self.now)) (slice_get (module_of self.now).funcs place) ≡ Some result.now }
     {
-        self.locals.get(place)
+        &self.rows[place]
     }
+
     /// The function that the module exports as its start.
     pub fn entry(&self) -> u32
         ensures is { entry_from (module_of self.now) (module_of self.now).exports ≡ Some result }

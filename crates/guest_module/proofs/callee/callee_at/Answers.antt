@@ -3,10 +3,10 @@ use Rattle.std.proofs.lemmas.Grind.{common_steps}
 use Rattle.std.proofs.lemmas.Option.{gets, slice_get-map}
 use Rattle.std.specs.Option.{option_map}
 use Rattle.wasm_types.specs.Modules.{func, module_of}
-use Rattle.guest_module.proofs.LocalLemmas.{zeros_at}
+use Rattle.guest_module.proofs.LocalLemmas.{row_zeros}
 use Rattle.guest_module.proofs.callee.callee_at.Goals as goal
 
-module _ (c : goal.In-Some-declared) where
+module _ (c : goal.After-row) where
   own : slice_get (module_of c.args.«module».now).funcs c.args.place ≡ Some (func c.in-Some.func.now)
   own =
       let items = c.args.«module».now.funcs.items in
@@ -15,7 +15,8 @@ module _ (c : goal.In-Some-declared) where
 
 pub invariant_of-result : goal.invariant_of-result
 invariant_of-result c =
-    zeros_at (slice_get (module_of c.args.«module».now).funcs c.args.place) (func c.in-Some.func.now) c.in-Some-declared.declared.now (own c) c.in-Some-declared.ensures.some
+    let m = module_of c.args.«module».now in
+    row_zeros m (slice_get m.funcs c.args.place) (func c.in-Some.func.now) c.row.result.now (own c) c.row.ensures
 
 pub returns-clause-some : goal.returns-clause-some
 returns-clause-some c = own c
