@@ -347,10 +347,7 @@ impl<'m> Stack<'m> {
         requires { HasI32 self.now }
         ensures { self.now.stack ≡ I32 result ∷ drop 1 self.now.stack }
     {
-        match self.last().value() {
-            Value::I32(x) => x,
-            Value::I64(_) => unreachable!(),
-        }
+        self.last().as_narrow()
     }
 
     /// The two topmost operands of a level that has as many.

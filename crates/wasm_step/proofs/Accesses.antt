@@ -13,7 +13,7 @@ use Rattle.wasm_stack.specs.Limits.{ThreadWithin}
 use Rattle.wasm_stack.specs.After.{Goes, Sticks, Stops, at_trap}
 use Rattle.wasm_step.specs.Reduce.{load, write, write_at, write_top}
 use Rattle.wasm_step.specs.inside.Accesses.{Loads, Stores}
-use Rattle.wasm_step.specs.inside.Rules.{IsNarrow, IsLong}
+use Rattle.wasm_types.specs.Slots.{IsLong, IsNarrow}
 use Rattle.wasm_stack.specs.Thread.{Thread, without_operands}
 
 -- what an opcode loads, as the literal that it is

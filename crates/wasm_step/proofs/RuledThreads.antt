@@ -1,21 +1,23 @@
 -- What a thread has whose next instruction has a rule.
-use Rattle.std.proofs.Common.{◌≡◌, ℕ, ◌+◌, ◌<◌, ◌≤◌, Bool, true, false, List, [], ◌∷◌, Option, Some, None, length, drop, length-drop, refl, sym, ap, ◌∙◌, arith, rules, tests}
+use Rattle.std.proofs.Common.{◌≡◌, ℕ, ◌+◌, ◌-◌, ◌<◌, ◌≤◌, Bool, true, false, List, [], ◌∷◌, Option, Some, None, length, drop, length-drop, refl, sym, ap, ◌∙◌, arith, rules, tests}
 use Rattle.std.specs.Prelude.{if◌then◌else◌, nat_lt, reverse, slice_get, slice_set, take}
-use Rattle.std.proofs.lemmas.Bool.{ltb-false, ltb-true}
+use Rattle.std.proofs.lemmas.Bool.{le-ltb, ltb-false, ltb-true}
 use Rattle.std.proofs.lemmas.Option.{slice_get_within}
 use Rattle.guest_memory.specs.Memory.{Memory}
+use Rattle.guest_module.specs.Calls.{HasCallType}
+use Rattle.wasm_types.specs.declared.code.ValType.{ValType}
 use Rattle.wasm_types.specs.declared.code.Value.{Value}
 use Rattle.wasm_types.specs.declared.code.Value.TheVariants.{I32, I64}
 use Rattle.wasm_types.specs.Calls.{result_of}
 use Rattle.wasm_types.specs.Code.{DropTop, LocalGet}
-use Rattle.wasm_types.specs.Functions.{type_of}
-use Rattle.wasm_types.specs.Modules.{Func, FuncType, Module}
+use Rattle.wasm_types.specs.Functions.{imported_type, own_type}
+use Rattle.wasm_types.specs.Modules.{Func, Module}
 use Rattle.wasm_store.specs.Store.{Store}
 use Rattle.wasm_stack.specs.After.{Goes, Sticks, Stops, frame_goes_on, on_i32, on_top}
 use Rattle.wasm_stack.specs.Rows.{got, local_put, local_set, local_tee}
-use Rattle.wasm_stack.specs.Thread.{HasI32, Thread, called_function, called_with, with_operand, without_operands}
-use Rattle.wasm_step.specs.Reduce.{call, call_element, call_if_same, call_indirect, load, load_at}
-use Rattle.wasm_step.specs.inside.Wanted.{MatchesCallType}
+use Rattle.wasm_stack.specs.Thread.{HasI32, Thread, arguments, called_with, with_operand, without_operands}
+use Rattle.wasm_step.specs.Reduce.{call, call_element, call_if_same, call_indirect, call_library, call_own, call_typed, load, load_at}
+use Rattle.wasm_step.specs.inside.Wanted.{CallsAsTyped, HasOwnType}
 use Rattle.wasm_step.specs.inside.Rules.{HasRule}
 use Rattle.wasm_values.specs.Access.{load_width}
 
@@ -102,13 +104,33 @@ set_after_tee x t u some tee has = by_stack t.stack refl
 
 -- ---- calls
 
--- a call of an own function has its arguments
-pub has_arguments : (m : Module) (f : ℕ) (func : Func) (type : FuncType) (t : Thread) → call m f t ≡ frame_goes_on t (called_function t f func type) → (call m f t ≡ Stops Sticks → ⊥) → length type.params ≤ length t.stack
-has_arguments m f func type t is rule = by_test (nat_lt (length t.stack) (length type.params)) refl
+-- a call of an own function, by what is kept of it
+module _ (m : Module) (f : ℕ) (func : Func) (n : ℕ) (gives : Option ValType) (past : length m.imports ≤ f) (own : slice_get m.funcs (f - length m.imports) ≡ Some func) (h : HasCallType m func n gives) where
+  not_imported : nat_lt f (length m.imports) ≡ false
+  not_imported = le-ltb f (length m.imports) past
+
+  pub called_own : (t : Thread) → call m f t ≡ frame_goes_on t (called_with (arguments n t) n t f func gives)
+  called_own t =
+      ap (λ b. if b then call_library f (imported_type m (slice_get m.imports f)) t else call_own m f (slice_get m.funcs (f - length m.imports)) t) not_imported
+      ∙ ap (λ o. call_own m f o t) own
+      ∙ ap (λ o. call_typed f func o t) h.at
+      ∙ ap (λ k. frame_goes_on t (called_with (arguments k t) k t f func (result_of h.type))) (sym h.takes_is)
+      ∙ ap (λ g. frame_goes_on t (called_with (arguments n t) n t f func g)) (sym h.gives_is)
+
+  pub called_type : HasOwnType m f func
+  called_type = record {
+    type = h.type;
+    of = ap (λ b. if b then imported_type m (slice_get m.imports f) else own_type m (slice_get m.funcs (f - length m.imports))) not_imported ∙ ap (own_type m) own ∙ h.at;
+    at = h.at;
+  }
+
+-- it has its arguments
+pub has_arguments : (m : Module) (f : ℕ) (func : Func) (n : ℕ) (gives : Option ValType) (t : Thread) → call m f t ≡ frame_goes_on t (called_with (arguments n t) n t f func gives) → (call m f t ≡ Stops Sticks → ⊥) → n ≤ length t.stack
+has_arguments m f func n gives t is rule = by_test (nat_lt (length t.stack) n) refl
   where
-    by_test : (b : Bool) → nat_lt (length t.stack) (length type.params) ≡ b → length type.params ≤ length t.stack
-    by_test true e = absurd (rule (is ∙ ap (λ b. frame_goes_on t (called_with (if b then None else Some (reverse (take (length type.params) t.stack))) (length type.params) t f func (result_of type))) e))
-    by_test false e = ltb-false (length t.stack) (length type.params) e
+    by_test : (b : Bool) → nat_lt (length t.stack) n ≡ b → n ≤ length t.stack
+    by_test true e = absurd (rule (is ∙ ap (λ b. frame_goes_on t (called_with (if b then None else Some (reverse (take n t.stack))) n t f func gives)) e))
+    by_test false e = ltb-false (length t.stack) n e
 
 pub has_place : (type : ℕ) (g : Store) (t : Thread) → (call_indirect type g t ≡ Stops Sticks → ⊥) → HasI32 t
 has_place type g t rule = by_stack t.stack refl
@@ -119,20 +141,20 @@ has_place type g t rule = by_stack t.stack refl
     by_stack (I32 x ∷ rest) e = (x, e ∙ ap (λ rest. I32 x ∷ rest) (sym (ap (drop 1) e)))
 
 -- a call through the table calls the function that is there
-pub indirect_calls : (m : Module) (type f x : ℕ) (found : FuncType) (g : Store) (t : Thread) → m ≡ g.«module» → t.stack ≡ I32 x ∷ drop 1 t.stack → slice_get g.table x ≡ Some (Some f)
-    → type_of m f ≡ Some found → MatchesCallType m found (slice_get m.types type) → call_indirect type g t ≡ call m f (without_operands 1 t)
-indirect_calls m type f x found g t same top at of matches =
-    let u = without_operands 1 t in
-    ap (λ s. on_top s t (λ v u. on_i32 v (λ i. call_element g.«module» type (slice_get g.table i) u))) top
-    ∙ ap (λ (m : Module). call_element m type (slice_get g.table x) u) (sym same)
-    ∙ ap (λ o. call_element m type o u) at
-    ∙ ap (λ o. call_if_same m f o (slice_get m.types type) u) of
-    ∙ matches f u
+module _ (m : Module) (type f x : ℕ) (func : Func) (g : Store) (t : Thread) (same : m ≡ g.«module») (top : t.stack ≡ I32 x ∷ drop 1 t.stack) (at : slice_get g.table x ≡ Some (Some f))
+    (own : HasOwnType m f func) (matches : CallsAsTyped m func (slice_get m.types type)) where
+  pub indirect_calls : call_indirect type g t ≡ call m f (without_operands 1 t)
+  indirect_calls =
+      let u = without_operands 1 t in
+      ap (λ s. on_top s t (λ v u. on_i32 v (λ i. call_element g.«module» type (slice_get g.table i) u))) top
+      ∙ ap (λ (m : Module). call_element m type (slice_get g.table x) u) (sym same)
+      ∙ ap (λ o. call_element m type o u) at
+      ∙ ap (λ o. call_if_same m f o (slice_get m.types type) u) own.of
+      ∙ matches own.type own.at f u
 
-pub has_indirect_arguments : (m : Module) (type f x : ℕ) (func : Func) (found : FuncType) (g : Store) (t : Thread) → m ≡ g.«module» → t.stack ≡ I32 x ∷ drop 1 t.stack → slice_get g.table x ≡ Some (Some f)
-    → type_of m f ≡ Some found → MatchesCallType m found (slice_get m.types type) → ((t : Thread) → call m f t ≡ frame_goes_on t (called_function t f func found)) → (call_indirect type g t ≡ Stops Sticks → ⊥)
-    → 1 + length found.params ≤ length t.stack
-has_indirect_arguments m type f x func found g t same top at of matches calls rule =
-    let u = without_operands 1 t in
-    let few = has_arguments m f func found u (calls u) (λ sticks. rule (indirect_calls m type f x found g t same top at of matches ∙ sticks)) in
-    omega (arith, few, ap length top, length-drop 1 t.stack)
+  pub has_indirect_arguments : (n : ℕ) (gives : Option ValType) → ((t : Thread) → call m f t ≡ frame_goes_on t (called_with (arguments n t) n t f func gives)) → (call_indirect type g t ≡ Stops Sticks → ⊥)
+      → 1 + n ≤ length t.stack
+  has_indirect_arguments n gives calls rule =
+      let u = without_operands 1 t in
+      let few = has_arguments m f func n gives u (calls u) (λ sticks. rule (indirect_calls ∙ sticks)) in
+      omega (arith, few, ap length top, length-drop 1 t.stack)

@@ -1,19 +1,18 @@
 // Calls: of the library, of the module's own functions, and through the table.
-ghost use Rattle.std.specs.Prelude.{◌≡◌, ℕ, ◌+◌, ◌≤◌, [], ◌∷◌, IfOk, IfSome, IsTrue, OnOk, Some, false, length, slice_get};
+ghost use Rattle.std.specs.Prelude.{◌≡◌, ℕ, ◌+◌, ◌≤◌, [], ◌∷◌, IfOk, IfSome, IsTrue, OnOk, Some, false, length, nat_lt, slice_get};
 ghost use Rattle.wasm_types.specs.Code.{tree};
-ghost use Rattle.wasm_types.specs.Functions.{type_of};
 ghost use Rattle.wasm_types.specs.Locals.{zeros};
 ghost use Rattle.wasm_types.specs.Modules.{func_type, module_of};
 ghost use Rattle.wasm_stack.specs.Answer.{after_of};
 ghost use Rattle.wasm_stack.specs.Limits.{ThreadWithin};
 ghost use Rattle.wasm_stack.specs.After.{Goes, Sticks, Stops, frame_goes_on, limited_thread};
-ghost use Rattle.wasm_step.specs.inside.Wanted.{MatchesCallType};
+ghost use Rattle.wasm_step.specs.inside.Wanted.{CallsAsTyped, HasOwnType};
 ghost use Rattle.wasm_step.specs.Reduce.{call, call_element, call_indirect, call_library, call_own, reduce_instruction, store_stays};
 ghost use Rattle.wasm_step.specs.Strand.{started_above};
 ghost use Rattle.wasm_store.specs.Store.{Store};
-ghost use Rattle.wasm_stack.specs.Thread.{Thread, called_function, has_frame_room, waiting_frame, without_operands};
+ghost use Rattle.wasm_stack.specs.Thread.{Thread, arguments, called_function, called_with, has_frame_room, waiting_frame, without_operands};
 
-use guest_module::{Callee, ValidModule, callee_at};
+use guest_module::{Called, Callee, ValidModule, called_at, callee_at};
 use std::alloc::AllocError;
 use wasm_stack::{Next, Stack};
 use wasm_store::Store;
@@ -61,6 +60,14 @@ fn call_typed<'m>(
     }
 }
 
+/// Whether a function of the library has this index.
+#[inline(always)]
+pub(crate) fn is_imported(module: &ValidModule, index: u32) -> bool
+    ensures { result ≡ nat_lt index (length (module_of «module».now).imports) }
+{
+    (index as usize) < module.module().imports.len()
+}
+
 /// What comes after a call of the library by a thread within its limits. With no more results than arguments it keeps to them,
 /// so these are not tested.
 #[inline(never)]
@@ -84,38 +91,34 @@ pub(crate) fn library_call(module: &ValidModule, instr: &Instr) -> Option<Next>
 /// burst, whose other instructions would find fewer registers.
 #[inline(never)]
 pub(crate) fn call_in_place<'m>(thread: &mut Stack<'m>, module: &'m ValidModule, index: u32) -> bool
+    requires own { length (module_of «module».now).imports ≤ index }
     requires within { ThreadWithin thread.old }
     requires rule { call (module_of «module».now) index thread.old ≡ Stops Sticks → ⊥ }
     ensures goes { IsTrue result → call (module_of «module».now) index thread.old ≡ Goes thread.new }
     ensures within { ThreadWithin thread.new }
     ensures same { result ≡ false → thread.new ≡ thread.old }
 {
-    let Some((callee, typing)) = own_typed(module, index) else {
+    let Some(called) = own_called(module, index) else {
         return false;
     };
-    if has_few(&callee, typing) {
-        thread.enter_within(index, callee, typing, 0, true)
+    if has_few(&called) {
+        thread.enter_within(index, called, 0, true)
     } else {
-        enter_many(thread, index, callee, typing, 0)
+        enter_many(thread, index, called, 0)
     }
 }
 
 // The frame of a function below so many operands that go, with values that are copied together.
 #[inline(never)]
-fn enter_many<'m>(
-    thread: &mut Stack<'m>,
-    index: u32,
-    callee: Callee<'m>,
-    typing: &FuncType,
-    above: usize,
-) -> bool
+fn enter_many<'m>(thread: &mut Stack<'m>, index: u32, called: Called<'m>, above: usize) -> bool
     requires within { ThreadWithin thread.old }
-    requires enough { above + length (func_type typing.now).params ≤ length thread.old.stack }
-    ensures entered { IsTrue result → called_function (without_operands above thread.old) index callee.entry (func_type typing.now) ≡ Some thread.new }
+    requires enough { above + called.takes ≤ length thread.old.stack }
+    ensures entered { IsTrue result → called_with (arguments called.entry.takes (without_operands above thread.old)) called.entry.takes (without_operands above thread.old)
+        index called.entry.callee called.entry.gives ≡ Some thread.new }
     ensures within { ThreadWithin thread.new }
     ensures same { result ≡ false → thread.new ≡ thread.old }
 {
-    thread.enter_within(index, callee, typing, above, false)
+    thread.enter_within(index, called, above, false)
 }
 
 /// A call through the table in place, where it is one of the module's own functions.
@@ -136,16 +139,19 @@ pub(crate) fn call_indirect_in_place<'m>(
     let Some(Some(index)) = store.element(thread.last_i32()) else {
         return false;
     };
-    let Some((callee, typing)) = own_typed(module, index) else {
-        return false;
-    };
-    if !has_type(module.module(), &callee, typing, type_index) {
+    if is_imported(module, index) {
         return false;
     }
-    if has_few(&callee, typing) {
-        thread.enter_within(index, callee, typing, 1, true)
+    let Some(called) = own_called(module, index) else {
+        return false;
+    };
+    if !has_type(module.module(), &called.callee, type_index) {
+        return false;
+    }
+    if has_few(&called) {
+        thread.enter_within(index, called, 1, true)
     } else {
-        enter_many(thread, index, callee, typing, 1)
+        enter_many(thread, index, called, 1)
     }
 }
 
@@ -279,35 +285,38 @@ pub(crate) fn call_indirect<'m>(
     }
 }
 
-// The module's own function with this index and its type, if there is one.
+// The module's own function with this index, if there is one.
+#[tactic(auto, using(crate::proofs::RuledThreads::called_own, crate::proofs::RuledThreads::called_type))]
 #[inline(always)]
-fn own_typed<'m>(module: &'m ValidModule, index: u32) -> Option<(Callee<'m>, &'m FuncType)>
-    ensures types { IfSome result (λ own. type_of (module_of «module».now) index ≡ Some (func_type own.1.now)) }
-    ensures at { IfSome result (λ own. slice_get (module_of «module».now).types own.0.type_index ≡ Some (func_type own.1.now)) }
-    ensures calls { IfSome result (λ own. (t : Thread) → call (module_of «module».now) index t ≡ frame_goes_on t (called_function t index own.0 (func_type own.1.now))) }
+fn own_called<'m>(module: &'m ValidModule, index: u32) -> Option<Called<'m>>
+    requires { length (module_of «module».now).imports ≤ index }
+    ensures types { IfSome result (λ own. HasOwnType (module_of «module».now) index own.callee) }
+    ensures calls { IfSome result (λ own. (t : Thread) → call (module_of «module».now) index t
+        ≡ frame_goes_on t (called_with (arguments own.takes t) own.takes t index own.callee own.gives)) }
 {
-    let inner = module.module();
-    let imports = inner.imports.len();
-    let place = index as usize;
-    if place < imports {
-        return None;
-    }
-    let callee = callee_at(module, place - imports)?;
-    match type_at(inner, callee.type_index()) {
-        Some(typing) => Some((callee, typing)),
-        None => unreachable!(),
-    }
+    let place = index as usize - module.module().imports.len();
+    let called = called_at(module, place)?;
+    Some(called)
 }
 
-// Whether a function of this type has the type with this index, which mostly is its own.
+// Whether a function has the type with this index, which mostly is its own.
 #[inline(always)]
-fn has_type(module: &Module, callee: &Callee<'_>, typing: &FuncType, type_index: u32) -> bool
-    requires { slice_get (module_of «module».now).types callee.now.type_index ≡ Some (func_type typing.now) }
-    ensures { IsTrue result → MatchesCallType (module_of «module».now) (func_type typing.now) (slice_get (module_of «module».now).types type_index) }
+fn has_type(module: &Module, callee: &Callee<'_>, type_index: u32) -> bool
+    ensures { IsTrue result → CallsAsTyped (module_of «module».now) callee.now (slice_get (module_of «module».now).types type_index) }
 {
     if callee.type_index() == type_index {
         return true;
     }
+    has_equal_type(module, callee, type_index)
+}
+
+// Whether it has an equal type.
+fn has_equal_type(module: &Module, callee: &Callee<'_>, type_index: u32) -> bool
+    ensures { IsTrue result → CallsAsTyped (module_of «module».now) callee.now (slice_get (module_of «module».now).types type_index) }
+{
+    let Some(typing) = type_at(module, callee.type_index()) else {
+        return false;
+    };
     match type_at(module, type_index) {
         Some(wanted) => is_same_type(typing, wanted),
         None => false,
@@ -319,9 +328,11 @@ const FEW: usize = 4;
 
 // Whether a frame takes so few arguments and declared locals that each is copied by itself.
 #[inline(always)]
-fn has_few(callee: &Callee<'_>, typing: &FuncType) -> bool {
-    match callee.declared().starts() {
-        Some(starts) => starts.len() <= FEW && typing.params.len() <= FEW,
+fn has_few(called: &Called<'_>) -> bool
+    ensures { IsTrue result → (called.now.takes ≤ 4) × (length (zeros called.now.callee.locals) ≤ 4) }
+{
+    match called.callee.declared().starts() {
+        Some(starts) => starts.len() <= FEW && called.takes <= FEW,
         None => false,
     }
 }

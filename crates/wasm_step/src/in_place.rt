@@ -11,7 +11,7 @@ ghost use Rattle.wasm_stack.specs.Rows.{local_get, local_set, local_tee};
 ghost use Rattle.wasm_step.specs.inside.Rules.{HasRule};
 ghost use Rattle.wasm_step.specs.Reduce.{instr_row, store_stays};
 
-use crate::calls::{call_in_place, call_indirect_in_place};
+use crate::calls::{call_in_place, call_indirect_in_place, is_imported};
 use crate::memory::{global_set, load_in_place, write_in_place};
 use crate::numbers::numeric_in_place;
 use guest_module::ValidModule;
@@ -100,6 +100,9 @@ pub(crate) fn try_in_place<'m>(
             Some(thread.return_out())
         }
         Instr::CallFunc(index) => {
+            if is_imported(module, *index) {
+                return Ok(None);
+            }
             thread.go_to(*todo);
             done_if(call_in_place(thread, module, *index))
         }

@@ -19,8 +19,8 @@
 //! read again after it. A level that opens takes it along.
 //!
 //! A call of an own function is made in place too (`call_in_place`, and through the table `call_indirect_in_place`), in a
-//! function apart, so that the burst keeps its registers: all its tests come first, and the frame wants no memory. What its
-//! locals start as is copied from the module, which keeps it (`Declared` of wasm_types).
+//! function apart, so that the burst keeps its registers: all its tests come first, and the frame wants no memory. What a call
+//! looks up is kept with the module (`Called` of guest_module), as is what locals start as, which is copied.
 #![tactic(auto)]
 
 mod calls;

@@ -10,7 +10,6 @@ ghost use Rattle.wasm_stack.specs.Limits.{ThreadWithin};
 ghost use Rattle.wasm_stack.specs.After.{Goes, Sticks, Stops};
 ghost use Rattle.wasm_step.specs.Reduce.{global_get, global_set, grow_answer, store_stays, load, memory_grow, memory_size, write, write_at};
 
-use crate::numbers::{long, narrow};
 use guest_memory::Memory;
 use std::alloc::AllocError;
 use wasm_stack::{Next, Stack};
@@ -133,8 +132,8 @@ pub(crate) fn write_in_place(
     ensures store { IfOk result (λ went. went ≡ false → store.new ≡ store.old) }
 {
     let (base, v) = thread.last_two();
-    let base = narrow(base.value());
-    if !stored(store, op, address(base, offset), v.value())? {
+    let base = base.as_narrow();
+    if !stored(store, op, address(base, offset), v)? {
         return Ok(false);
     }
     thread.drop_one();
@@ -145,7 +144,7 @@ pub(crate) fn write_in_place(
 // Whether a store wrote its operand. The width stands in each arm, as a load's does.
 #[tactic(auto, unfolding(wasm_values::specs::Access::store_width))]
 #[inline(always)]
-fn stored(store: &mut Store<'_>, op: u8, addr: u64, v: Value) -> Result<bool, AllocError>
+fn stored(store: &mut Store<'_>, op: u8, addr: u64, v: Slot) -> Result<bool, AllocError>
     requires { store_width op v ≡ None → ⊥ }
     ensures goes { IfOk result (λ went. IsTrue went → Stores op addr v store.old store.new) }
     ensures same { IfOk result (λ went. went ≡ false → store.new ≡ store.old) }
@@ -170,7 +169,7 @@ fn stored_i32(
     op: u8,
     k: u8,
     addr: u64,
-    v: Value,
+    v: Slot,
     width: u32,
 ) -> Result<bool, AllocError>
     requires width { IsWidth width }
@@ -181,8 +180,7 @@ fn stored_i32(
     ensures goes { IfOk result (λ went. IsTrue went → Stores op addr v store.old store.new) }
     ensures same { IfOk result (λ went. went ≡ false → store.new ≡ store.old) }
 {
-    let x = narrow(v);
-    store.write(addr, width, u64::from(x))
+    store.write(addr, width, u64::from(v.as_narrow()))
 }
 
 // The same of 64 bits.
@@ -193,7 +191,7 @@ fn stored_i64(
     op: u8,
     k: u8,
     addr: u64,
-    v: Value,
+    v: Slot,
     width: u32,
 ) -> Result<bool, AllocError>
     requires width { IsWidth width }
@@ -204,8 +202,7 @@ fn stored_i64(
     ensures goes { IfOk result (λ went. IsTrue went → Stores op addr v store.old store.new) }
     ensures same { IfOk result (λ went. went ≡ false → store.new ≡ store.old) }
 {
-    let x = long(v);
-    store.write(addr, width, x)
+    store.write(addr, width, v.as_long())
 }
 
 fn write_at(

@@ -1,12 +1,11 @@
 // Numeric instructions in place, of a thread for which they have a rule. The opcode is looked at once, and tells how many
 // operands there are and of which type, so that these are not tested. Divisions are left to their full case.
 ghost use Rattle.std.specs.Prelude.{◌≡◌, IsTrue, false, true};
-ghost use Rattle.wasm_types.specs.declared.code.Value.TheVariants.{I32, I64};
 ghost use Rattle.wasm_values.specs.Numeric.{is_unary};
 ghost use Rattle.wasm_stack.specs.After.{Goes, Sticks, Stops};
 ghost use Rattle.wasm_stack.specs.Limits.{ThreadWithin};
 ghost use Rattle.wasm_stack.specs.Rows.{numeric};
-ghost use Rattle.wasm_step.specs.inside.Rules.{IsNarrow, IsLong, OneIsI32, OneIsI64, TwoAreI32, TwoAreI64};
+ghost use Rattle.wasm_step.specs.inside.Rules.{OneIsI32, OneIsI64, TwoAreI32, TwoAreI64};
 
 use wasm_stack::Stack;
 use wasm_types::Value;
@@ -153,7 +152,7 @@ fn one_i32(thread: &mut Stack<'_>, op: u8, k: u8) -> bool
     ensures within { ThreadWithin thread.new }
     ensures same { result ≡ false → thread.new ≡ thread.old }
 {
-    let x = narrow(thread.last().value());
+    let x = thread.last().as_narrow();
     let Some(v) = changed(k, Value::I32(x)) else {
         return false;
     };
@@ -175,7 +174,7 @@ fn two_i32(thread: &mut Stack<'_>, op: u8, k: u8) -> bool
     ensures same { result ≡ false → thread.new ≡ thread.old }
 {
     let (x, y) = thread.last_two();
-    let (x, y) = (narrow(x.value()), narrow(y.value()));
+    let (x, y) = (x.as_narrow(), y.as_narrow());
     let Some(v) = combined(k, Value::I32(x), Value::I32(y)) else {
         return false;
     };
@@ -196,7 +195,7 @@ fn one_i64(thread: &mut Stack<'_>, op: u8, k: u8) -> bool
     ensures within { ThreadWithin thread.new }
     ensures same { result ≡ false → thread.new ≡ thread.old }
 {
-    let x = long(thread.last().value());
+    let x = thread.last().as_long();
     let Some(v) = changed(k, Value::I64(x)) else {
         return false;
     };
@@ -218,34 +217,10 @@ fn two_i64(thread: &mut Stack<'_>, op: u8, k: u8) -> bool
     ensures same { result ≡ false → thread.new ≡ thread.old }
 {
     let (x, y) = thread.last_two();
-    let (x, y) = (long(x.value()), long(y.value()));
+    let (x, y) = (x.as_long(), y.as_long());
     let Some(v) = combined(k, Value::I64(x), Value::I64(y)) else {
         return false;
     };
     thread.replace_two(v);
     true
-}
-
-/// The number that a value of 32 bits is.
-#[inline(always)]
-pub(crate) fn narrow(v: Value) -> u32
-    requires { IsNarrow v }
-    ensures { v ≡ I32 result }
-{
-    match v {
-        Value::I32(x) => x,
-        Value::I64(_) => unreachable!(),
-    }
-}
-
-/// The same of 64 bits.
-#[inline(always)]
-pub(crate) fn long(v: Value) -> u64
-    requires { IsLong v }
-    ensures { v ≡ I64 result }
-{
-    match v {
-        Value::I32(_) => unreachable!(),
-        Value::I64(x) => x,
-    }
 }

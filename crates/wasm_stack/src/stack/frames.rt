@@ -1,17 +1,16 @@
 // Frames: a thread's start, calls of its functions, and the ends of these.
 ghost use Rattle.std.specs.Prelude.{◌≡◌, ◌+◌, ◌≤◌, [], ◌++◌, length, IfOk, OnOk, Some, None, if◌then◌else◌, IsTrue, false, take};
-ghost use Rattle.wasm_stack.specs.Thread.{arguments, function_at_start, called_function, called_with, left_frame, without_operands};
+ghost use Rattle.wasm_stack.specs.Thread.{arguments, function_at_start, called_with, left_frame, without_operands};
 ghost use Rattle.wasm_types.specs.Locals.{zeros};
-ghost use Rattle.wasm_types.specs.Modules.{func_type};
 ghost use Rattle.std.specs.Vec.{vec_capacity};
 ghost use Rattle.wasm_stack.specs.Limits.{ThreadWithin};
 ghost use Rattle.wasm_stack.specs.After.{Ends, Goes, Stops};
 ghost use Rattle.wasm_stack.specs.Control.{leave_with_top};
 
 use super::{MOST_FRAMES, Stack, StackFrame, push_to};
-use guest_module::Callee;
+use guest_module::{Called, Callee};
 use std::alloc::AllocError;
-use wasm_types::{FuncType, MOST_THREAD_SIZE, Slot, ValType, result_of};
+use wasm_types::{MOST_THREAD_SIZE, Slot, ValType};
 
 impl<'m> Stack<'m> {
     /// A function at its start, with these arguments.
@@ -79,24 +78,19 @@ impl<'m> Stack<'m> {
     }
 
     /// The same where memory is reserved for the frame and the limits allow it, below so many operands that go, of a level that
-    /// has as many and the arguments. With `few`, values are copied one by one.
+    /// has as many and the arguments. With `few`, at most four values are copied at a time, one by one.
     #[inline(always)]
-    pub fn enter_within(
-        &mut self,
-        index: u32,
-        callee: Callee<'m>,
-        typing: &FuncType,
-        above: usize,
-        few: bool,
-    ) -> bool
+    pub fn enter_within(&mut self, index: u32, called: Called<'m>, above: usize, few: bool) -> bool
         requires within { ThreadWithin self.old }
-        requires enough { above + length (func_type typing.now).params ≤ length self.old.stack }
-        ensures entered { IsTrue result → called_function (without_operands above self.old) index callee.entry (func_type typing.now) ≡ Some self.new }
+        requires enough { above + called.takes ≤ length self.old.stack }
+        requires few { IsTrue few → (called.takes ≤ 4) × (length (zeros called.callee.locals) ≤ 4) }
+        ensures entered { IsTrue result → called_with (arguments called.entry.takes (without_operands above self.old)) called.entry.takes (without_operands above self.old)
+            index called.entry.callee called.entry.gives ≡ Some self.new }
         ensures within { ThreadWithin self.new }
         ensures same { result ≡ false → self.new ≡ self.old }
     {
-        let n = typing.params.len();
-        let Some(starts) = callee.declared().starts() else {
+        let n = called.takes;
+        let Some(starts) = called.callee.declared().starts() else {
             return false;
         };
         let height = self.operands.len() - above;
@@ -112,13 +106,13 @@ impl<'m> Stack<'m> {
         }
         let first = height - n;
         self.callers.push_reserved(self.here);
-        self.here.todo = callee.body();
+        self.here.todo = called.callee.body();
         self.here.floor = first;
         self.here.labels_from = self.labels.len();
         self.here.locals_from = locals_from;
         self.here.bottom = first;
         self.here.func = index;
-        self.here.gives = result_of(typing);
+        self.here.gives = called.gives;
         self.room = (left - starts.len() - n).min(self.operands.capacity());
         append_reserved(&mut self.locals, &self.operands[first..height], few);
         append_reserved(&mut self.locals, starts, few);
@@ -190,16 +184,53 @@ const COPIED_PIECE: usize = 64;
 // These values after the others, for which there is room.
 #[inline(always)]
 fn append_reserved(items: &mut Vec<Slot>, more: &[Slot], few: bool)
-    requires { length items.old.items + length more.now ≤ vec_capacity items.old }
+    requires room { length items.old.items + length more.now ≤ vec_capacity items.old }
+    requires few { IsTrue few → length more.now ≤ 4 }
     ensures items { items.new.items ≡ items.old.items ++ more.now }
     ensures capacity { vec_capacity items.old ≤ vec_capacity items.new }
 {
     if few {
-        for item in more {
-            items.push_reserved(*item);
-        }
+        append_few(items, more);
     } else {
         append_pieces(items, more);
+    }
+}
+
+// Four values at most, without a loop, which would take registers.
+#[inline(always)]
+fn append_few(items: &mut Vec<Slot>, more: &[Slot])
+    requires room { length items.old.items + length more.now ≤ vec_capacity items.old }
+    requires few { length more.now ≤ 4 }
+    ensures items { items.new.items ≡ items.old.items ++ more.now }
+    ensures capacity { vec_capacity items.old ≤ vec_capacity items.new }
+{
+    match more {
+        [] => {}
+        [first] => items.push_reserved(*first),
+        [first, second, rest @ ..] => {
+            items.push_reserved(*first);
+            items.push_reserved(*second);
+            append_two(items, rest);
+        }
+    }
+}
+
+// The same of two at most.
+#[inline(always)]
+fn append_two(items: &mut Vec<Slot>, more: &[Slot])
+    requires room { length items.old.items + length more.now ≤ vec_capacity items.old }
+    requires few { length more.now ≤ 2 }
+    ensures items { items.new.items ≡ items.old.items ++ more.now }
+    ensures capacity { vec_capacity items.old ≤ vec_capacity items.new }
+{
+    match more {
+        [] => {}
+        [first] => items.push_reserved(*first),
+        [first, second] => {
+            items.push_reserved(*first);
+            items.push_reserved(*second);
+        }
+        _ => unreachable!(),
     }
 }
 

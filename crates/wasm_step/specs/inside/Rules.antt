@@ -1,6 +1,5 @@
 -- That there is a rule for what comes next.
 use Rattle.std.specs.Prelude.{◌≡◌, ℕ, ◌∷◌, drop}
-use Rattle.wasm_types.specs.declared.code.Value.{Value}
 use Rattle.wasm_types.specs.declared.code.Value.TheVariants.{I32, I64}
 use Rattle.wasm_types.specs.Code.{Tree}
 use Rattle.wasm_values.specs.Numeric.{IsNone, binary_32, binary_64, unary_32, unary_64}
@@ -18,13 +17,7 @@ RunsByRules t g = (burst most_instructions t g).stop ≡ Sticks → ⊥
 abbrev pub HasRule : Tree → Thread → Store → Type 0
 HasRule i t g = (instr_row i t g).after ≡ Stops Sticks → ⊥
 
--- ---- values of a type
-
-abbrev pub IsNarrow : Value → Type 0
-IsNarrow v = (x : ℕ) × (v ≡ I32 x)
-
-abbrev pub IsLong : Value → Type 0
-IsLong v = (x : ℕ) × (v ≡ I64 x)
+-- ---- operands of a type
 
 -- the topmost operand, and the two topmost, beside `HasI32` of wasm_stack
 abbrev pub HasI64 : Thread → Type 0

@@ -20,7 +20,7 @@ use Rattle.wasm_step.proofs.Accesses.{write_sticks_anywhere}
 use Rattle.wasm_step.proofs.RuledNumbers.{sticks_anywhere}
 use Rattle.wasm_step.proofs.RuledThreads.{has_address, has_local, has_operand, sets, tees}
 use Rattle.wasm_step.proofs.in_place.try_in_place.Goals as goal
-use Rattle.wasm_step.proofs.in_place.try_in_place.Goals.{in-Br, in-BrIf, in-BrTable, in-Return, in-CallFunc, in-CallIndirect}
+use Rattle.wasm_step.proofs.in_place.try_in_place.Goals.{in-Br, in-BrIf, in-BrTable, in-Return, in-CallFunc+else-is_imported, in-CallIndirect}
 
 -- a way that goes on where that is within
 way_within : (o : Option Way) (w : Way) (u v : Thread) (a : AfterStep) → o ≡ Some w → u ≡ v → way_of w v ≡ a → StaysWithin a → o ≡ Some way.Goes → ThreadWithin u
@@ -150,7 +150,7 @@ returns-clause-done c =
           let same = ap (λ labels. branch_table labels w.in-BrTable.default w.go_to-in-BrTable.new.self) w.deref-in-BrTable.ensures.value in
           by_way c _ _ _ _ w.in-BrTable.is w.go_to-in-BrTable.ensures w.thread-is w.way'-is (ap (store_stays g) (sym (w.branch_table_in_place.ensures ∙ same)))
       | in-Return w ↦ by_way c _ _ _ _ w.in-Return.is w.go_to-in-Return.ensures w.thread-is w.way'-is (ap (store_stays g) (sym w.return_out.ensures))
-      | in-CallFunc w ↦ by_went c _ _ _ _ w.in-CallFunc.is w.go_to-in-CallFunc.ensures w.thread-is (w.way'-is ∙ w.done_if-way.ensures) (λ yes.
+      | in-CallFunc+else-is_imported w ↦ by_went c _ _ _ _ w.in-CallFunc.is w.go_to-in-CallFunc.ensures w.thread-is (w.way'-is ∙ w.done_if-way.ensures) (λ yes.
           ap (λ (m : Module). store_stays g (call m w.in-CallFunc.index w.go_to-in-CallFunc.new.self)) (sym c.requires.same_module)
           ∙ ap (store_stays g) (w.call_in_place.ensures.goes yes))
       | in-CallIndirect w ↦ by_went c _ _ _ _ w.in-CallIndirect.is w.go_to-in-CallIndirect.ensures w.thread-is (w.way'-is ∙ w.done_if-way-in-CallIndirect.ensures) (λ yes.
@@ -164,7 +164,7 @@ returns-clause-within c =
       | in-BrIf w ↦ way_in c _ _ _ _ w.go_to-in-BrIf.ensures w.thread-is w.way'-is w.branch_if_in_place.ensures (branch_if_within w.in-BrIf.n _ w.go_to-in-BrIf.new.self refl)
       | in-BrTable w ↦ way_in c _ _ _ _ w.go_to-in-BrTable.ensures w.thread-is w.way'-is w.branch_table_in_place.ensures (branch_table_within w.deref-in-BrTable.result.now w.in-BrTable.default _ w.go_to-in-BrTable.new.self refl)
       | in-Return w ↦ way_in c _ _ _ _ w.go_to-in-Return.ensures w.thread-is w.way'-is w.return_out.ensures (return_within _)
-      | in-CallFunc w ↦ went_in c _ w.thread-is w.call_in_place.ensures.within
+      | in-CallFunc+else-is_imported w ↦ went_in c _ w.thread-is w.call_in_place.ensures.within
       | in-CallIndirect w ↦ went_in c _ w.thread-is w.call_indirect_in_place.ensures.within
     ]
 

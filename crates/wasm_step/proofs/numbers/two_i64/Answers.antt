@@ -1,16 +1,16 @@
 use Rattle.wasm_step.proofs.RuledNumbers.{two_i64}
 use Rattle.wasm_step.proofs.numbers.two_i64.Goals as goal
 
-pub long-x-requires : goal.long-x-requires
-long-x-requires c =
+pub as_long-x-requires : goal.as_long-x-requires
+as_long-x-requires c =
     let two = two_i64 c.args.op c.args.k c.args.thread.now c.requires.same c.requires.rule c.requires.takes c.requires.only in
     let at = c.last_two-x.ensures in
     let are = two.1.1 in
     let is = c.value.ensures in
     (two.0, cc)
 
-pub long-y-requires : goal.long-y-requires
-long-y-requires c =
+pub as_long-y-requires : goal.as_long-y-requires
+as_long-y-requires c =
     let two = two_i64 c.args.op c.args.k c.args.thread.now c.requires.same c.requires.rule c.requires.takes c.requires.only in
     let at = c.last_two-x.ensures in
     let are = two.1.1 in

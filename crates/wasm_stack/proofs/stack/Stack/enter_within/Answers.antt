@@ -1,12 +1,7 @@
 use Rattle.std.proofs.Common.{◌≡◌, ℕ, ◌+◌, ◌-◌, ◌≤◌, length, drop, refl, sym, ap, ◌∙◌, arith, length-drop}
 use Rattle.std.proofs.lemmas.List.{length-reverse}
-use Rattle.wasm_types.specs.declared.code.ValType.{ValType}
-use Rattle.std.specs.Prelude.{Option}
-use Rattle.wasm_types.specs.Calls.{result_of}
 use Rattle.wasm_types.specs.Locals.{zeros}
-use Rattle.wasm_types.specs.Modules.{func_type}
-use Rattle.wasm_stack.specs.inside.Stacks.{thread_of}
-use Rattle.wasm_stack.specs.Thread.{Thread, arguments, called_function, called_with, without_operands}
+use Rattle.wasm_stack.specs.Thread.{Thread, arguments, called_with, without_operands}
 use Rattle.wasm_stack.specs.declared.stack.StackFrame.{StackFrame}
 use Rattle.wasm_stack.proofs.EnteredFrames.{IsEntered, grown, height as height_of, entered_sound, entered_view, size_within, within_of}
 use Rattle.wasm_stack.proofs.stack.Stack.enter_within.Goals as goal
@@ -30,7 +25,7 @@ overflow_sub-left-2 c = omega (arith, before c)
 
 module _ (c : After-truncate) where
   abbrev first : ℕ
-  first = c.len.result - c.args.above - c.len-n.result
+  first = c.len.result - c.args.above - c.args.called.takes
 
   abbrev here : StackFrame
   here = record {
@@ -40,31 +35,28 @@ module _ (c : After-truncate) where
     locals_from = c.len-locals_from.result;
     bottom = first;
     func = c.args.index;
-    gives = c.result_of-self-inside.result;
+    gives = c.args.called.gives;
   }
 
   height : c.len.result ≡ length c.self.inside.operands.items
   height = c.len.ensures ∙ c.self.inside.operands.ok.0
 
-  n : c.len-n.result ≡ length (func_type c.args.typing.now).params
-  n = c.len-n.ensures ∙ c.args.typing.now.params.ok.0
-
-  enough : c.args.above + c.len-n.result ≤ length c.self.inside.operands.items - c.self.inside.here.floor
+  enough : c.args.above + c.args.called.takes ≤ length c.self.inside.operands.items - c.self.inside.here.floor
   enough =
       let s = c.self.inside in
-      omega (arith, ap (λ (t : Thread). length t.stack) c.self.view_is, length-reverse (drop s.here.floor s.operands.items), length-drop s.here.floor s.operands.items, c.requires.enough, n)
+      omega (arith, ap (λ (t : Thread). length t.stack) c.self.view_is, length-reverse (drop s.here.floor s.operands.items), length-drop s.here.floor s.operands.items, c.requires.enough)
 
-  split : first + c.len-n.result + c.args.above ≡ c.len.result
+  split : first + c.args.called.takes + c.args.above ≡ c.len.result
   split = omega (arith, height, enough, c.self.invariant.part.top)
 
-  frame : IsEntered c.self.inside c.args.callee c.args.above c.len-n.result first here c.truncate.new.self c.append_reserved-2.new.items c.push_reserved.new.self
+  frame : IsEntered c.self.inside c.args.called.callee c.args.above c.args.called.takes first here c.truncate.new.self c.append_reserved-2.new.items c.push_reserved.new.self
   frame =
       let s = c.self.inside in
       let passed = c.append_reserved.ensures.items in
       let appended = c.append_reserved-2.ensures.items in
       let starts = c.in-Some.ensures ∙ c.declared.ensures in
       let read = c.deref.ensures.value in
-      let many : c.len.result - c.args.above - first ≡ c.len-n.result = omega (arith, split) in
+      let many : c.len.result - c.args.above - first ≡ c.args.called.takes = omega (arith, split) in
       record {
         split = split ∙ height;
         enough = omega (arith, height, enough, c.self.invariant.part.top);
@@ -79,13 +71,13 @@ module _ (c : After-truncate) where
         callers_are = c.push_reserved.ensures.items;
       }
 
-  starts : length c.in-Some.starts.now ≡ length (zeros c.args.callee.locals)
+  starts : length c.in-Some.starts.now ≡ length (zeros c.args.called.callee.locals)
   starts = ap length (c.in-Some.ensures ∙ c.declared.ensures)
 
   abbrev early : After-len-2
   early = (goal.at.invariant_of-self c).After-len-2
 
-  grown_now : length c.append_reserved-2.new.items.items ≡ length c.self.inside.locals.items + c.len-n.result + length (zeros c.args.callee.locals)
+  grown_now : length c.append_reserved-2.new.items.items ≡ length c.self.inside.locals.items + c.args.called.takes + length (zeros c.args.called.callee.locals)
   grown_now = grown _ _ _ _ _ _ _ _ _ 0 c.self.invariant frame
 
   size : length c.truncate.new.self.items + length c.self.inside.labels.items + length c.append_reserved-2.new.items.items ≤ 16384
@@ -99,13 +91,8 @@ invariant_of-self c =
     (omega (arith, c.min-self-inside.ensures, grown_now c, starts c, labels (early c), locals (early c)))
 
 pub returns-clause-entered : goal.returns-clause-entered
-returns-clause-entered c =
-    let type = func_type c.args.typing.now in
-    let called_by = λ (k : ℕ) (t : Thread) (gives : Option ValType). called_with (arguments k (without_operands c.args.above t)) k (without_operands c.args.above t) c.args.index c.args.callee gives in
-    λ _.
-    ap (λ (t : Thread). called_function (without_operands c.args.above t) c.args.index c.args.callee type) (sym c.self.view_is)
-    ∙ ap (λ k. called_by k (thread_of c.self.inside) (result_of type)) (sym (n c))
-    ∙ ap (λ g. called_by c.len-n.result (thread_of c.self.inside) g) (sym c.result_of-self-inside.ensures)
+returns-clause-entered c = λ _.
+    ap (λ (t : Thread). called_with (arguments c.args.called.takes (without_operands c.args.above t)) c.args.called.takes (without_operands c.args.above t) c.args.index c.args.called.callee c.args.called.gives) (sym c.self.view_is)
     ∙ entered_view _ _ _ _ _ _ _ _ _ c.min-self-inside.result c.self.invariant (frame c)
 
 pub returns-clause-within : goal.returns-clause-within
