@@ -1,6 +1,7 @@
 -- What a change of one stack does to the thread that a strand stands for.
 use Rattle.std.proofs.Common.{◌≡◌, ℕ, Option, Vec, Global, Some, None, zero, suc, ◌+◌, ◌-◌, ◌<◌, ◌≤◌, List, [], ◌∷◌, ◌++◌, length, get_or, take, drop, refl, sym, ap, ◌∙◌, subst, arith, rules, tests, length-append, length-take, length-drop}
-use Rattle.std.specs.Prelude.{reverse, nat_lt, nat_le, is_some, ◌&&◌, if◌then◌else◌, false}
+use Rattle.std.specs.Prelude.{Bool, reverse, nat_lt, nat_le, is_some, ◌&&◌, if◌then◌else◌, true, false}
+use Rattle.std.proofs.lemmas.Bool.{ltb-false, ltb-true}
 use Rattle.std.proofs.Math.ListN.{set}
 use Rattle.std.proofs.Math.Seq.{take-suc}
 use Rattle.std.proofs.lemmas.List.{reverse-reverse, take-append-le, drop-append-le, reverse-append, length-take-le, take-take, drop-drop, take-append-drop, drop-set-add, take-set-le, drop-take, take_at, length-reverse, drop_at, drop_all, take_all}
@@ -334,6 +335,24 @@ pub past_none : (n : ℕ) (f : StackFrame) (labels : List StackLevel) (locals op
 past_none n f labels locals ops callers h lt =
     let m = length labels - f.labels_from in
     none_further (n - suc m) (suc m) n (thread_in f labels locals ops callers) (omega arith) (none_by labels f locals ops callers h)
+
+-- and no fewer
+pub past_some : (n : ℕ) (f : StackFrame) (labels : List StackLevel) (locals ops : List Value) (callers : List StackFrame) → IsFramePart f labels locals ops → n ≤ length labels - f.labels_from → closed_by n (thread_in f labels locals ops callers) ≡ None → ⊥
+past_some zero f labels locals ops callers h le none = cc
+past_some (suc n) f [] locals ops callers h le none = omega (arith, le)
+past_some (suc n) f (l ∷ ls) locals ops callers h le none =
+    let past = past_in f (l ∷ ls) locals ops callers l h n le in
+    absurd_some (sym past.thread ∙ none)
+  where
+    absurd_some : {t : Thread} → Some t ≡ None → ⊥
+    absurd_some e = cc
+
+pub past_fits : (s : Inside) (t : Thread) (n : ℕ) → IsStack s → thread_of s ≡ t → (closed_by n t ≡ None → ⊥) → n ≤ length s.labels.items - s.here.labels_from
+past_fits s t n h view some = by_test (nat_lt (length s.labels.items - s.here.labels_from) n) refl
+  where
+    by_test : (b : Bool) → nat_lt (length s.labels.items - s.here.labels_from) n ≡ b → n ≤ length s.labels.items - s.here.labels_from
+    by_test true e = absurd (some (ap (closed_by n) (sym view) ∙ past_none n s.here s.labels.items s.locals.items s.operands.items s.callers.items h.part (ltb-true (length s.labels.items - s.here.labels_from) n e)))
+    by_test false e = ltb-false (length s.labels.items - s.here.labels_from) n e
 
 module _ (s : Inside) (n : ℕ) (w : Vec StackLevel Global) (l : StackLevel) (h : IsStack s) (le : n ≤ length s.labels.items - s.here.labels_from) (past : IsPast n s.here s.labels.items s.locals.items s.operands.items s.callers.items l) (e : w.items ≡ take (length s.labels.items - n) s.labels.items) where
   pub past_view : closed_by n (thread_of s) ≡ Some (thread_of (record s { labels = w; here = record s.here { todo = l.todo; floor = l.floor } }))

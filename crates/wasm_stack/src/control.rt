@@ -68,7 +68,7 @@ impl<'m> Stack<'m> {
 
     // A branch to the innermost level.
     #[inline(always)]
-    fn jump(&mut self) -> Way
+    pub(crate) fn jump(&mut self) -> Way
         ensures { way_of result self.new ≡ jump self.old }
     {
         match self.target() {

@@ -6,7 +6,7 @@ ghost use Rattle.wasm_stack.specs.Limits.{ThreadWithin};
 ghost use Rattle.wasm_stack.specs.View.{chosen_body_entered};
 ghost use Rattle.wasm_stack.specs.After.{Goes, Sticks, Stops};
 ghost use Rattle.wasm_stack.specs.Thread.{with_todo};
-ghost use Rattle.wasm_stack.specs.Control.{branch_if, branch_table, jump};
+ghost use Rattle.wasm_stack.specs.Control.{branch, branch_if, branch_table, jump};
 
 use crate::control::label_at;
 use crate::halt::Way;
@@ -66,7 +66,7 @@ impl<'m> Stack<'m> {
         if x == 0 || n == 0 && self.jump_in_place() {
             return Way::Goes;
         }
-        self.branch(n)
+        self.branch_in_place(n)
     }
 
     /// A branch to one of these labels, which has a rule.
@@ -77,6 +77,17 @@ impl<'m> Stack<'m> {
     {
         let i = self.last_i32();
         self.drop_one();
-        self.branch(label_at(labels, i, default))
+        self.branch_in_place(label_at(labels, i, default))
+    }
+
+    // A branch past n levels, which has a rule.
+    #[tactic(auto, using(crate::proofs::LevelEnds::branch_by))]
+    #[inline(never)]
+    fn branch_in_place(&mut self, n: u32) -> Way
+        requires { branch n self.old ≡ Stops Sticks → ⊥ }
+        ensures { way_of result self.new ≡ branch n self.old }
+    {
+        self.past_known(n);
+        self.jump()
     }
 }

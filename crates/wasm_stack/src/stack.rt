@@ -513,19 +513,27 @@ impl<'m> Stack<'m> {
     pub fn past(&mut self, n: u32) -> bool
         ensures { closed_by n self.old ≡ (if result then Some self.new else None) }
     {
-        if n == 0 {
-            return true;
-        }
-        let height = self.labels.len();
-        let around = n as usize;
-        if height - self.here.labels_from < around {
+        if self.labels.len() - self.here.labels_from < n as usize {
             return false;
         }
-        let label = self.labels[height - around];
-        self.labels.truncate(height - around);
+        self.past_known(n);
+        true
+    }
+
+    /// The same of a level that there is.
+    #[inline(always)]
+    pub fn past_known(&mut self, n: u32)
+        requires { closed_by n self.old ≡ None → ⊥ }
+        ensures { closed_by n self.old ≡ Some self.new }
+    {
+        if n == 0 {
+            return;
+        }
+        let around = self.labels.len() - n as usize;
+        let label = self.labels[around];
+        self.labels.truncate(around);
         self.here.todo = label.todo;
         self.here.floor = label.floor;
-        true
     }
 
     /// The level keeps its topmost operand alone.
