@@ -96,8 +96,7 @@ impl<'m> Stack<'m> {
         let height = self.operands.len() - above;
         let locals_from = self.locals.len();
         let left = MOST_THREAD_SIZE - self.labels.len() - locals_from;
-        if starts.len() > left
-            || height > left - starts.len()
+        if left - height < starts.len()
             || self.locals.capacity() - locals_from < n + starts.len()
             || self.callers.len() + 1 >= MOST_FRAMES
             || self.callers.len() >= self.callers.capacity()

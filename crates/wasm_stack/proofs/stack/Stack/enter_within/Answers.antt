@@ -2,10 +2,16 @@ use Rattle.std.proofs.Common.{◌≡◌, ℕ, ◌+◌, ◌-◌, ◌≤◌, lengt
 use Rattle.std.proofs.lemmas.List.{length-reverse}
 use Rattle.wasm_types.specs.Locals.{zeros}
 use Rattle.wasm_stack.specs.Thread.{Thread, arguments, called_with, without_operands}
+use Rattle.wasm_stack.specs.declared.stack.Stack.TheInside.{Inside}
 use Rattle.wasm_stack.specs.declared.stack.StackFrame.{StackFrame}
+use Rattle.wasm_stack.specs.inside.Stacks.{thread_of}
 use Rattle.wasm_stack.proofs.EnteredFrames.{IsEntered, grown, height as height_of, entered_sound, entered_view, size_within, within_of}
 use Rattle.wasm_stack.proofs.stack.Stack.enter_within.Goals as goal
 use Rattle.wasm_stack.proofs.stack.Stack.enter_within.Goals.{After-len-2, After-truncate}
+
+-- the arguments and what goes lie above the level's floor
+enough_in : (s : Inside) (t : Thread) (above n : ℕ) → thread_of s ≡ t → above + n ≤ length t.stack → above + n ≤ length s.operands.items - s.here.floor
+enough_in s t above n view h = omega (arith, ap (λ (t : Thread). length t.stack) view, length-reverse (drop s.here.floor s.operands.items), length-drop s.here.floor s.operands.items, h)
 
 module _ (c : After-len-2) where
   labels : c.len-2.result ≡ length c.self.inside.labels.items
@@ -22,6 +28,27 @@ overflow_sub-left c = omega (arith, before c)
 
 pub overflow_sub-left-2 : goal.overflow_sub-left-2
 overflow_sub-left-2 c = omega (arith, before c)
+
+pub overflow_sub-left-3 : goal.overflow_sub-left-3
+overflow_sub-left-3 c =
+    let s = c.self.inside in
+    omega (arith, size_within s c.args.self.now c.self.invariant c.self.view_is c.requires.within, c.len.ensures, s.operands.ok.0, c.len-2.ensures, s.labels.ok.0, c.len-locals_from.ensures, s.locals.ok.0)
+
+pub overflow_sub-left-5 : goal.overflow_sub-left-5
+overflow_sub-left-5 c =
+    let s = c.self.inside in
+    omega (
+      arith,
+      c.if-left-height.false,
+      size_within s c.args.self.now c.self.invariant c.self.view_is c.requires.within,
+      c.len.ensures,
+      s.operands.ok.0,
+      c.len-2.ensures,
+      s.labels.ok.0,
+      c.len-locals_from.ensures,
+      s.locals.ok.0,
+      enough_in s c.args.self.now c.args.above c.args.called.takes c.self.view_is c.requires.enough,
+    )
 
 module _ (c : After-truncate) where
   abbrev first : ℕ
@@ -43,8 +70,7 @@ module _ (c : After-truncate) where
 
   enough : c.args.above + c.args.called.takes ≤ length c.self.inside.operands.items - c.self.inside.here.floor
   enough =
-      let s = c.self.inside in
-      omega (arith, ap (λ (t : Thread). length t.stack) c.self.view_is, length-reverse (drop s.here.floor s.operands.items), length-drop s.here.floor s.operands.items, c.requires.enough)
+      enough_in c.self.inside c.args.self.now c.args.above c.args.called.takes c.self.view_is c.requires.enough
 
   split : first + c.args.called.takes + c.args.above ≡ c.len.result
   split = omega (arith, height, enough, c.self.invariant.part.top)
@@ -82,7 +108,7 @@ module _ (c : After-truncate) where
 
   size : length c.truncate.new.self.items + length c.self.inside.labels.items + length c.append_reserved-2.new.items.items ≤ 16384
   size =
-      omega (arith, height_of _ _ _ _ _ _ _ _ _ 0 c.self.invariant frame, grown_now, starts, labels early, locals early, before early, c.if-starts-left.false, c.if-height-left.false, split)
+      omega (arith, height_of _ _ _ _ _ _ _ _ _ 0 c.self.invariant frame, grown_now, starts, labels early, locals early, before early, size_within c.self.inside c.args.self.now c.self.invariant c.self.view_is c.requires.within, height, c.if-left-height.false, split)
 
 pub invariant_of-self : goal.invariant_of-self
 invariant_of-self c =
