@@ -16,7 +16,6 @@ pub mod AllEnded
 pub mod AnsweredCalls
 pub mod KeptByEvents
 pub mod EventCounts
-pub mod JudgeTests
 pub mod EventMarks
 pub mod KeptFits
 pub mod KeptSound

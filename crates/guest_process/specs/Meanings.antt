@@ -1,10 +1,9 @@
--- What a process answers its caller: the need of a call, the threads that can go on, and why an entry was refused.
-use Rattle.std.specs.Prelude.{ℕ, ◌==◌, ⊤, Bool, false, List, [], Option, Some, None, is_some, Result, Ok, Err, if◌then◌else◌}
+-- What a process answers its caller: the need of a call, and the threads that can go on.
+use Rattle.std.specs.Prelude.{ℕ, ◌==◌, Bool, false, List, [], Option, Some, None, is_some, if◌then◌else◌}
 use Rattle.wasm_stack.specs.Thread.{functions_of}
 use Rattle.lib_calls.specs.Answer.{Answer}
 use Rattle.guest_process.specs.declared.end.End.{End}
 use Rattle.guest_process.specs.declared.end.End.TheVariants.{Running, Trapped}
-use Rattle.guest_process.specs.declared.divergence.Divergence.{Divergence}
 use Rattle.guest_process.specs.declared.need.Need.{Need as PlainNeed}
 use Rattle.guest_process.specs.declared.need.Need.TheVariants as plainly
 use Rattle.guest_process.specs.declared.waiting.Waiting.{Waiting}
@@ -48,8 +47,3 @@ answered_at S t a (Some w) = effects_of_answer w.call.kind S t w.call a
 -- a signal has a handler then
 abbrev pub handles_after : State → ℕ → Answer → ℕ → Bool
 handles_after S t a signal = is_some (handler (answered_at S t a (thread_at S t)).handlers signal)
-
--- why an entry was refused, or nothing where it was not
-abbrev pub refused_for : Result ⊤ Divergence → Option Divergence
-refused_for (Ok _) = None
-refused_for (Err why) = Some why

@@ -19,7 +19,7 @@ ghost use Rattle.guest_process.specs.State.{awaits_event};
 
 use crate::answer::{answered, entered, handler, has_room};
 use crate::body::Body;
-use crate::judge::ends_process;
+use crate::calls::ends_process;
 use crate::threads::narrow;
 use crate::waiting::Waiting;
 use lib_calls::{EntryView, Kind, write_back};

@@ -110,7 +110,7 @@ impl<'m> Body<'m> {
             events: self.events,
             last_thread: self.last_thread,
             end: self.end,
-            trap_frames: self.trap_frames.copy()?,
+            trap_frames: Frames::new(self.trap_frames.list()?),
         })
     }
 

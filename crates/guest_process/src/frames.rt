@@ -31,11 +31,4 @@ impl Frames {
     {
         self.functions.clone()
     }
-
-    /// An equal list.
-    pub(crate) fn copy(&self) -> Result<Frames, AllocError>
-        ensures { IfOk result (λ f. f ≡ self.now) }
-    {
-        Ok(Frames::new(self.list()?))
-    }
 }

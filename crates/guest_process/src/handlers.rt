@@ -1,14 +1,17 @@
 // How calls set the handlers of signals.
-ghost use Rattle.std.specs.Prelude.{◌≡◌, IfSome, IsTrue};
+ghost use Rattle.std.specs.Prelude.{◌≡◌, ℕ, IfSome, IsTrue};
 ghost use Rattle.guest_signals.specs.Signals.{is_signal};
-ghost use Rattle.guest_process.specs.Answers.{after_need, handled, handler_given};
+ghost use Rattle.lib_calls.specs.Answer.{Answer};
+ghost use Rattle.guest_process.specs.Answers.{after_need, effects_of_answer, handled, handler_given};
 ghost use Rattle.guest_process.specs.Meanings.{plain_need};
 ghost use Rattle.guest_process.specs.inside.Meanings.{state_of};
 
 use crate::body::Body;
 use crate::need::Need;
+use crate::threads::narrow;
+use crate::waiting::Waiting;
 use guest_signals::{Handlers, MOST_SIGNAL};
-use lib_calls::REFUSED;
+use lib_calls::{Kind, REFUSED};
 
 // The number at which no function handles a signal.
 const REMOVAL: u32 = 0xFFFF_FFFF;
@@ -33,6 +36,17 @@ impl<'m> Body<'m> {
             handlers.set(signal as u8, handler);
         }
         handlers
+    }
+
+    /// The handlers once a pending call was answered, however it is.
+    #[tactic(auto, using(crate::proofs::HandlerCalls::same_handlers, crate::proofs::HandlerCalls::given_handlers))]
+    pub(crate) fn handlers_after(&self, waiting: &Waiting<'m>) -> Handlers
+        ensures { (t : ℕ) (a : Answer) → result ≡ (effects_of_answer waiting.now.call.kind (state_of self.now) t waiting.now.call a).handlers }
+    {
+        match waiting.call.kind {
+            Kind::OnSignal => self.handlers_with(narrow(waiting.call.a0), narrow(waiting.call.a1)),
+            _ => self.handlers,
+        }
     }
 
     /// Gives the signal the handler of this number, where that may be.

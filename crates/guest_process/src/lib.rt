@@ -2,11 +2,11 @@
 //!
 //! Contracts see a `Process` as a `State` (`specs/State`): its module with memory, globals and table, its threads with their
 //! pending calls, its locks and handlers, its clock, its count of events, and how it ended. `need` says what an answer depends
-//! on (`specs/Answers`), `legal` whether an entry can be the next event, or the first condition that fails (`specs/Legal`), and
-//! `advance` gives the state after it (`specs/Next`). Which event the world lets a process have is a definition of its own
-//! (`live` of `specs/Live`). The laws `one_event` and `possible` say that these events are the legal ones and that `next` makes
-//! their states. The other laws say what holds of each state (`states_fit`) and what each event changes, as that the clock rises
-//! (`rises`) and that a lock has one holder (`lock_kept`).
+//! on (`specs/Answers`), and `advance` gives the state after the event of an entry (`specs/Next`) that can be the next event
+//! (`reason` of `specs/Legal`, which is the first condition that fails). Which event the world lets a process have is a
+//! definition of its own (`live` of `specs/Live`). The laws `one_event` and `possible` say that these events are the legal ones
+//! and that `next` makes their states. The other laws say what holds of each state (`states_fit`) and what each event changes,
+//! as that the clock rises (`rises`) and that a lock has one holder (`lock_kept`).
 //!
 //! The definitions of an event share what a kind of call needs (`need`: the reply and the state with its effects, no answer
 //! now, or the world) and what follows an answer (`thread_goes_on` of `specs/GoesOn`: the reply's value, a signal's handler,
@@ -31,7 +31,6 @@ mod end;
 mod ends;
 mod frames;
 mod handlers;
-mod judge;
 pub mod laws;
 mod need;
 mod process;
@@ -39,13 +38,12 @@ mod spawn;
 mod threads;
 mod verdict;
 mod waiting;
-mod world;
 
 pub use answer::is_due;
+pub use calls::ends_process;
 pub use divergence::Divergence;
 pub use end::End;
 pub use ends::push_end;
-pub use judge::ends_process;
 pub use need::Need;
 pub use process::Process;
 pub use verdict::Verdict;

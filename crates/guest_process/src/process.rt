@@ -13,13 +13,12 @@ ghost use Rattle.guest_process.specs.Answers.{need};
 ghost use Rattle.guest_process.specs.Fits.{StateFits};
 ghost use Rattle.guest_process.specs.Legal.{reason};
 ghost use Rattle.guest_process.specs.Next.{next};
-ghost use Rattle.guest_process.specs.Meanings.{able, handles_after, plain_need, refused_for, thread_frames};
+ghost use Rattle.guest_process.specs.Meanings.{able, handles_after, plain_need, thread_frames};
 ghost use Rattle.guest_process.specs.Start.{start};
 ghost use Rattle.guest_process.specs.State.{is_running};
 
 use crate::answer::handler;
 use crate::body::Body;
-use crate::divergence::Divergence;
 use crate::end::End;
 use crate::frames::Frames;
 use crate::need::Need;
@@ -131,21 +130,6 @@ impl<'m> Process<'m> {
         }
     }
 
-    /// Whether the entry can be the process's next event, and else the first condition that fails, in
-    /// the order of `Divergence`. It takes no memory.
-    #[inline(never)]
-    pub fn legal(&self, entry: &EntryView<'_>) -> Result<(), Divergence>
-        ensures { refused_for result ≡ reason self.now (entry_of entry.now) }
-    {
-        if !self.body.is_running() {
-            return Err(Divergence::AfterEnd);
-        }
-        match self.body.crew.get(entry.thread) {
-            Some(waiting) => self.body.judge(entry, waiting),
-            None => Err(Divergence::NoThread),
-        }
-    }
-
     /// The process after the event of a legal entry. Another thread's strand stays as it was.
     pub fn advance(self, entry: &EntryView<'_>) -> Result<Process<'m>, AllocError>
         requires legal { reason self (entry_of entry.now) ≡ None }
@@ -195,6 +179,13 @@ impl<'m> Process<'m> {
         ensures { result ≡ slice_get self.now.store.globals n }
     {
         self.body.store.global(n)
+    }
+
+    /// How many processes its group has.
+    pub fn count(&self) -> u32
+        ensures { result ≡ self.now.count }
+    {
+        self.body.count
     }
 
     /// The clock of the last event, or 0 before the first.

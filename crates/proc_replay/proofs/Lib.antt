@@ -1,3 +1,4 @@
+pub mod JudgeTests
 pub mod NextEntry
 pub mod OneTurn
 pub mod TurnAfterTurn

@@ -6,6 +6,7 @@ ghost use Rattle.proc_replay.specs.inside.Ahead.{IsLookahead, FitsEventCount, re
 ghost use Rattle.proc_replay.specs.Replaying.{after_replay_turn, turn};
 ghost use Rattle.proc_replay.specs.Meanings.{move_of};
 
+use crate::judge::legal;
 use crate::turn::Turn;
 use call_log::{LogHead, LogView};
 use guest_process::Process;
@@ -160,7 +161,7 @@ impl<'a> Ahead<'a> {
             self.turn = Turn::LogEnd;
             return;
         };
-        match process.legal(&entry) {
+        match legal(process, &entry) {
             Ok(()) => self.turn = Turn::Event(entry),
             Err(why) => self.turn = Turn::Diverged(process.events() + 1, why),
         }
