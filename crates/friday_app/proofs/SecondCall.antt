@@ -20,6 +20,7 @@ use Rattle.command_run.specs.Outcome.{CommandOutcome, outcome_text, writes_of}
 use Rattle.command_run.specs.Run.{Outside}
 use Rattle.record_command.specs.Agreement.{IsRecordable, group_in, run_in, steps_in}
 use Rattle.record_command.specs.Expected.{module_name, record_outcome}
+use Rattle.record_command.specs.ExpectedLaws.{schedule_is}
 use Rattle.replay_command.specs.Report.{replay_outcome}
 use Rattle.debug_command.specs.Debug.{debug_outcome, session_outcome}
 use Rattle.friday_app.specs.Command.{Command, Debug, Record, Replay}
@@ -53,7 +54,7 @@ recorded gives images before name r old middle is run =
     let others = run.call.others.each before is in
     let files : middle.told ≡ with_files (logs_of_steps (group_in r) (steps_in r) ++ images_of images (group_in r) (run_in r)) (Some before) =
     (run.call.files outcome known).whole tt ∙ ap (with_files (writes_of outcome)) is ∙ ap (λ (o : CommandOutcome). with_files (writes_of o) (Some before)) done.outcome in
-    let formed = schedule_formed gives before name r.schedule r.spelled in
+    let formed = schedule_formed gives before name r.schedule (schedule_is r) in
     let count = length-map r.schedule.processes (λ (line : ProcessLine). line.name) in
     record {
       done = done;
@@ -89,7 +90,7 @@ these gives images before name r second old middle new answer is first run ps ar
     let rec = recorded gives images before name r old middle is first in
     let pairs = pairs_of_processes r.schedule ps in
     let shown = rec.shows ps are rec.folder pairs (has_all images r old middle rec ps are.within) in
-    let formed = schedule_formed gives before name r.schedule r.spelled in
+    let formed = schedule_formed gives before name r.schedule (schedule_is r) in
     let below = subst (λ (count : ℕ). AllByRecursion (λ p. p < count) ps) (length-map r.schedule.processes (λ (line : ProcessLine). line.name)) are.within in
     let apart = λ (asked : Bool). images_apart asked (run_to r (steps_in r)) (sorted_of (processes_in_group (group_in r)) ps) r.schedule formed ps below in
     record {

@@ -2,6 +2,7 @@
 use Rattle.std.proofs.Common.{◌≡◌, ◌≢◌, ◌⊎◌, ◌∙◌, ◌<◌, ◌+◌, ℕ, zero, suc, List, [], ◌∷◌, ◌++◌, length, map, slice_get, Option, Some, None, Result, Ok, Err, inl, inr, ap, arith, refl, subst, sym, Bool, true, false, cond}
 use Rattle.std.specs.Prelude.{All, AllPairs, slice_index_or, nat_le}
 use Rattle.std.specs.FinMap.{get}
+use Rattle.std.specs.List.{AllZip, enumerate_from}
 use Rattle.std.proofs.lemmas.List.{length-map}
 use Rattle.fri_outside.specs.Outside.{Folder}
 use Rattle.wasm_types.specs.Modules.{Module}
@@ -14,7 +15,7 @@ use Rattle.schedule_text.specs.Reading.{ScheduleRefusal, BadLineAt, TooManyRuns,
 use Rattle.schedule_text.specs.Schedule.{IsInRange, IsWellFormed, Schedule}
 use Rattle.guest_process.specs.Start.{start}
 use Rattle.guest_process.specs.State.{State}
-use Rattle.group_record.specs.Answer.{first_states_from, group_of, with_first_state}
+use Rattle.group_record.specs.Answer.{group_of}
 use Rattle.group_record.specs.Laws.{Beginning, IsBegun}
 use Rattle.group_record.specs.Logs.{IsLogWithTail}
 use Rattle.group_record.specs.Run.{GroupStart, RunStep, head_of_log, log_of, name_of_process, processes_in_group}
@@ -25,11 +26,12 @@ use Rattle.command_run.specs.Inputs.{module_in, valid_module}
 use Rattle.command_run.specs.Laws.{ReadsModules}
 use Rattle.command_run.specs.Limits.{most_module}
 use Rattle.command_run.specs.Outcome.{CommandStop, and_then, file_of, some_or_refused, unless_refused, file_within, refuses_at_once}
-use Rattle.command_run.specs.OutcomeLaws.{result_follows, same_Ok_value, ok_value_or}
+use Rattle.command_run.specs.OutcomeLaws.{result_follows, same_Ok_value}
 use Rattle.log_pairs.specs.Pairs.{Pair}
 use Rattle.log_pairs.specs.Valid.{AreOfOneGroup}
 use Rattle.record_command.specs.Agreement.{IsRecordable, group_in}
-use Rattle.record_command.specs.Expected.{module_name, modules_of, schedule_in, schedule_or_refusal}
+use Rattle.record_command.specs.Expected.{module_name, schedule_in, schedule_or_refusal}
+use Rattle.record_command.specs.ExpectedLaws.{first_are, schedule_is}
 use Rattle.schedule_text.specs.Limits.{most_schedule}
 use Rattle.headline.specs.Headline.{HoldsPair, logs_of_run, run_to}
 use Rattle.headline.proofs.LoadedPairs.{PairStands, log_stands}
@@ -60,16 +62,13 @@ valid_too m ms valid rest (suc k) d below = rest k d (omega (arith, below))
 no_module : All IsValid []
 no_module k d below = absurd (omega (arith, below))
 
-are_modules : ReadsModules → (folder : Folder) (lines : List ProcessLine) (ms : List Module) → modules_of folder lines ≡ Ok ms → AreModules lines ms
-are_modules reads folder [] ms is = subst (AreModules []) (ap (ok_value_or []) is) (record { count = refl; valid = no_module })
-are_modules reads folder (line ∷ lines) ms is =
-    let first = result_follows (module_in folder line.«module») _ ms is in
-    let rest = result_follows (modules_of folder lines) _ ms first.comes in
-    let known = are_modules reads folder lines rest.given rest.is_given in
-    subst (AreModules (line ∷ lines)) (ap (ok_value_or []) rest.comes) (record {
-      count = ap suc known.count;
-      valid = valid_too first.given rest.given (reads.valid folder line.«module» first.given first.is_given) known.valid;
-    })
+are_modules : ReadsModules → (folder : Folder) (lines : List ProcessLine) (ms : List Module) → AllZip (λ line m. module_in folder line.«module» ≡ Ok m) lines ms → AreModules lines ms
+are_modules reads folder [] [] found = record { count = refl; valid = no_module }
+are_modules reads folder (line ∷ lines) (m ∷ ms) found =
+    let rest = are_modules reads folder lines ms found.1 in
+    record { count = ap suc rest.count; valid = valid_too m ms (reads.valid folder line.«module» m found.0) rest.valid }
+are_modules reads folder [] (m ∷ ms) found = absurd found
+are_modules reads folder (line ∷ lines) [] found = absurd found
 
 -- the group has begun, and the items are in range for it
 pub record HasBegun (group : GroupStart) (items : List Item) : Type 0 where
@@ -79,7 +78,7 @@ pub record HasBegun (group : GroupStart) (items : List Item) : Type 0 where
 pub has_begun : ReadsModules → GivesSchedules → Beginning → {folder : Folder} {name : List ℕ} (r : IsRecordable folder name) → HasBegun (group_in r) r.schedule.items
 has_begun reads gives beginning {folder} {name} r =
     let modules = are_modules reads folder r.schedule.processes r.modules r.found in
-    let both = beginning r.schedule r.modules r.first (schedule_formed gives folder name r.schedule r.spelled) modules.count modules.valid r.begins in
+    let both = beginning r.schedule r.modules r.first (schedule_formed gives folder name r.schedule (schedule_is r)) modules.count modules.valid (first_are r) in
     record { begun = both.0; fits = both.1 }
 
 -- ---- one process
@@ -89,22 +88,6 @@ pub record Begins (folder : Folder) (name : List ℕ) (p count : ℕ) (S : State
   pub «module» : Module
   pub reads : module_in folder name ≡ Ok «module»
   pub begins : start «module» p count ≡ Some S
-
-record FirstStates (o : Option State) (rest : Result (List State) ℕ) (first : List State) : Type 0 where
-  one : State
-  is_one : o ≡ Some one
-  others : List State
-  are_others : rest ≡ Ok others
-  whole : one ∷ others ≡ first
-
-abbrev states_in : Result (List State) ℕ → List State
-states_in (Ok states) = states
-states_in (Err p) = []
-
-first_states_are : (o : Option State) (q : ℕ) (rest : Result (List State) ℕ) (first : List State) → with_first_state o q rest ≡ Ok first → FirstStates o rest first
-first_states_are None q rest first is = cc
-first_states_are (Some S) q (Ok states) first is = record { one = S; is_one = refl; others = states; are_others = refl; whole = ap states_in is }
-first_states_are (Some S) q (Err p) first is = cc
 
 abbrev file_at : List ProcessLine → ℕ → List ℕ
 file_at lines i = slice_index_or (map (λ (line : ProcessLine). line.«module») lines) i []
@@ -121,19 +104,17 @@ begins_at folder count q line lines S m one others reads begins later (suc i) at
 nothing_at : (S : State) (i : ℕ) → slice_get [] i ≡ Some S → ⊥
 nothing_at S i e = cc
 
-begins_from : (folder : Folder) (count q : ℕ) (lines : List ProcessLine) (ms : List Module) (first : List State) → modules_of folder lines ≡ Ok ms → first_states_from count q ms ≡ Ok first
-    → (i : ℕ) (S : State) → slice_get first i ≡ Some S → Begins folder (file_at lines i) (q + i) count S
-begins_from folder count q [] ms first found begun i S at =
-    let none : [] ≡ first = ap states_in (ap (first_states_from count q) (ap (ok_value_or []) found) ∙ begun) in
-    absurd (nothing_at S i (ap (λ (xs : List State). slice_get xs i) none ∙ at))
-begins_from folder count q (line ∷ lines) ms first found begun i S at =
-    let one = result_follows (module_in folder line.«module») _ ms found in
-    let rest = result_follows (modules_of folder lines) _ ms one.comes in
-    let whole : one.given ∷ rest.given ≡ ms = ap (ok_value_or []) rest.comes in
-    let states = first_states_are (start one.given q count) q (first_states_from count (suc q) rest.given) first (ap (first_states_from count q) whole ∙ begun) in
-    begins_at folder count q line lines S one.given states.one states.others one.is_given states.is_one
-    (λ j here. begins_from folder count (suc q) lines rest.given states.others rest.is_given states.are_others j S here)
-    i (ap (λ (xs : List State). slice_get xs i) states.whole ∙ at)
+begins_from : (folder : Folder) (count q : ℕ) (lines : List ProcessLine) (ms : List Module) (first : List State) → AllZip (λ line m. module_in folder line.«module» ≡ Ok m) lines ms
+    → AllZip (λ m S. start m.1 m.0 count ≡ Some S) (enumerate_from q ms) first → (i : ℕ) (S : State) → slice_get first i ≡ Some S → Begins folder (file_at lines i) (q + i) count S
+begins_from folder count q [] [] [] found begins i S at = absurd (nothing_at S i at)
+begins_from folder count q (line ∷ lines) (m ∷ ms) (one ∷ others) found begins i S at =
+    let next : q + 1 ≡ suc q = omega arith in
+    let rest = subst (λ (n : ℕ). AllZip (λ m S. start m.1 m.0 count ≡ Some S) (enumerate_from n ms) others) next begins.1 in
+    begins_at folder count q line lines S m one others found.0 begins.0 (λ j here. begins_from folder count (suc q) lines ms others found.1 rest j S here) i at
+begins_from folder count q [] [] (one ∷ others) found begins i S at = absurd begins
+begins_from folder count q [] (m ∷ ms) first found begins i S at = absurd found
+begins_from folder count q (line ∷ lines) [] first found begins i S at = absurd found
+begins_from folder count q (line ∷ lines) (m ∷ ms) [] found begins i S at = absurd begins
 
 group_size : (schedule : Schedule) (first : List State) → length schedule.processes ≡ processes_in_group (group_of schedule first)
 group_size schedule first = sym (length-map schedule.processes (λ (line : ProcessLine). line.name))

@@ -35,6 +35,7 @@ use Rattle.command_run.specs.Outcome.{CommandOutcome, CommandStop, and_then}
 use Rattle.log_pairs.specs.Pairs.{Loaded, Pair, names_of_pairs, replays_of, replays_of_pairs, sort_replays}
 use Rattle.log_pairs.specs.Valid.{AreOfOneGroup}
 use Rattle.record_command.specs.Agreement.{IsRecordable, LogsAgree, IsPartialEntry, Front, Nothing, group_in, steps_in}
+use Rattle.record_command.specs.ExpectedLaws.{schedule_is}
 use Rattle.record_command.specs.Laws.{RecordingsAgree}
 use Rattle.replay_command.specs.Report.{replay_work}
 use Rattle.conversation.specs.Opening.{opened_outcome}
@@ -178,7 +179,7 @@ module _ (reads : ReadsModules) (gives : GivesSchedules) (beginning : Beginning)
       → AllByRecursion (λ s. AreOfOneGroup (head_of_log (group_in r) p) s.head) (replays ps below follow)
   one_together p here [] below follow apart = tt
   one_together p here (q ∷ ps) below follow apart =
-      (together r.schedule r.first (schedule_formed gives before name r.schedule r.spelled) p q here below.0 apart.0, one_together p here ps below.1 follow.1 apart.1)
+      (together r.schedule r.first (schedule_formed gives before name r.schedule (schedule_is r)) p q here below.0 apart.0, one_together p here ps below.1 follow.1 apart.1)
 
   all_together : (ps : List ℕ) (below : Below ps) (follow : AllFollow ps) → AreDistinct ps → AllTogether (replays ps below follow)
   all_together [] below follow apart = tt

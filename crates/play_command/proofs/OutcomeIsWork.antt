@@ -6,7 +6,7 @@ use Rattle.schedule_text.specs.Schedule.{Schedule}
 use Rattle.group_record.specs.Answer.{first_states}
 use Rattle.command_run.specs.Outcome.{CommandStop, and_then}
 use Rattle.record_command.specs.Agreement.{IsRecordable, run_in}
-use Rattle.record_command.specs.ExpectedLaws.{inputs_are}
+use Rattle.record_command.specs.ExpectedLaws.{first_are, inputs_are, modules_are, schedule_is}
 use Rattle.record_command.specs.Laws.{RecordingsWork}
 use Rattle.conversation.specs.OpeningLaws.{opened_works}
 use Rattle.play_command.specs.Laws.{PlaysWork}
@@ -14,8 +14,8 @@ use Rattle.play_command.specs.Outcome.{opening_play, play_in, play_of_modules, p
 
 begins : (name : List ℕ) (folder : Folder) (r : IsRecordable folder name) → (run_in r).full ≡ None → play_in name folder ≡ Ok (opening_play r.schedule r.first)
 begins name folder r room =
-    ap (λ (i : Result (Schedule × List Module) CommandStop). and_then i (λ inputs. play_of_modules name inputs.0 (first_states inputs.0 inputs.1))) (inputs_are folder name r.schedule r.modules r.spelled r.found)
-    ∙ ap (play_of_modules name r.schedule) r.begins ∙ ap (unless_full_log name r.schedule r.first) room
+    ap (λ (i : Result (Schedule × List Module) CommandStop). and_then i (λ inputs. play_of_modules name inputs.0 (first_states inputs.0 inputs.1))) (inputs_are folder name r.schedule r.modules (schedule_is r) (modules_are r))
+    ∙ ap (play_of_modules name r.schedule) (first_are r) ∙ ap (unless_full_log name r.schedule r.first) room
 
 pub plays_do_work : RecordingsWork → PlaysWork
 plays_do_work recordings name folder left h =

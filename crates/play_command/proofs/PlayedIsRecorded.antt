@@ -21,9 +21,8 @@ use Rattle.group_record.specs.Answer.{first_states, group_of}
 use Rattle.group_record.specs.Run.{GroupStart, RunProgress, after_item, run}
 use Rattle.command_run.specs.Outcome.{CommandStop, and_then, file_of}
 use Rattle.command_run.specs.OutcomeLaws.{result_follows}
-use Rattle.record_command.specs.Agreement.{IsRecordable}
 use Rattle.record_command.specs.Expected.{KeepsSchedule, modules_of, record_outcome, schedule_in, schedule_or_refusal}
-use Rattle.record_command.specs.ExpectedLaws.{outcome_is_run}
+use Rattle.record_command.specs.ExpectedLaws.{first_are, outcome_of_read, schedule_is}
 use Rattle.record_command.specs.Record.{run_outcome}
 use Rattle.play_lines.specs.Limits.{most_item_line_bytes}
 use Rattle.play_lines.specs.Lines.{Again, Datagram, Mem, PlayCommand, Print, Printed, Processes, Quit, Threads, lacks_in_play, nests_in_play, play_spelled}
@@ -161,8 +160,7 @@ records : (images : Bool) (name : List ℕ) (folder : Folder) (schedule : Schedu
     → first_states schedule modules ≡ Ok first → schedule_in folder name ≡ Ok (played_schedule schedule state) → modules_of folder schedule.processes ≡ Ok modules → KeepsSchedule images name schedule
     → record_outcome images name folder ≡ run_outcome images name state.group (played_run state)
 records images name folder schedule modules first state group begun spelled found kept =
-    let r : IsRecordable folder name = record { schedule = played_schedule schedule state; spelled = spelled; modules = modules; found = found; first = first; begins = begun } in
-    outcome_is_run images r kept
+    outcome_of_read images folder name (played_schedule schedule state) modules first spelled found begun kept
     ∙ ap (λ (g : GroupStart). run_outcome images name g (run g (items_so_far state))) (sym group)
 
 -- a schedule that was read is one
@@ -179,11 +177,11 @@ was_schedule gives folder name schedule is =
 
 pub recorded_as_played : GivesSchedules → GivesItems → TakesItem → CountsItem → PlayedIsRecorded
 recorded_as_played schedules gives takes counts name folder r room lines =
-    let formed = was_schedule schedules folder name r.schedule r.spelled in
+    let formed = was_schedule schedules folder name r.schedule (schedule_is r) in
     let opens : (played_run (opening_play r.schedule r.first)).full ≡ None = ap (λ (items : List Item). (run (group_of r.schedule r.first) items).full) (append-nil r.schedule.items) ∙ room in
     let s = stands_after gives takes counts r.schedule r.first formed opens (opening_play r.schedule r.first) lines (stands_begun r.schedule r.first formed opens) in
     record {
       spelled = s.formed;
-      recorded = λ images name folder spelled found kept. records images name folder r.schedule r.modules r.first (play_after (opening_play r.schedule r.first) lines) s.group r.begins spelled found kept;
+      recorded = λ images name folder spelled found kept. records images name folder r.schedule r.modules r.first (play_after (opening_play r.schedule r.first) lines) s.group (first_are r) spelled found kept;
       last = s.last;
     }

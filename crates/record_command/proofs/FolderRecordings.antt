@@ -17,7 +17,7 @@ use Rattle.group_record.specs.Run.{log_of}
 use Rattle.record_command.specs.Agreement.{IsRecordable, LeavesMoment, group_in, run_in, steps_in}
 use Rattle.record_command.specs.Laws.{RecordingsAgree, RecordingsLeaveLogs}
 use Rattle.record_command.specs.Expected.{KeepsSchedule, modules_of, record_outcome, schedule_in, schedule_or_refusal}
-use Rattle.record_command.specs.ExpectedLaws.{outcome_is_run}
+use Rattle.record_command.specs.ExpectedLaws.{first_are, modules_are, outcome_is_run, schedule_is}
 use Rattle.schedule_text.specs.Limits.{most_schedule}
 use Rattle.command_run.specs.Outcome.{file_of, writes_of}
 use Rattle.record_command.specs.Gathering.{GathersFromFolder}
@@ -51,8 +51,8 @@ pub record RunLaws : Type 0 where
 
 pub recordings_agree_so : ReadsModules → GivesSchedules → Beginning → RunLaws → RecordingsAgree
 recordings_agree_so reads gives beginning laws folder name r =
-    let modules = modules_valid reads folder r.schedule.processes r.modules r.found in
-    let begun = beginning r.schedule r.modules r.first (schedule_formed gives folder name r.schedule r.spelled) modules.count modules.valid r.begins in
+    let modules = modules_valid reads folder r.schedule.processes r.modules (modules_are r) in
+    let begun = beginning r.schedule r.modules r.first (schedule_formed gives folder name r.schedule (schedule_is r)) modules.count modules.valid (first_are r) in
     record {
       logs = laws.logs (group_in r) r.schedule.items begun.0 begun.1;
       cut = laws.cut (group_in r) r.schedule.items begun.0 begun.1;
@@ -69,10 +69,10 @@ record IsOne (schedule : Schedule) (modules : List Module) {folder : Folder} {na
 
 one_recording : {folder : Folder} {name : List ℕ} (schedule : Schedule) (modules : List Module) → GathersFromFolder folder name schedule modules → (r : IsRecordable folder name) → IsOne schedule modules r
 one_recording {folder} {name} schedule modules g r =
-    let schedules : schedule ≡ r.schedule = same_Ok_value (schedule_in folder name) schedule r.schedule g.spelled r.spelled in
+    let schedules : schedule ≡ r.schedule = same_Ok_value (schedule_in folder name) schedule r.schedule g.spelled (schedule_is r) in
     record {
       schedules = schedules;
-      modules_same = same_Ok_value (modules_of folder r.schedule.processes) modules r.modules (ap (λ (s : Schedule). modules_of folder s.processes) (sym schedules) ∙ g.found) r.found;
+      modules_same = same_Ok_value (modules_of folder r.schedule.processes) modules r.modules (ap (λ (s : Schedule). modules_of folder s.processes) (sym schedules) ∙ g.found) (modules_are r);
     }
 
 -- ---- what stands of it
@@ -86,7 +86,7 @@ pub moment_then : (told middle after : Option Folder) (images : Bool) (name : Li
     → middle ≡ told → StoppedWhereBegun schedule images (first_states schedule modules) middle after → WhenTold told (λ before. LeavesMoment images name before after)
 moment_then told middle after images name schedule modules gathers same stopped before is r =
     let one = one_recording schedule modules (gathers before is) r in
-    subst (λ (s : Result (List State) ℕ). StoppedWhereBegun r.schedule images s (Some before) after) r.begins
+    subst (λ (s : Result (List State) ℕ). StoppedWhereBegun r.schedule images s (Some before) after) (first_are r)
     (subst (λ (m : List Module). StoppedWhereBegun r.schedule images (first_states r.schedule m) (Some before) after) one.modules_same
     (subst (λ (s : Schedule). StoppedWhereBegun s images (first_states s modules) (Some before) after) one.schedules
     (subst (λ (t : Option Folder). StoppedWhereBegun schedule images (first_states schedule modules) t after) (same ∙ is) stopped)))
@@ -99,6 +99,6 @@ recording_writes {folder} {name} images r kept =
 pub recordings_leave_logs_so : KeepsFiles → GivesSchedules → RecordingsLeaveLogs
 recordings_leave_logs_so keeps gives images name before after r kept made =
     let whole = made ∙ ap (λ (files : List (List ℕ × List ℕ)). with_files files (Some before)) (recording_writes images r kept) in
-    let formed = schedule_formed gives before name r.schedule r.spelled in
+    let formed = schedule_formed gives before name r.schedule (schedule_is r) in
     logs_stand keeps (group_in r) (steps_in r) (images_of images (group_in r) (run_in r)) before after (logs_apart r.schedule.processes 0 (log_of (group_in r) (steps_in r)) formed.names)
     (images_are_no_logs images (group_in r) (run_in r)) (sym whole)

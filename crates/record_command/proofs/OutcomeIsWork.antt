@@ -1,45 +1,40 @@
 -- A schedule and modules that can be recorded whole have an outcome that is work.
-use Rattle.std.proofs.Common.{◌≡◌, ℕ, suc, Bool, List, [], ◌∷◌, length, Option, Some, None, Result, Ok, refl, ap, subst, ◌∙◌}
+use Rattle.std.proofs.Common.{◌≡◌, ◌+◌, ℕ, suc, Bool, List, [], ◌∷◌, length, Some, None, Ok, arith, refl, ap, subst, ◌∙◌}
+use Rattle.std.specs.List.{AllZip, enumerate_from}
 use Rattle.fri_outside.specs.Outside.{Folder}
-use Rattle.wasm_types.specs.Modules.{Module}
 use Rattle.schedule_text.specs.Laws.{GivesSchedules}
-use Rattle.schedule_text.specs.Reading.{schedule_of}
 use Rattle.schedule_text.specs.Schedule.{Schedule}
 use Rattle.schedule_text.specs.declared.process.ProcessLine.{ProcessLine}
+use Rattle.guest_process.specs.Start.{start}
 use Rattle.guest_process.specs.State.{State}
-use Rattle.group_record.specs.Answer.{first_states, first_states_from, with_first_state}
+use Rattle.command_run.specs.Inputs.{module_in}
 use Rattle.command_run.specs.Laws.{ReadsModules}
-use Rattle.command_run.specs.Outcome.{CommandStop, CommandWork, and_then}
+use Rattle.command_run.specs.Outcome.{CommandWork}
 use Rattle.record_command.specs.Agreement.{IsRecordable, group_in, run_in}
 use Rattle.record_command.specs.Laws.{RecordingsWork}
-use Rattle.record_command.specs.Expected.{KeepsSchedule, modules_of, record_outcome, schedule_in, schedule_or_refusal}
-use Rattle.record_command.specs.ExpectedLaws.{outcome_is_run}
+use Rattle.record_command.specs.Expected.{KeepsSchedule, record_outcome}
+use Rattle.record_command.specs.ExpectedLaws.{first_are, outcome_is_run}
 use Rattle.schedule_text.specs.Limits.{most_schedule}
 use Rattle.record_command.specs.Record.{outcome_by_room, recorded_work}
-use Rattle.record_command.specs.Valid.{AreModuleFiles, IsScheduleFile, RecordsApart, RecordsWhole, modules_in}
+use Rattle.record_command.specs.Valid.{AreModuleFiles, RecordsApart, RecordsWhole, modules_in}
 
 module _ (modules : ReadsModules) (schedules : GivesSchedules) where
-  schedule_stands : (folder : Folder) (name : List ℕ) (schedule : Schedule) (h : IsScheduleFile folder name schedule) → schedule_in folder name ≡ Ok schedule
-  schedule_stands folder name schedule h =
-      ap (λ (r : Result (List ℕ) CommandStop). and_then r (λ bytes. schedule_or_refusal name (schedule_of bytes))) (modules.files folder name most_schedule h.bytes h.stands)
-      ∙ ap (schedule_or_refusal name) ((schedules h.bytes schedule).1 (h.spelled, h.few))
-
-  modules_stand : (folder : Folder) (count p : ℕ) (lines : List ProcessLine) (files : AreModuleFiles folder count p lines) → modules_of folder lines ≡ Ok (modules_in folder count p lines files)
-  modules_stand folder count p [] files = refl
-  modules_stand folder count p (line ∷ lines) files =
-      ap (λ (r : Result Module CommandStop). and_then r (λ m. and_then (modules_of folder lines) (λ ms. Ok (m ∷ ms)))) (modules.modules folder line.«module» files.0.0)
-      ∙ ap (λ (r : Result (List Module) CommandStop). and_then r (λ ms. Ok (files.0.0.«module» ∷ ms))) (modules_stand folder count (suc p) lines files.1)
+  found : (folder : Folder) (count p : ℕ) (lines : List ProcessLine) (files : AreModuleFiles folder count p lines) → AllZip (λ line m. module_in folder line.«module» ≡ Ok m) lines (modules_in folder count p lines files)
+  found folder count p [] files = tt
+  found folder count p (line ∷ lines) files = (modules.modules folder line.«module» files.0.0, found folder count (suc p) lines files.1)
 
   -- the first states of their processes
   abbrev states_in : (folder : Folder) (count p : ℕ) (lines : List ProcessLine) → AreModuleFiles folder count p lines → List State
   states_in folder count p [] files = []
   states_in folder count p (line ∷ lines) files = files.0.1.0 ∷ states_in folder count (suc p) lines files.1
 
-  states_stand : (folder : Folder) (count p : ℕ) (lines : List ProcessLine) (files : AreModuleFiles folder count p lines) → first_states_from count p (modules_in folder count p lines files) ≡ Ok (states_in folder count p lines files)
-  states_stand folder count p [] files = refl
-  states_stand folder count p (line ∷ lines) files =
-      ap (λ (o : Option State). with_first_state o p (first_states_from count (suc p) (modules_in folder count (suc p) lines files.1))) files.0.1.1
-      ∙ ap (with_first_state (Some files.0.1.0) p) (states_stand folder count (suc p) lines files.1)
+  begun : (folder : Folder) (count p : ℕ) (lines : List ProcessLine) (files : AreModuleFiles folder count p lines)
+      → AllZip (λ m S. start m.1 m.0 count ≡ Some S) (enumerate_from p (modules_in folder count p lines files)) (states_in folder count p lines files)
+  begun folder count p [] files = tt
+  begun folder count p (line ∷ lines) files =
+      let next : suc p ≡ p + 1 = omega arith in
+      let rest = begun folder count (suc p) lines files.1 in
+      (files.0.1.1, subst (λ (n : ℕ). AllZip (λ m S. start m.1 m.0 count ≡ Some S) (enumerate_from n (modules_in folder count (suc p) lines files.1)) (states_in folder count (suc p) lines files.1)) next rest)
 
   -- it can be recorded, and its schedule is the one that is spelled
   record CanRecord (folder : Folder) (name : List ℕ) (schedule : Schedule) : Type 0 where
@@ -52,19 +47,17 @@ module _ (modules : ReadsModules) (schedules : GivesSchedules) where
       let schedule = h.schedule in
       let count = length schedule.processes in
       let first = states_in folder count 0 schedule.processes h.files in
-      let begins : first_states schedule (modules_in folder count 0 schedule.processes h.files) ≡ Ok first = states_stand folder count 0 schedule.processes h.files in
-      record {
-        recordable = record {
-          schedule = schedule;
-          spelled = schedule_stands folder name schedule h.file;
-          modules = modules_in folder count 0 schedule.processes h.files;
-          found = modules_stand folder count 0 schedule.processes h.files;
-          first = first;
-          begins = begins;
-        };
-        same = refl;
-        room = h.room first begins;
-      }
+      let r : IsRecordable folder name = record {
+        bytes = h.file.bytes;
+        read = modules.files folder name most_schedule h.file.bytes h.file.stands;
+        schedule = schedule;
+        spelled = (schedules h.file.bytes schedule).1 (h.file.spelled, h.file.few);
+        modules = modules_in folder count 0 schedule.processes h.files;
+        found = found folder count 0 schedule.processes h.files;
+        first = first;
+        begins = begun folder count 0 schedule.processes h.files;
+      } in
+      record { recordable = r; same = refl; room = h.room first (first_are r) }
 
   works : (images : Bool) (name : List ℕ) (folder : Folder) → RecordsApart images folder name → (work : CommandWork) × (record_outcome images name folder ≡ Ok work)
   works images name folder h =

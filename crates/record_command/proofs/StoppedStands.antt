@@ -12,6 +12,7 @@ use Rattle.group_record.specs.Images.{images_of}
 use Rattle.group_record.specs.Logs.{log_name, logs_of_steps}
 use Rattle.group_record.specs.Run.{GroupStart, Had, IsMoment, RunStep, entry_bytes, log_of, name_of_process, processes_in_group}
 use Rattle.record_command.specs.Agreement.{IsAtMomentOfRun, IsStoppedInHeads, IsPartialEntry, Front, Nothing, group_in, run_in, steps_in}
+use Rattle.record_command.specs.ExpectedLaws.{schedule_is}
 use Rattle.record_command.specs.Laws.{RecordingsStand}
 use Rattle.record_command.proofs.FolderRecordings.{schedule_formed}
 use Rattle.record_command.proofs.StoppedFiles.{files_stand, images_are_no_logs, log_at, logs_apart, logs_stand, first_fronts}
@@ -81,7 +82,7 @@ follows_entry group all later early p n e split short q = by_place (here_or_noth
 pub recordings_stand_so : KeepsFiles → GivesSchedules → RecordingsStand
 recordings_stand_so keeps gives images name before after r stopped = by_case stopped where
   apart : (steps : List RunStep) → AreApartNames (logs_of_steps (group_in r) steps)
-  apart steps = logs_apart r.schedule.processes 0 (log_of (group_in r) steps) (schedule_formed gives before name r.schedule r.spelled).names
+  apart steps = logs_apart r.schedule.processes 0 (log_of (group_in r) steps) (schedule_formed gives before name r.schedule (schedule_is r)).names
 
   alone : (files : List (List ℕ × List ℕ)) → Some after ≡ with_files files (Some before) → with_files (files ++ []) (Some before) ≡ Some after
   alone files is = ap (λ (fs : List (List ℕ × List ℕ)). with_files fs (Some before)) (append-nil files) ∙ sym is

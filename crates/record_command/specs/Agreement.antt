@@ -1,31 +1,38 @@
 -- The logs that a recording leaves tell what was recorded, wherever it was stopped.
 use Rattle.std.specs.Prelude.{◌≡◌, ℕ, ◌<◌, Bool, IsTrue, List, [], ◌∷◌, ◌++◌, length, take, Option, Some, Ok}
 use Rattle.std.specs.FinMap.{get}
+use Rattle.std.specs.List.{AllZip, enumerate_from}
 use Rattle.fri_outside.specs.Outside.{Folder}
 use Rattle.fri_outside.specs.Several.{with_files}
 use Rattle.lib_calls.specs.Traffic.{is_taken}
 use Rattle.wasm_types.specs.Modules.{Module}
 use Rattle.guest_process.specs.Live.{Event}
+use Rattle.guest_process.specs.Start.{start}
 use Rattle.guest_process.specs.State.{State}
+use Rattle.schedule_text.specs.Limits.{most_schedule}
+use Rattle.schedule_text.specs.Reading.{schedule_of}
 use Rattle.schedule_text.specs.Schedule.{Schedule}
-use Rattle.group_record.specs.Answer.{first_states, group_of}
+use Rattle.group_record.specs.Answer.{group_of}
 use Rattle.group_record.specs.Files.{IsStoppedRecording, heads_cut}
 use Rattle.group_record.specs.Images.{images_of}
 use Rattle.group_record.specs.Laws.{RandomIsDrawn, TakesDatagram, TellsCutLogs, WaitingIsTaken}
 use Rattle.group_record.specs.Logs.{TellsEvents, files_of, log_name}
 use Rattle.group_record.specs.Run.{GroupStart, Had, IsMoment, RunProgress, RunStep, entries_of_steps, entry_bytes, log_of, name_of_process, run, processes_in_group}
-use Rattle.record_command.specs.Expected.{modules_of, schedule_in}
+use Rattle.command_run.specs.Inputs.{module_in}
+use Rattle.command_run.specs.Outcome.{file_of}
 
--- the files spell a schedule and modules with which its processes begin
+-- the files spell a schedule, and for each of its processes a valid module with which it begins
 pub record IsRecordable (folder : Folder) (schedule_name : List ℕ) : Type 0 where
+  pub bytes : List ℕ
+  pub read : file_of folder schedule_name most_schedule ≡ Ok bytes
   pub schedule : Schedule
-  pub spelled : schedule_in folder schedule_name ≡ Ok schedule
+  pub spelled : schedule_of bytes ≡ Ok schedule
   pub modules : List Module
-  pub found : modules_of folder schedule.processes ≡ Ok modules
+  pub found : AllZip (λ line m. module_in folder line.«module» ≡ Ok m) schedule.processes modules
   pub first : List State
-  pub begins : first_states schedule modules ≡ Ok first
+  pub begins : AllZip (λ m S. start m.1 m.0 (length schedule.processes) ≡ Some S) (enumerate_from 0 modules) first
 
--- its group, and its run
+-- its group, its run, and the steps of that
 abbrev pub group_in : {folder : Folder} {schedule_name : List ℕ} → IsRecordable folder schedule_name → GroupStart
 group_in r = group_of r.schedule r.first
 
@@ -33,7 +40,7 @@ abbrev pub run_in : {folder : Folder} {schedule_name : List ℕ} → IsRecordabl
 run_in r = run (group_in r) r.schedule.items
 
 abbrev pub steps_in : {folder : Folder} {schedule_name : List ℕ} → IsRecordable folder schedule_name → List RunStep
-steps_in r = (run_in r).steps
+steps_in r = (run (group_in r) r.schedule.items).steps
 
 -- each process has its log afterwards
 abbrev pub LeavesLogs : GroupStart → List RunStep → Folder → Type 0

@@ -1,14 +1,13 @@
 -- The outcome of recording the schedule that was printed is the work of the run that goes back to the replays.
-use Rattle.std.proofs.Common.{◌≡◌, ◌∙◌, ◌+◌, ℕ, zero, suc, Bool, List, [], ◌∷◌, length, map, Option, Some, Result, Ok, ap, arith, refl}
+use Rattle.std.proofs.Common.{◌≡◌, ◌∙◌, ◌+◌, ℕ, zero, suc, Bool, List, [], ◌∷◌, length, map, Option, Some, Ok, ap, arith, refl, subst}
 use Rattle.std.specs.Prelude.{slice_get}
 use Rattle.std.specs.FinMap.{get}
+use Rattle.std.specs.List.{AllZip, enumerate_from}
 use Rattle.std.proofs.lemmas.Option.{same_Some}
 use Rattle.fri_outside.specs.Outside.{Folder}
 use Rattle.wasm_types.specs.Modules.{Module}
 use Rattle.wasm_decode.specs.Sections.{module_of_bytes}
 use Rattle.guest_process.specs.Start.{start}
-use Rattle.guest_process.specs.State.{State}
-use Rattle.group_record.specs.Answer.{first_states, first_states_from, with_first_state}
 use Rattle.group_record.specs.Logs.{files_from, log_name}
 use Rattle.proc_replay.specs.Replaying.{Replaying}
 use Rattle.schedule_text.specs.Laws.{TextIsRead}
@@ -22,9 +21,9 @@ use Rattle.command_run.specs.declared.refusal.Reason.TheVariants as reason
 use Rattle.command_run.specs.Inputs.{module_in, valid_module}
 use Rattle.command_run.specs.Laws.{ReadsModules}
 use Rattle.command_run.specs.Limits.{most_module}
-use Rattle.command_run.specs.Outcome.{CommandStop, and_then, some_or_refused, file_within}
+use Rattle.command_run.specs.Outcome.{and_then, some_or_refused, file_within}
 use Rattle.record_command.specs.Agreement.{IsRecordable, group_in, run_in}
-use Rattle.record_command.specs.Expected.{KeepsSchedule, modules_of, record_outcome, schedule_in, schedule_or_refusal}
+use Rattle.record_command.specs.Expected.{KeepsSchedule, record_outcome}
 use Rattle.record_command.specs.ExpectedLaws.{outcome_is_run}
 use Rattle.record_command.specs.Record.{outcome_by_room, recorded_work}
 
@@ -49,20 +48,19 @@ AllBeginAs later count p (line ∷ lines) [] = ⊥
 
 record Gathered (later : Folder) (count p : ℕ) (lines : List ProcessLine) (rs : List Replaying) : Type 0 where
   modules : List Module
-  found : modules_of later lines ≡ Ok modules
-  states : first_states_from count p modules ≡ Ok (map (λ (r : Replaying). r.state) rs)
+  found : AllZip (λ line m. module_in later line.«module» ≡ Ok m) lines modules
+  begins : AllZip (λ m S. start m.1 m.0 count ≡ Some S) (enumerate_from p modules) (map (λ (r : Replaying). r.state) rs)
 
 gathered : (later : Folder) (count p : ℕ) (lines : List ProcessLine) (rs : List Replaying) → AllBeginAs later count p lines rs → Gathered later count p lines rs
-gathered later count p [] [] all = record { modules = []; found = refl; states = refl }
+gathered later count p [] [] all = record { modules = []; found = tt; begins = tt }
 gathered later count p (line ∷ lines) (r ∷ rs) all =
+    let next : suc p ≡ p + 1 = omega arith in
     let one = all.0 in
     let rest = gathered later count (suc p) lines rs all.1 in
     record {
       modules = one.«module» ∷ rest.modules;
-      found = ap (λ (m : Result Module CommandStop). and_then m (λ m. and_then (modules_of later lines) (λ ms. Ok (m ∷ ms)))) one.found
-          ∙ ap (λ (ms : Result (List Module) CommandStop). and_then ms (λ ms. Ok (one.«module» ∷ ms))) rest.found;
-      states = ap (λ (o : Option State). with_first_state o p (first_states_from count (suc p) rest.modules)) one.begins
-          ∙ ap (with_first_state (Some r.state) p) rest.states;
+      found = (one.found, rest.found);
+      begins = (one.begins, subst (λ (n : ℕ). AllZip (λ m S. start m.1 m.0 count ≡ Some S) (enumerate_from n rest.modules) (map (λ (r : Replaying). r.state) rs)) next rest.begins);
     }
 gathered later count p [] (r ∷ rs) all = absurd all
 gathered later count p (line ∷ lines) [] all = absurd all
@@ -81,11 +79,16 @@ recorded reads read_back lines start text later name back_is held begin =
     let s : Schedule = back lines start in
     let g = gathered later (length lines) 0 lines start begin in
     let states = map (λ (r : Replaying). r.state) start in
-    let spelled : schedule_of text ≡ Ok s = ap schedule_of back_is.spelled ∙ read_back s back_is.formed in
-    let in_file : schedule_in later name ≡ Ok s =
-    ap (λ (r : Result (List ℕ) CommandStop). and_then r (λ bytes. schedule_or_refusal name (schedule_of bytes))) (reads.files later name most_schedule text (record { held = held; within = back_is.short }))
-    ∙ ap (schedule_or_refusal name) spelled in
-    let r : IsRecordable later name = record { schedule = s; spelled = in_file; modules = g.modules; found = g.found; first = states; begins = g.states } in
+    let r : IsRecordable later name = record {
+      bytes = text;
+      read = reads.files later name most_schedule text (record { held = held; within = back_is.short });
+      schedule = s;
+      spelled = ap schedule_of back_is.spelled ∙ read_back s back_is.formed;
+      modules = g.modules;
+      found = g.found;
+      first = states;
+      begins = g.begins;
+    } in
     record {
       recordable = r;
       group = refl;
