@@ -1,7 +1,7 @@
 -- What a replay of recorded logs reports, and its images.
 use Rattle.std.proofs.Common.{◌≡◌, ◌∙◌, ◌<◌, ◌+◌, ◌||◌, ℕ, suc, Bool, true, false, cond, List, [], ◌∷◌, ◌++◌, length, map, slice_get, Some, Ok, ap, arith, refl, sym}
 use Rattle.std.specs.Prelude.{slice_index_or}
-use Rattle.std.specs.List.{AllZip}
+use Rattle.std.specs.List.{AllZip, flat_map, list_any}
 use Rattle.std.proofs.lemmas.Option.{same_Some}
 use Rattle.lib_calls.specs.Traffic.{prints}
 use Rattle.call_log.specs.Head.{Head}
@@ -21,8 +21,9 @@ use Rattle.command_run.specs.Apart.{apart_work, unless_over_input, AreApart}
 use Rattle.command_run.specs.ApartLaws.{apart_goes_on, apart_works}
 use Rattle.command_run.specs.Outcome.{CommandWork}
 use Rattle.log_pairs.specs.Pairs.{Pair, names_of_pairs}
-use Rattle.replay_command.specs.Report.{some_log_diverges, images_in, is_divergence, replay_work, report_text, images_if}
-use Rattle.headline.specs.Shown.{RecordedRun, ShowsProcess, recorded_events, recorded_images, recorded_line, recorded_report}
+use Rattle.replay_command.specs.Report.{images_in, is_divergence, replay_work}
+use Rattle.replay_command.specs.Texts.{report_text}
+use Rattle.headline.specs.Shown.{RecordedRun, ShowsProcess, recorded_images, recorded_line, recorded_report}
 use Rattle.headline.proofs.ShownReplays.{ComesTo}
 
 -- the outcome of so many processes is that of their replays
@@ -43,6 +44,9 @@ left_diverges_not : (cut : List ℕ) → is_divergence (left_over cut) ≡ false
 left_diverges_not [] = refl
 left_diverges_not (first ∷ rest) = refl
 
+abbrev some_log_diverges : List ReportLine → Bool
+some_log_diverges lines = list_any (λ line. is_divergence line.verdict) lines
+
 none_diverges : (run : RecordedRun) (cut : ℕ → List ℕ) (ps : List ℕ) → some_log_diverges (map (recorded_line run cut) ps) ≡ false
 none_diverges run cut [] = refl
 none_diverges run cut (p ∷ ps) =
@@ -51,6 +55,10 @@ none_diverges run cut (p ∷ ps) =
 accepted_is : (run : RecordedRun) (cut : ℕ → List ℕ) (p : ℕ) (r : Replaying) → ShowsProcess run cut p r → accepted_in r ≡ of_process p (entries_of_steps run.steps p)
 accepted_is run cut p r shows =
     ap (λ (h : Head). of_process h.process (entries_ahead r)) shows.head ∙ ap (of_process p) shows.accepted
+
+-- the recorded events of these processes
+abbrev recorded_events : RecordedRun → List ℕ → List AcceptedEvent
+recorded_events run ps = flat_map (λ p. of_process p (entries_of_steps run.steps p)) ps
 
 events_are : (run : RecordedRun) (cut : ℕ → List ℕ) (ps : List ℕ) (rs : List Replaying) → AllZip (ShowsProcess run cut) ps rs → all_accepted_events rs ≡ recorded_events run ps
 events_are run cut [] [] all = refl
@@ -87,8 +95,8 @@ pub report_is : (images : Bool) (run : RecordedRun) (cut : ℕ → List ℕ) (ps
     → replay_work images rs ≡ recorded_report images run cut ps
 report_is images run cut ps rs shown all =
     let counts = ap (tally_of_events (group_count rs)) (events_are run cut ps rs shown) ∙ tally_is run cut ps rs shown in
-    ap (λ (ls : List ReportLine). work_of ls (tally_of_events (group_count rs) (all_accepted_events rs)) (images_if images rs) (some_log_diverges ls)) (lines run cut ps rs all)
-    ∙ ap (λ (c : GroupCounts). work_of (map (recorded_line run cut) ps) c (images_if images rs) (some_log_diverges (map (recorded_line run cut) ps))) counts
+    ap (λ (ls : List ReportLine). work_of ls (tally_of_events (group_count rs) (all_accepted_events rs)) (replay_work images rs).writes (some_log_diverges ls)) (lines run cut ps rs all)
+    ∙ ap (λ (c : GroupCounts). work_of (map (recorded_line run cut) ps) c (replay_work images rs).writes (some_log_diverges (map (recorded_line run cut) ps))) counts
     ∙ ap (λ (files : List (List ℕ × List ℕ)). work_of (map (recorded_line run cut) ps) (tally_of_events (processes_in_group run.group) (recorded_events run ps)) (cond images files []) (some_log_diverges (map (recorded_line run cut) ps))) (images_are run cut ps rs shown all)
     ∙ ap (work_of (map (recorded_line run cut) ps) (tally_of_events (processes_in_group run.group) (recorded_events run ps)) (cond images (recorded_images run ps) [])) (none_diverges run cut ps)
 

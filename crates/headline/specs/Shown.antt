@@ -31,7 +31,7 @@ use Rattle.point_programs.specs.Variables.{Variable}
 use Rattle.shell_points.specs.Firing.{place_at, value_at_position, watchpoint_fires}
 use Rattle.command_run.specs.Outcome.{CommandWork}
 use Rattle.lamport_tag.specs.Limits.{most_clock}
-use Rattle.replay_command.specs.Report.{report_text}
+use Rattle.replay_command.specs.Texts.{report_text}
 
 -- a recording as far as it came: its group, and the steps of the run
 pub record RecordedRun : Type 0 where
@@ -66,10 +66,6 @@ recorded_line run cut p = record {
   verdict = left_over (cut p);
 }
 
--- the recorded events of these processes
-abbrev pub recorded_events : RecordedRun → List ℕ → List AcceptedEvent
-recorded_events run ps = flat_map (λ p. of_process p (entries_of_steps run.steps p)) ps
-
 -- the files of what each of these processes left
 abbrev pub recorded_images : RecordedRun → List ℕ → List (List ℕ × List ℕ)
 recorded_images run ps = flat_map (λ p. image_files (name_of_process run.group p) (memory_of_process (process_after run.group run.steps p)) (prints (entries_of_steps run.steps p))) ps
@@ -77,7 +73,7 @@ recorded_images run ps = flat_map (λ p. image_files (name_of_process run.group 
 -- the lines and the counts of these processes, and no divergence; and their images, where they are asked for
 abbrev pub recorded_report : Bool → RecordedRun → (ℕ → List ℕ) → List ℕ → CommandWork
 recorded_report images run cut ps = record {
-  text = report_text (map (recorded_line run cut) ps) (tally_of_events (processes_in_group run.group) (recorded_events run ps));
+  text = report_text (map (recorded_line run cut) ps) (tally_of_events (processes_in_group run.group) (flat_map (λ p. of_process p (entries_of_steps run.steps p)) ps));
   writes = if images then recorded_images run ps else [];
   diverged = false;
 }

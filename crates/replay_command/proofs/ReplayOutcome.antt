@@ -1,5 +1,6 @@
 -- The outcome of `replay`, from what it read and made.
 use Rattle.std.proofs.Common.{◌≡◌, ◌∙◌, ℕ, Bool, List, map, Option, Some, option_map, Ok, Err, Result, ap, refl, subst, sym}
+use Rattle.std.specs.List.{list_any}
 use Rattle.fri_outside.specs.Outside.{Folder, WhenTold}
 use Rattle.fri_outside.specs.Several.{with_files}
 use Rattle.proc_replay.specs.Replaying.{Replaying}
@@ -13,7 +14,8 @@ use Rattle.command_run.specs.declared.refusal.WorkText.{WorkText}
 use Rattle.command_run.specs.declared.refusal.WorkText.TheVariants as answered
 use Rattle.command_run.specs.declared.refusal.StopCause.{StopCause}
 use Rattle.command_run.specs.Call.{MakesWholeFiles, MakesAllFiles, StopsAsCause, TellsOutcome}
-use Rattle.replay_command.specs.Report.{replay_outcome, some_log_diverges, images_if, replay_work, report_text}
+use Rattle.replay_command.specs.Report.{is_divergence, replay_outcome, replay_work}
+use Rattle.replay_command.specs.Texts.{report_text}
 use Rattle.command_run.specs.Apart.{apart_work, unless_over_input}
 use Rattle.command_run.specs.ApartLaws.{apart_works, clash_stops}
 use Rattle.command_run.specs.Outcome.{CommandOutcome, CommandStop, and_then, writes_of}
@@ -23,7 +25,7 @@ use Rattle.command_run.specs.OutcomeLaws.{outcome_when_told, stops_before_next}
 
 -- the names of the files that are made
 abbrev pub made_of : Bool → List Replaying → List (List ℕ)
-made_of images start = map (λ file. file.0) (images_if images start)
+made_of images start = map (λ file. file.0) (replay_work images start).writes
 
 -- ---- the files were refused
 
@@ -60,19 +62,19 @@ opened_works images pairs told start can o is =
 -- ---- what is made
 
 -- by their replays in a slice, of the files as they were found
-pub images_made : (images : Bool) (slice start : List Replaying) (told mid after : Option Folder) → slice ≡ start → mid ≡ told → after ≡ with_files (images_if images slice) mid → after ≡ with_files (images_if images start) told
+pub images_made : (images : Bool) (slice start : List Replaying) (told mid after : Option Folder) → slice ≡ start → mid ≡ told → after ≡ with_files (replay_work images slice).writes mid → after ≡ with_files (replay_work images start).writes told
 images_made images slice start told mid after same kept made =
-    made ∙ ap (with_files (images_if images slice)) kept ∙ ap (λ (rs : List Replaying). with_files (images_if images rs) told) same
+    made ∙ ap (with_files (replay_work images slice).writes) kept ∙ ap (λ (rs : List Replaying). with_files (replay_work images rs).writes told) same
 
-pub images_begun : (images : Bool) (slice start : List Replaying) (told mid after : Option Folder) (e : StopCause) → slice ≡ start → mid ≡ told → MakesAllFiles (Err e) (images_if images slice) mid after
-    → MakesAllFiles (Err e) (images_if images start) told after
+pub images_begun : (images : Bool) (slice start : List Replaying) (told mid after : Option Folder) (e : StopCause) → slice ≡ start → mid ≡ told → MakesAllFiles (Err e) (replay_work images slice).writes mid after
+    → MakesAllFiles (Err e) (replay_work images start).writes told after
 images_begun images slice start told mid after e same kept made =
-    subst (λ (rs : List Replaying). MakesAllFiles (Err e) (images_if images rs) told after) same
-    (subst (λ (t : Option Folder). MakesAllFiles (Err e) (images_if images slice) t after) kept made)
+    subst (λ (rs : List Replaying). MakesAllFiles (Err e) (replay_work images rs).writes told after) same
+    (subst (λ (t : Option Folder). MakesAllFiles (Err e) (replay_work images slice).writes t after) kept made)
 
 -- the images were made, and whatever comes then
 pub replay_makes : (images : Bool) (pairs : List Pair) (told after : Option Folder) (start : List Replaying) (result : Result WorkText StopCause) → CanWork images pairs told start
-    → MakesWholeFiles result (images_if images start) told after → (o : CommandOutcome) → option_map (replay_outcome images pairs) told ≡ Some o → MakesWholeFiles result (writes_of o) told after
+    → MakesWholeFiles result (replay_work images start).writes told after → (o : CommandOutcome) → option_map (replay_outcome images pairs) told ≡ Some o → MakesWholeFiles result (writes_of o) told after
 replay_makes images pairs told after start result opens makes o here =
     subst (λ (o : CommandOutcome). MakesWholeFiles result (writes_of o) told after) (sym (opened_works images pairs told start opens o here)) makes
 
@@ -85,9 +87,9 @@ says_of images start o (answered.Diverged text) is says = (replay_work images st
 
 -- the report was printed
 pub report_tells : (images : Bool) (pairs : List Pair) (told : Option Folder) (start : List Replaying) (report : Report) (answer : WorkText) → CanWork images pairs told start → IsReport (reporting start) report
-    → PrintsAtEnd (report_text report.lines.items (counts_in report)) (some_log_diverges report.lines.items) answer
+    → PrintsAtEnd (report_text report.lines.items (counts_in report)) (list_any (λ line. is_divergence line.verdict) report.lines.items) answer
     → (o : CommandOutcome) → option_map (replay_outcome images pairs) told ≡ Some o → TellsOutcome o (Ok answer)
 report_tells images pairs told start report answer opens is says o here =
     says_of images start o answer (opened_works images pairs told start opens o here)
-    (subst (λ (lines : List ReportLine). PrintsAtEnd (report_text lines (tally_of_events (group_count start) (all_accepted_events start))) (some_log_diverges lines) answer) is.lines
-    (subst (λ (counts : GroupCounts). PrintsAtEnd (report_text report.lines.items counts) (some_log_diverges report.lines.items) answer) is.counts says))
+    (subst (λ (lines : List ReportLine). PrintsAtEnd (report_text lines (tally_of_events (group_count start) (all_accepted_events start))) (list_any (λ line. is_divergence line.verdict) lines) answer) is.lines
+    (subst (λ (counts : GroupCounts). PrintsAtEnd (report_text report.lines.items counts) (list_any (λ line. is_divergence line.verdict) report.lines.items) answer) is.counts says))

@@ -1,3 +1,4 @@
+pub mod Texts
 pub mod Report
 pub mod Valid
 pub mod Laws

@@ -6,7 +6,7 @@ ghost use Rattle.command_run.specs.Apart.{unless_over_input};
 ghost use Rattle.command_run.specs.Call.{CountsNothing, RaisesCount, TellsResult};
 ghost use Rattle.log_pairs.specs.Meanings.{pair_of};
 ghost use Rattle.log_pairs.specs.Pairs.{names_of_pairs};
-ghost use Rattle.replay_command.specs.Report.{images_if, images_in};
+ghost use Rattle.replay_command.specs.Report.{images_in, replay_work};
 
 use command_run::{StopCause, keep_apart};
 use log_pairs::{Pair, file_names};
@@ -50,7 +50,7 @@ pub(crate) fn keep_pairs(
     replayers: &[Replayer<'_, '_>],
 ) -> Result<(), StopCause>
     requires { All (λ r. IsHead r.head) replayers.now }
-    ensures answer { TellsResult (λ done. done) (unless_over_input (names_of_pairs (map pair_of pairs.now)) (map (λ file. file.0) (images_if images replayers.now))) result }
+    ensures answer { TellsResult (λ done. done) (unless_over_input (names_of_pairs (map pair_of pairs.now)) (map (λ file. file.0) (replay_work images replayers.now).writes)) result }
     ensures cause { (old new : Counts) → IfErr result (RaisesCount old new) }
     ensures still { CountsNothing result }
 {

@@ -6,7 +6,7 @@ ghost use Rattle.call_log.specs.Head.{IsHead};
 ghost use Rattle.command_run.specs.Asked.{AsksAll, AsksFirst};
 ghost use Rattle.command_run.specs.Call.{CountsFaults, KeepsFolder, MakesWholeFiles, MakesAllFiles, RaisesCount, TellsOutcome};
 ghost use Rattle.command_run.specs.Outcome.{writes_of};
-ghost use Rattle.replay_command.specs.Report.{images_if, images_in, replay_outcome};
+ghost use Rattle.replay_command.specs.Report.{images_in, replay_outcome, replay_work};
 ghost use Rattle.replay_command.specs.inside.Reporting.{SaysSame};
 ghost use Rattle.log_pairs.specs.Meanings.{pair_of};
 ghost use Rattle.log_pairs.specs.Pairs.{pair_inputs};
@@ -59,8 +59,8 @@ fn write_asked<'m, 'a, F: Files>(
     files: &mut F,
 ) -> Result<Reporter<'m, 'a>, StopCause>
     requires { All (λ r. IsHead r.head) reporter.left }
-    ensures made { IfOk result (λ _. F.told files.new ≡ with_files (images_if images reporter.entry.left) (F.told files.old)) }
-    ensures part { IfErr result (λ why. MakesAllFiles (Err why) (images_if images reporter.entry.left) (F.told files.old) (F.told files.new)) }
+    ensures made { IfOk result (λ _. F.told files.new ≡ with_files (replay_work images reporter.entry.left).writes (F.told files.old)) }
+    ensures part { IfErr result (λ why. MakesAllFiles (Err why) (replay_work images reporter.entry.left).writes (F.told files.old) (F.told files.new)) }
     ensures same { IfOk result (SaysSame reporter.entry) }
     ensures counts { CountsFaults (F.counts files.old) (F.counts files.new) result }
     ensures asked { (F.counts files.new).asked ≡ (F.counts files.old).asked }

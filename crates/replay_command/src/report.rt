@@ -1,7 +1,9 @@
 // The report of a replay.
 ghost use Rattle.std.specs.Prelude.{◌≡◌, ◌++◌, IfOk, OnOk, decimal};
+ghost use Rattle.std.specs.List.{list_any};
 ghost use Rattle.group_state.specs.Report.{counts_in};
-ghost use Rattle.replay_command.specs.Report.{divergence_text, some_log_diverges, group_text, is_divergence, report_line_text, report_text, verdict_text};
+ghost use Rattle.replay_command.specs.Report.{is_divergence};
+ghost use Rattle.replay_command.specs.Texts.{divergence_text, group_text, report_line_text, report_text, verdict_text};
 ghost use Rattle.replay_command.specs.inside.Ending.{PrintsAtEnd};
 
 use command_run::WorkText;
@@ -91,14 +93,14 @@ fn is_divergence(verdict: Verdict) -> bool
 
 // Whether a log diverged.
 fn some_log_diverges(lines: &[ReportLine]) -> bool
-    ensures { result ≡ some_log_diverges lines.now }
+    ensures { result ≡ list_any (λ line. is_divergence line.verdict) lines.now }
 {
     lines.iter().any(|line| is_divergence(line.verdict))
 }
 
 /// A line for each log, and the counts of the group; and whether a log diverged.
 pub fn print_report(alloc: Global, report: &Report) -> Result<WorkText, AllocError>
-    ensures { IfOk result (PrintsAtEnd (report_text report.now.lines.items (counts_in report.now)) (some_log_diverges report.now.lines.items)) }
+    ensures { IfOk result (PrintsAtEnd (report_text report.now.lines.items (counts_in report.now)) (list_any (λ line. is_divergence line.verdict) report.now.lines.items)) }
 {
     let mut text = Text::new(alloc);
     for line in &report.lines {

@@ -1,6 +1,6 @@
 use Rattle.std.proofs.Common.{◌∙◌, ◌++◌, ◌+◌, List, ℕ, ap, drop}
 use Rattle.std.specs.List.{flat_map}
-use Rattle.replay_command.specs.Report.{report_line_text}
+use Rattle.replay_command.specs.Texts.{report_line_text}
 use Rattle.command_run.specs.LineLaws.{next_line_joins}
 use Rattle.replay_command.proofs.report.print_report.Goals as goal
 

@@ -1,6 +1,6 @@
 use Rattle.std.proofs.Common.{◌≡◌, ◌++◌, drop}
 use Rattle.std.specs.List.{flat_map}
-use Rattle.replay_command.specs.Report.{report_line_text}
+use Rattle.replay_command.specs.Texts.{report_line_text}
 use Rattle.replay_command.proofs.report.print_report.Given as goal
 
 abbrev pub invariant-loop-line : goal.invariant-loop-line
