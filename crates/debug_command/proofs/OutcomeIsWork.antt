@@ -1,7 +1,7 @@
 -- A group and an input within the limit have an outcome that is work.
 use Rattle.log_pairs.specs.Laws.{OpensGroups}
 use Rattle.conversation.specs.OpeningLaws.{opened_works}
-use Rattle.debug_command.specs.Debug.{debug_opener}
+use Rattle.debug_command.specs.Session.{debug_opener}
 use Rattle.debug_command.specs.Laws.{SessionsWork}
 
 pub sessions_do_work : OpensGroups → SessionsWork

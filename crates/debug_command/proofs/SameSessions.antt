@@ -5,7 +5,7 @@ use Rattle.friday_shell.specs.Laws.{SameGroupSameSession}
 use Rattle.friday_shell.specs.Points.{SessionState}
 use Rattle.friday_shell.specs.SameGroup.{SameGroup, SameSession}
 use Rattle.friday_shell.specs.Session.{opening_session}
-use Rattle.debug_command.specs.Debug.{shell_answer}
+use Rattle.debug_command.specs.Session.{shell_answer}
 use Rattle.debug_command.specs.Laws.{SessionsOfOneGroup}
 use Rattle.debug_command.proofs.SameTalkers.{SaysSame, same_conversation}
 

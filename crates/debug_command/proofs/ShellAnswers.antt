@@ -5,7 +5,7 @@ use Rattle.friday_shell.specs.Meanings.{IsLineAnswer}
 use Rattle.friday_shell.specs.Points.{SessionState}
 use Rattle.conversation.specs.declared.session.Go.{Go}
 use Rattle.conversation.specs.Talker.{AnswersSo}
-use Rattle.debug_command.specs.Debug.{shell_answer}
+use Rattle.debug_command.specs.Session.{shell_answer}
 
 here : (state : SessionState) (line : List ℕ) (new : SessionState) (text : List ℕ) (goes : Go) → IsLineAnswer (answer state line) new text goes → AnswersSo (shell_answer state line) (λ after. new ≡ after) text goes
 here state line new text goes said = record { text_is = said.text; stands_in = said.state; quits_is = said.quits }

@@ -5,7 +5,8 @@ use Rattle.command_run.specs.Outcome.{CommandWork}
 use Rattle.proc_replay.specs.Replaying.{Replaying}
 use Rattle.friday_shell.specs.SameGroup.{SameGroup}
 use Rattle.log_pairs.specs.Pairs.{Pair}
-use Rattle.debug_command.specs.Debug.{debug_outcome, session_outcome}
+use Rattle.debug_command.specs.Debug.{debug_outcome}
+use Rattle.debug_command.specs.Session.{session_outcome}
 use Rattle.debug_command.specs.Valid.{IsSession}
 
 -- a group and an input within the limit have an outcome that is work

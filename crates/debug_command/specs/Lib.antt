@@ -1,3 +1,4 @@
+pub mod Session
 pub mod Debug
 pub mod Run
 pub mod Valid

@@ -4,7 +4,7 @@ use Rattle.command_run.specs.declared.status.Status.{Status}
 use Rattle.command_run.specs.Run.{Outside}
 use Rattle.conversation.specs.Opening.{OpenedPromises, OpenedRun}
 use Rattle.log_pairs.specs.Pairs.{Pair}
-use Rattle.debug_command.specs.Debug.{debug_opener}
+use Rattle.debug_command.specs.Session.{debug_opener}
 
 -- what it promises over these pairs beyond what holds of all commands: its input is read by turns, and no further than it must be
 abbrev pub DebugPromises : List Pair → Outside → Outside → Status → Type 0

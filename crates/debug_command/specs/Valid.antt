@@ -5,7 +5,7 @@ use Rattle.proc_replay.specs.Replaying.{Replaying}
 use Rattle.log_pairs.specs.Pairs.{Pair, replays_of_pairs}
 use Rattle.log_pairs.specs.Valid.{IsGroup}
 use Rattle.conversation.specs.Outcome.{is_large_input}
-use Rattle.debug_command.specs.Debug.{shell_talker}
+use Rattle.debug_command.specs.Session.{shell_talker}
 
 -- the pairs are those of a group, and the input is told, and is not too large
 pub record IsSession (folder : Folder) (pairs : List Pair) (left : Option (List ℕ)) : Type 0 where

@@ -4,7 +4,7 @@ ghost use Rattle.group_state.specs.Place.{AreGroupReplays};
 ghost use Rattle.friday_shell.specs.Points.{SessionState};
 ghost use Rattle.friday_shell.specs.Session.{opening_session};
 ghost use Rattle.conversation.specs.Conversing.{Converses, terminal_at};
-ghost use Rattle.debug_command.specs.Debug.{shell_answer, shell_talker};
+ghost use Rattle.debug_command.specs.Session.{shell_answer, shell_talker};
 
 use command_run::Status;
 use conversation::laws::ends_unbegun;

@@ -22,7 +22,8 @@ use Rattle.record_command.specs.Agreement.{IsRecordable, group_in, run_in, steps
 use Rattle.record_command.specs.Expected.{module_name, record_outcome}
 use Rattle.record_command.specs.ExpectedLaws.{schedule_is}
 use Rattle.replay_command.specs.Report.{replay_outcome}
-use Rattle.debug_command.specs.Debug.{debug_outcome, session_outcome}
+use Rattle.debug_command.specs.Debug.{debug_outcome}
+use Rattle.debug_command.specs.Session.{session_outcome}
 use Rattle.friday_app.specs.Command.{Command, Debug, Record, Replay}
 use Rattle.friday_app.specs.Expected.{expected}
 use Rattle.friday_app.specs.Run.{CommandRun}

@@ -17,7 +17,7 @@ use Rattle.record_command.specs.Agreement.{IsRecordable, group_in, run_in, steps
 use Rattle.record_command.specs.Expected.{module_name}
 use Rattle.record_command.specs.Record.{recorded_work}
 use Rattle.log_pairs.specs.Pairs.{Pair}
-use Rattle.debug_command.specs.Debug.{session_outcome}
+use Rattle.debug_command.specs.Session.{session_outcome}
 use Rattle.friday_app.specs.Command.{Command, Debug, Record, Replay}
 use Rattle.headline.specs.Headline.{AreProcesses, IsShown, run_to, sorted_of}
 use Rattle.headline.specs.Shown.{no_cut, recorded_report}

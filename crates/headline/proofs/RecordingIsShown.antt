@@ -39,7 +39,7 @@ use Rattle.record_command.specs.ExpectedLaws.{schedule_is}
 use Rattle.record_command.specs.Laws.{RecordingsAgree}
 use Rattle.replay_command.specs.Report.{replay_work}
 use Rattle.conversation.specs.Opening.{opened_outcome}
-use Rattle.debug_command.specs.Debug.{debug_opener}
+use Rattle.debug_command.specs.Session.{debug_opener}
 use Rattle.debug_command.specs.Laws.{SessionsOfOneGroup}
 use Rattle.headline.specs.Headline.{AreProcesses, Headline, IsShown, logs_of_run, run_to, sorted_of, HoldsPair}
 use Rattle.headline.specs.Shown.{RecordedRun, ShowsGroup, ShowsProcess}

@@ -17,7 +17,8 @@ use Rattle.log_pairs.specs.Pairs.{Pair, names_of_pairs, replays_of_pairs}
 use Rattle.record_command.specs.Agreement.{IsAtMomentOfRun, IsStoppedInHeads, IsRecordable, LeavesMoment, IsPartialEntry, group_in, steps_in}
 use Rattle.record_command.specs.Expected.{KeepsSchedule, module_name, record_outcome}
 use Rattle.replay_command.specs.Report.{replay_outcome}
-use Rattle.debug_command.specs.Debug.{debug_outcome, session_outcome}
+use Rattle.debug_command.specs.Debug.{debug_outcome}
+use Rattle.debug_command.specs.Session.{session_outcome}
 use Rattle.headline.specs.Shown.{AreOfRecording, RecordedRun, ShowsGroup, ShowsProcess, no_cut, recorded_images, recorded_report}
 
 -- ---- the files of a recording, in any folder and under any names

@@ -4,7 +4,7 @@ use Rattle.command_run.specs.Run.{Outside, outside}
 use Rattle.log_pairs.specs.declared.pairs.Loaded.{Loaded}
 use Rattle.log_pairs.specs.Meanings.{LoadsFiles, pair_of}
 use Rattle.conversation.specs.OpeningLaws.{opening_performed, run_conversed, run_unopened}
-use Rattle.debug_command.specs.Debug.{debug_opener}
+use Rattle.debug_command.specs.Session.{debug_opener}
 use Rattle.debug_command.proofs.debugging.debug.Goals as goal
 
 pub returns-in-Err : goal.returns-in-Err

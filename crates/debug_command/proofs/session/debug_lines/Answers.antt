@@ -3,7 +3,7 @@ use Rattle.std.specs.Prelude.{codes}
 use Rattle.friday_shell.specs.Session.{opening_session}
 use Rattle.conversation.specs.Conversing.{Converses, terminal_at}
 use Rattle.conversation.specs.Talker.{talker_of}
-use Rattle.debug_command.specs.Debug.{shell_answer}
+use Rattle.debug_command.specs.Session.{shell_answer}
 use Rattle.debug_command.proofs.session.debug_lines.Goals as goal
 
 pub returns-in-Ok : goal.returns-in-Ok
