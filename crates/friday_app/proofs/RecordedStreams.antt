@@ -211,8 +211,8 @@ module _ (strange : StrangeBySend) where
       let told_by = tells small in
       let place = stands small other other_at in
       let send_event : NodeEvent Entry = node_event other sent in
-      let in_range = none_beyond (length sorted) order (λ n above. s.shows.order.own n ∙ list_beyond (map (entries_of_steps run.steps) sorted) n (omega (arith, above, length_lists run.steps sorted))) in
-      let b = between (λ x. x.node < length sorted) order s.shows.order.sorted in_range place.0 j send_event place.1 place.2 in
+      let in_range = none_beyond (length sorted) order (λ n above. s.shows.recorded.order.own n ∙ list_beyond (map (entries_of_steps run.steps) sorted) n (omega (arith, above, length_lists run.steps sorted))) in
+      let b = between (λ x. x.node < length sorted) order s.shows.recorded.order.sorted in_range place.0 j send_event place.1 place.2 in
       let processes = processes_are run cut sorted start s.each in
       let count = count_is run cut sorted start s.each other q other_at in
       let of_other : process_at start other ≡ q = ap (λ (qs : List ℕ). slice_index_or qs other 0) processes ∙ index_at sorted other q other_at in

@@ -107,7 +107,7 @@ these gives images before name r second old middle new answer is first run ps ar
           came_to (Some (Debug pairs)) (session_outcome shown.start input) rec.folder (printed_by images r old.taken) middle new answer
           (subst (λ (c : Option Command). CommandRun c middle new answer) names run)
           (ap (option_and_then (debug_outcome pairs middle.hearing.left)) rec.told
-          ∙ ap (λ (left : Option (List ℕ)). debug_outcome pairs left rec.folder) (ap (λ (h : Hearing). h.left) rec.unheard ∙ typed) ∙ shown.debug input) rec.told rec.printed answers;
+          ∙ ap (λ (left : Option (List ℕ)). debug_outcome pairs left rec.folder) (ap (λ (h : Hearing). h.left) rec.unheard ∙ typed) ∙ shown.debug shown.start shown.shows.recorded input) rec.told rec.printed answers;
     }
 
 pub shows_recorded : GivesSchedules → (first second : Option Command) (old middle new : Outside) (status answer : Status) → CommandRun first old middle status → status ≡ ends.Done → CommandRun second middle new answer → ShowsRecorded first second old new answer

@@ -48,7 +48,7 @@ use Rattle.headline.proofs.LoadedPairs.{AllStand, AllTogether, opened}
 use Rattle.headline.proofs.RecordedOrder.{are_recorded, one_recorded, order_is}
 use Rattle.headline.proofs.ReceivedDatagrams.{received}
 use Rattle.headline.proofs.ReplayReport.{AllCome, all_of_them, report_is, report_made}
-use Rattle.headline.proofs.SameRecording.{one_group}
+use Rattle.headline.proofs.SameRecording.{names_are, one_group}
 use Rattle.headline.proofs.ShownReplays.{ComesTo, comes_to, replay_of, shows}
 use Rattle.headline.proofs.SortedReplays.{Are, AreDistinct, all_numbered, all_sorted, are_distinct, in_order, sorted_count}
 
@@ -197,9 +197,8 @@ module _ (reads : ReadsModules) (gives : GivesSchedules) (beginning : Beginning)
       let order = order_is ordered run cut ps start fits shown in
       let recorded = are_recorded run cut ps start shown order.0 in
       record {
-        order = order.0;
+        recorded = record { names = names_are run cut ps start shown; order = order.0; moments = recorded };
         only = order.1;
-        moments = recorded;
         receives = received run ps start stands.steps fits sends order.0 taken;
         sends = sends start fits;
         fires = firing.changes start;
@@ -230,10 +229,9 @@ module _ (reads : ReadsModules) (gives : GivesSchedules) (beginning : Beginning)
             ∙ ap (apart_work (names_of_pairs pairs)) (report_is images run cut sorted start shown (all_come run cut sorted start all))
             ∙ report_made images run cut sorted pairs apart;
         images = λ all_given. all_of_them run sorted (all_numbered count ps are all_given) (sorted_count count ps are ∙ all_given);
-        debug = λ input. ap (λ (o : Result (List Replaying) CommandStop). opened_outcome (debug_opener pairs) o (Some input)) opens;
-        session = λ others are input.
+        debug = λ others are input.
             ap (λ (o : Result (List Replaying) CommandStop). opened_outcome (debug_opener pairs) o (Some input)) opens
-            ∙ sym (ap (λ (o : CommandOutcome). Some o) (sessions others start (one_group run cut sorted start others shown group are) input));
+            ∙ sym (ap (λ (o : CommandOutcome). Some o) (sessions others start (one_group run sorted start others group are) input));
         shows = group;
       }
 

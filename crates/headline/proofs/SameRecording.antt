@@ -17,15 +17,14 @@ names_are run cut (p ∷ ps) (r ∷ rs) each = λ i. (each.0.head i).name ∷ na
 names_are run cut [] (r ∷ rs) each = absurd each
 names_are run cut (p ∷ ps) [] each = absurd each
 
--- any two such lists of replays are of one group
-pub one_group : (run : RecordedRun) (cut : ℕ → List ℕ) (ps : List ℕ) (start others : List Replaying) → AllZip (ShowsProcess run cut) ps start → ShowsGroup run ps start → AreOfRecording run ps others
-    → SameGroup others start
-one_group run cut ps start others each shows are =
+-- any others of the recording are of one group with those that show it
+pub one_group : (run : RecordedRun) (ps : List ℕ) (start others : List Replaying) → ShowsGroup run ps start → AreOfRecording run ps others → SameGroup others start
+one_group run ps start others shows are =
     let events = shows.only (events_of_replays others) are.order in
     record {
-      names = are.names ∙ sym (names_are run cut ps start each);
+      names = are.names ∙ sym shows.recorded.names;
       events = events;
       states = λ k.
-          sym (one_recorded run ps (events_of_replays start) k (states_of_nodes start k) (states_of_nodes others k) (shows.moments k)
+          sym (one_recorded run ps (events_of_replays start) k (states_of_nodes start k) (states_of_nodes others k) (shows.recorded.moments k)
           (subst (λ (es : List (NodeEvent Entry)). AreRecordedAt run ps es k (states_of_nodes others k)) events (are.moments k)));
     }

@@ -47,10 +47,9 @@ pub record IsShown (run : RecordedRun) (cut : ℕ → List ℕ) (folder : Folder
   pub replay : (images : Bool) → AreApart (names_of_pairs pairs) (map (λ file. file.0) (recorded_report images run cut (sorted_of (processes_in_group run.group) ps)).writes)
       → replay_outcome images pairs folder ≡ Ok (recorded_report images run cut (sorted_of (processes_in_group run.group) ps))
   pub images : length ps ≡ processes_in_group run.group → recorded_images run (sorted_of (processes_in_group run.group) ps) ≡ all_images run.group run.steps
-  -- `debug` comes to what a session over these replays does, and to what one does over any others with the recorded names,
-  -- order and states: what it answers to whatever is typed is a function of the recording
-  pub debug : (input : List ℕ) → debug_outcome pairs (Some input) folder ≡ Some (session_outcome start input)
-  pub session : (others : List Replaying) → AreOfRecording run (sorted_of (processes_in_group run.group) ps) others
+  -- `debug` comes to what a session does over replays with the recorded names, order and states, which may be these or any
+  -- others: what it answers to whatever is typed is a function of the recording
+  pub debug : (others : List Replaying) → AreOfRecording run (sorted_of (processes_in_group run.group) ps) others
       → (input : List ℕ) → debug_outcome pairs (Some input) folder ≡ Some (session_outcome others input)
   pub shows : ShowsGroup run (sorted_of (processes_in_group run.group) ps) start
 

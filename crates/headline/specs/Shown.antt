@@ -117,16 +117,16 @@ pub data ReceivedDatagram (run : RecordedRun) (ps : List ℕ) (order : List (Nod
 -- sees nothing else of them
 pub record AreOfRecording (run : RecordedRun) (ps : List ℕ) (rs : List Replaying) : Type 0 where
   pub names : node_names rs ≡ map (name_of_process run.group) ps
+  -- the order has all their recorded events, sorted by clock and then by process
   pub order : IsOrder entry_clock (map (entries_of_steps run.steps) ps) (events_of_replays rs)
+  -- at position k each process is as it was in the recording after as many of its events as stand among the first k
   pub moments : (k : ℕ) → AreRecordedAt run ps (events_of_replays rs) k (states_of_nodes rs k)
 
 -- replays of these processes, as one group
 pub record ShowsGroup (run : RecordedRun) (ps : List ℕ) (start : List Replaying) : Type 0 where
-  -- the order is the one list of all their recorded events that is sorted by clock and then by process
-  pub order : IsOrder entry_clock (map (entries_of_steps run.steps) ps) (events_of_replays start)
+  pub recorded : AreOfRecording run ps start
+  -- no other list is such an order
   pub only : (es : List (NodeEvent Entry)) → IsOrder entry_clock (map (entries_of_steps run.steps) ps) es → es ≡ events_of_replays start
-  -- at position k each process is as it was in the recording after as many of its events as stand among the first k
-  pub moments : (k : ℕ) → AreRecordedAt run ps (events_of_replays start) k (states_of_nodes start k)
   -- each taken datagram is one from outside, or its send comes before it
   pub receives : (j node p : ℕ) (e : Entry) → slice_get ps node ≡ Some p → slice_get (events_of_replays start) j ≡ Some (node_event node e)
       → IsTrue (is_taken e) → ReceivedDatagram run ps (events_of_replays start) j (record { process = p; entry = e })
