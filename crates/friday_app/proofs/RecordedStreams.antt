@@ -203,7 +203,7 @@ module _ (strange : StrangeBySend) where
   count_is run cut (q ∷ ps) (r ∷ rs) each node p at = ap (λ (h : Head). h.count) each.0.head
 
   pub recorded_streams : RecordedStreams
-  recorded_streams run cut folder ps pairs s j node p e at here taken (FromOutside bytes early after given tag payload) = tt
+  recorded_streams run cut folder ps pairs s j node p e at here taken (FromOutside bytes later early event split is given tag payload) = tt
   recorded_streams run cut folder ps pairs s j node p e at here taken (FromSend q k sent is_entry is_sent_into to tells stands) = λ small other other_at.
       let start = s.start in
       let sorted = sorted_of (processes_in_group run.group) ps in

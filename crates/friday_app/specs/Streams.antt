@@ -42,7 +42,7 @@ pub record IsSendTaken (start : List Replaying) (j : ℕ) (taken : AcceptedEvent
 -- this holds of a datagram that a process sent whose log is given, where its clock is one that a tag can bear
 abbrev pub ReadsRecordedSend : {run : RecordedRun} {ps : List ℕ} {j : ℕ} {taken : AcceptedEvent} → (start : List Replaying)
     → ReceivedDatagram run ps (events_of_replays start) j taken → Type 0
-ReadsRecordedSend start (FromOutside bytes early after given tag payload) = Unit {0}
+ReadsRecordedSend start (FromOutside bytes later early event split is given tag payload) = Unit {0}
 ReadsRecordedSend {ps = ps} {j = j} {taken = taken} start (FromSend q k sent at is to tells before) =
     sent.clock ≤ most_clock → (node : ℕ) → slice_get ps node ≡ Some q → IsSendTaken start j taken node (record { process = q; entry = sent })
 

@@ -9,8 +9,9 @@ use Rattle.record_command.specs.Expected.{KeepsSchedule}
 use Rattle.record_command.specs.ExpectedLaws.{done_is_kept}
 use Rattle.record_command.specs.Laws.{RecordingsLeaveLogs, RecordingsStand}
 use Rattle.log_pairs.specs.Pairs.{Pair}
-use Rattle.headline.specs.Headline.{Headline, LeftIsShown, ShowsMoment, ShowsSteps, logs_in, logs_of_run, run_to, HoldsPair}
+use Rattle.headline.specs.Headline.{Headline, LeftIsShown, ShowsMoment, ShowsSteps, logs_in, run_to, HoldsPair}
 use Rattle.headline.specs.Shown.{no_cut}
+use Rattle.headline.proofs.RecordedGroup.{logs_of_run}
 
 module _ {before : Folder} {name : List ℕ} (r : IsRecordable before name) (steps : List RunStep) (cut : ℕ → List ℕ) (after folder : Folder) where
   abbrev Below : List ℕ → Type 0

@@ -1,5 +1,5 @@
 -- Each datagram that was taken came from outside, or its send comes before it in the order.
-use Rattle.std.proofs.Common.{◌≡◌, ◌∙◌, ◌≤◌, ◌^◌, ℕ, Bool, true, false, cond, List, [], ◌∷◌, ◌++◌, length, map, take, slice_get, Some, ap, append_assoc, arith, refl, subst, sym}
+use Rattle.std.proofs.Common.{◌≡◌, ◌∙◌, ◌≤◌, ◌<◌, ◌^◌, ℕ, Bool, true, false, cond, List, [], ◌∷◌, ◌++◌, length, map, take, slice_get, Some, ap, append_assoc, arith, refl, subst, sym}
 use Rattle.std.specs.Prelude.{Contains, IsTrue, ◌==◌}
 use Rattle.std.proofs.Math.Seq.{get_or-append_seam}
 use Rattle.std.proofs.lemmas.Bool.{eqb-true}
@@ -19,7 +19,7 @@ use Rattle.group_record.specs.Run.{Had, RunStep, entries_of_steps, history_of_st
 use Rattle.group_record.specs.Standing.{IsRun}
 use Rattle.group_state.specs.Laws.{SendsFirst}
 use Rattle.group_state.specs.Place.{ReplaysFit, entry_clock, events_of_replays}
-use Rattle.headline.specs.Shown.{FromOutside, FromSend, ReceivedDatagram, RecordedRun, StandsBefore}
+use Rattle.headline.specs.Shown.{FromOutside, FromSend, ReceivedDatagram, RecordedRun}
 use Rattle.headline.proofs.RecordedCourse.{entries_stay}
 use Rattle.headline.proofs.RecordedOrder.{own_is, own_of, place_of}
 use Rattle.headline.proofs.ToldEntries.{nth_is_sent, was_had}
@@ -50,7 +50,7 @@ module _ (run : RecordedRun) (ps : List ℕ) (start : List Replaying) (is_run : 
     (order : IsOrder entry_clock (map (entries_of_steps run.steps) ps) (events_of_replays start)) where
   -- the send of a tag that an event bears comes before it
   before : (j node q k : ℕ) (e sent : Entry) → slice_get (events_of_replays start) j ≡ Some (node_event node e) → slice_get (entries_of_steps run.steps q) k ≡ Some sent → e.tag ≡ Some (record { sender = q; clock = sent.clock })
-      → StandsBefore ps (events_of_replays start) j q sent
+      → (other : ℕ) → slice_get ps other ≡ Some q → (i : ℕ) × (i < j) × (slice_get (events_of_replays start) i ≡ Some (node_event other sent))
   before j node q k e sent at among tag other given =
       let place = place_of (events_of_replays start) other k sent (ap (λ (es : List Entry). slice_get es k) (own_is run.steps ps (events_of_replays start) order other q given) ∙ among) in
       (place.at, sends start fits place.at j (node_event other sent) (node_event node e) (record { sender = q; clock = sent.clock }) place.is at tag refl, place.is)
@@ -71,7 +71,7 @@ module _ (run : RecordedRun) (ps : List ℕ) (start : List Replaying) (is_run : 
     from_outside : (q : ℕ) (given : List ℕ) → t.giver.act ≡ Inject q given → Injects q p given t.bytes → ReceivedDatagram run ps (events_of_replays start) j (record { process = p; entry = e })
     from_outside q given act in_it =
         let there : t.giver.act ≡ Inject p t.bytes = act ∙ ap (λ (n : ℕ). Inject n given) in_it.to ∙ ap (Inject p) in_it.same in
-        FromOutside t.bytes early (record { later = later; event = event; split = split; is = is })
+        FromOutside t.bytes later early event split is
         (seam t.giver.later (Inject p t.bytes) t.giver.earlier (history_of_steps early) (t.giver.split ∙ ap (λ (act : Act). t.giver.later ++ act ∷ t.giver.earlier) there))
         (subst (λ (e : Entry). e.tag ≡ (read_datagram (processes_in_group run.group) t.bytes).0) is t.tag)
         (subst (λ (e : Entry). e.incoming ≡ take e.call.a1 (read_datagram (processes_in_group run.group) t.bytes).1) is t.payload)

@@ -33,7 +33,8 @@ use Rattle.record_command.specs.Agreement.{IsRecordable, group_in}
 use Rattle.record_command.specs.Expected.{module_name, schedule_in, schedule_or_refusal}
 use Rattle.record_command.specs.ExpectedLaws.{first_are, schedule_is}
 use Rattle.schedule_text.specs.Limits.{most_schedule}
-use Rattle.headline.specs.Headline.{HoldsPair, logs_of_run, run_to}
+use Rattle.headline.specs.Headline.{HoldsPair, run_to}
+use Rattle.headline.specs.Shown.{RecordedRun}
 use Rattle.headline.proofs.LoadedPairs.{PairStands, log_stands}
 use Rattle.headline.proofs.ShownReplays.{replay_of}
 
@@ -155,6 +156,10 @@ found_again name other (Some bytes) m is = fitting_again name other bytes (nat_l
 same_module : (before folder : Folder) (name other : List ℕ) (m : Module) → module_in before name ≡ Ok m → get folder other ≡ get before name → module_in folder other ≡ Ok m
 same_module before folder name other m is same =
     ap (module_by other) same ∙ found_again name other (get before name) m is
+
+-- the log of each process, by what was recorded, and what stands after it
+abbrev pub logs_of_run : RecordedRun → (ℕ → List ℕ) → ℕ → Option (List ℕ)
+logs_of_run run cut p = Some (log_of run.group run.steps p ++ cut p)
 
 pub pair_stands : ReadsModules → {before : Folder} {name : List ℕ} (r : IsRecordable before name) (steps : List RunStep) (cut : ℕ → List ℕ) (folder : Folder) (p : ℕ) (pair : Pair)
     → HoldsPair r (logs_of_run (run_to r steps) cut) folder p pair → (t : IsLogWithTail (group_in r) steps p (cut p)) → PairStands folder pair (replay_of (run_to r steps) cut p t)

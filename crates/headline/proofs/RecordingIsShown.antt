@@ -41,9 +41,9 @@ use Rattle.replay_command.specs.Report.{replay_work}
 use Rattle.conversation.specs.Opening.{opened_outcome}
 use Rattle.debug_command.specs.Session.{debug_opener}
 use Rattle.debug_command.specs.Laws.{SessionsOfOneGroup}
-use Rattle.headline.specs.Headline.{AreProcesses, Headline, IsShown, logs_of_run, run_to, sorted_of, HoldsPair}
+use Rattle.headline.specs.Headline.{AreProcesses, Headline, IsShown, run_to, sorted_of, HoldsPair}
 use Rattle.headline.specs.Shown.{RecordedRun, ShowsGroup, ShowsProcess}
-use Rattle.headline.proofs.RecordedGroup.{HasBegun, has_begun, pair_stands, schedule_formed, together}
+use Rattle.headline.proofs.RecordedGroup.{HasBegun, has_begun, logs_of_run, pair_stands, schedule_formed, together}
 use Rattle.headline.proofs.LoadedPairs.{AllStand, AllTogether, opened}
 use Rattle.headline.proofs.RecordedOrder.{are_recorded, one_recorded, order_is}
 use Rattle.headline.proofs.ReceivedDatagrams.{received}

@@ -7,8 +7,9 @@ use Rattle.fri_outside.specs.Outside.{Folder}
 use Rattle.group_record.specs.Run.{log_of, processes_in_group}
 use Rattle.log_pairs.specs.Pairs.{Pair}
 use Rattle.record_command.specs.Agreement.{IsRecordable, IsPartialEntry, Nothing, group_in, steps_in}
-use Rattle.headline.specs.Headline.{AreProcesses, Headline, WholeRecordings, logs_of_run, processes_of, run_to, whole_logs, HoldsPair}
+use Rattle.headline.specs.Headline.{AreProcesses, Headline, WholeRecordings, processes_of, run_to, whole_logs, HoldsPair}
 use Rattle.headline.specs.Shown.{no_cut}
+use Rattle.headline.proofs.RecordedGroup.{logs_of_run}
 
 -- ---- all numbers
 

@@ -80,17 +80,13 @@ pub record AreProcesses (count : ℕ) (ps : List ℕ) : Type 0 where
   pub within : AllByRecursion (λ p. p < count) ps
   pub apart : AllPairs (λ p q. p ≢ q) ps
 
--- the log of each process, by what was recorded, and what stands after it
-abbrev pub logs_of_run : RecordedRun → (ℕ → List ℕ) → ℕ → Option (List ℕ)
-logs_of_run run cut p = Some (log_of run.group run.steps p ++ cut p)
-
 -- At each moment of the run of a schedule that can be recorded, so also where the recording was stopped or a log was full: in
 -- every folder that has the modules and the logs of some processes, under whatever names, and whatever else, these are shown as
 -- they were recorded. After each log there may stand a first part of one more entry, as a recording leaves it that was stopped
 abbrev pub Headline : Type 0
 Headline = (before : Folder) (schedule_name : List ℕ) (r : IsRecordable before schedule_name) (steps : List RunStep) → IsMoment steps (steps_in r)
     → (cut : ℕ → List ℕ) (ps : List ℕ) → AreProcesses (processes_in_group (group_in r)) ps → AllByRecursion (λ p. IsPartialEntry (group_in r) (steps_in r) steps p (cut p)) ps
-    → (folder : Folder) (pairs : List Pair) → AllZip (HoldsPair r (logs_of_run (run_to r steps) cut) folder) ps pairs → IsShown (run_to r steps) cut folder ps pairs
+    → (folder : Folder) (pairs : List Pair) → AllZip (HoldsPair r (λ p. Some (log_of (group_in r) steps p ++ cut p)) folder) ps pairs → IsShown (run_to r steps) cut folder ps pairs
 
 -- ---- what a recording leaves
 

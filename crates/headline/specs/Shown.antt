@@ -88,29 +88,19 @@ pub record AreRecordedAt (run : RecordedRun) (ps : List ℕ) (order : List (Node
       → (state : State) × (slice_get states node ≡ Some state)
       × (slice_get (recorded_states run.group run.steps p) (node_event_count node (take k order)) ≡ Some state)
 
--- where the process q is one of these, this event of its own comes before place j of the order
-abbrev pub StandsBefore : List ℕ → List (NodeEvent Entry) → ℕ → ℕ → Entry → Type 0
-StandsBefore ps order j q sent =
-    (node : ℕ) → slice_get ps node ≡ Some q → (i : ℕ) × (i < j) × (slice_get order i ≡ Some (node_event node sent))
-
--- in the run the event came right after these steps
-pub record ComesAfter (run : RecordedRun) (early : List RunStep) (taken : AcceptedEvent) : Type 0 where
-  pub later : List RunStep
-  pub event : Event
-  pub split : run.steps ≡ later ++ (Had taken.process event ∷ early)
-  pub is : event.entry ≡ taken.entry
-
 -- the datagram that an event took, at place j of the order, came from outside before the event, or a process had sent it to
--- that of the event. Then the event names the send and tells a first part of what went out, and the send comes before it,
--- unless the send's clock is past those that a tag can bear
+-- that of the event. Then the event names the send and tells a first part of what went out, and the send comes before it, if its
+-- process is one of these, unless the send's clock is past those that a tag can bear
 pub data ReceivedDatagram (run : RecordedRun) (ps : List ℕ) (order : List (NodeEvent Entry)) (j : ℕ) (taken : AcceptedEvent) : Type 0 where
-  FromOutside : (bytes : List ℕ) → (early : List RunStep) → ComesAfter run early taken → Contains (history_of_steps early) (Inject taken.process bytes)
+  FromOutside : (bytes : List ℕ) → (later early : List RunStep) → (e : Event) → run.steps ≡ later ++ (Had taken.process e ∷ early) → e.entry ≡ taken.entry
+      → Contains (history_of_steps early) (Inject taken.process bytes)
       → taken.entry.tag ≡ (read_datagram (processes_in_group run.group) bytes).0
       → taken.entry.incoming ≡ take taken.entry.call.a1 (read_datagram (processes_in_group run.group) bytes).1
       → ReceivedDatagram run ps order j taken
   FromSend : (q k : ℕ) → (sent : Entry) → slice_get (entries_of_steps run.steps q) k ≡ Some sent
       → IsTrue (is_sent (processes_in_group run.group) sent) → sent.call.a0 ≡ taken.process
-      → (sent.clock ≤ most_clock → TellsSend taken.entry q sent) → (sent.clock ≤ most_clock → StandsBefore ps order j q sent)
+      → (sent.clock ≤ most_clock → TellsSend taken.entry q sent)
+      → (sent.clock ≤ most_clock → (node : ℕ) → slice_get ps node ≡ Some q → (i : ℕ) × (i < j) × (slice_get order i ≡ Some (node_event node sent)))
       → ReceivedDatagram run ps order j taken
 
 -- replays whose nodes have the names of these processes, the order of their recorded events and the recorded states. A session
