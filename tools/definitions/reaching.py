@@ -4,11 +4,11 @@ from definitions.reading import Home
 
 
 class Reached:
-    """The definitions that some reach, in the order in which a reader meets them, and the leaves at which that ends. Those of `later`
-    are put off with all that only they reach."""
+    """The definitions that some reach, in the order in which a reader meets them, and the leaves at which that ends: crates, and files as
+    crate/file. Those of `later` are put off with all that only they reach."""
 
     def __init__(self, files, leaves, later=()):
-        self.files, self.leaf_crates, self.later = files, leaves, set(later)
+        self.files, self.leaf_places, self.later = files, leaves, set(later)
         self.met, self.leaves, self.put_off = {}, {}, []
 
     def found(self, home):
@@ -28,7 +28,7 @@ class Reached:
             if file is None:
                 continue
             there = Home(file.crate, file.file, home.name)
-            if file.crate in self.leaf_crates:
+            if {file.crate, file.place} & self.leaf_places:
                 self.leaves.setdefault(there)
             elif there in self.later:
                 self.put_off.append(there)

@@ -25,6 +25,10 @@ class Home:
     file: str
     name: str
 
+    @property
+    def place(self):
+        return "%s/%s" % (self.crate, self.file)
+
     def __str__(self):
         return "%s/specs/%s" % (self.crate, self.file.replace(".", "/"))
 
@@ -57,7 +61,7 @@ class File:
     """A file of definitions: what it declares, and where the names are from that it cites."""
 
     def __init__(self, crate, file, text):
-        self.crate, self.file = crate, file
+        self.crate, self.file, self.place = crate, file, "%s/%s" % (crate, file)
         self.imported, self.aliases = {}, {}
         for *place, names, alias in IMPORT.findall(text):
             if alias:
