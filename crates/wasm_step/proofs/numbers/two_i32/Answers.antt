@@ -6,7 +6,6 @@ as_narrow-x-requires c =
     let two = two_i32 c.args.op c.args.k c.args.thread.now c.requires.same c.requires.rule c.requires.takes c.requires.only in
     let at = c.last_two-x.ensures in
     let are = two.1.1 in
-    let is = c.value.ensures in
     (two.0, cc)
 
 pub as_narrow-y-requires : goal.as_narrow-y-requires
@@ -14,5 +13,4 @@ as_narrow-y-requires c =
     let two = two_i32 c.args.op c.args.k c.args.thread.now c.requires.same c.requires.rule c.requires.takes c.requires.only in
     let at = c.last_two-x.ensures in
     let are = two.1.1 in
-    let is = c.value-2.ensures in
     (two.1.0, cc)

@@ -6,7 +6,6 @@ as_long-x-requires c =
     let two = two_i64 c.args.op c.args.k c.args.thread.now c.requires.same c.requires.rule c.requires.takes c.requires.only in
     let at = c.last_two-x.ensures in
     let are = two.1.1 in
-    let is = c.value.ensures in
     (two.0, cc)
 
 pub as_long-y-requires : goal.as_long-y-requires
@@ -14,5 +13,4 @@ as_long-y-requires c =
     let two = two_i64 c.args.op c.args.k c.args.thread.now c.requires.same c.requires.rule c.requires.takes c.requires.only in
     let at = c.last_two-x.ensures in
     let are = two.1.1 in
-    let is = c.value-2.ensures in
     (two.1.0, cc)
