@@ -1,5 +1,5 @@
 -- How long an entry is.
-use Rattle.std.proofs.Common.{◌≡◌, ℕ, zero, suc, ◌+◌, ◌/◌, ◌%◌, ◌^◌, ◌<◌, ◌≤◌, lit≤, Bool, true, false, cond, ltb, List, [], ◌∷◌, length, Option, Some, None, refl, ap, ◌∙◌, arith, length-append}
+use Rattle.std.proofs.Common.{◌≡◌, ℕ, zero, suc, ◌+◌, ◌/◌, ◌%◌, ◌^◌, ◌<◌, ◌≤◌, lit≤, Bool, true, false, cond, ltb, List, [], ◌∷◌, ◌++◌, length, Option, Some, None, refl, ap, ◌∙◌, arith, length-append}
 use Rattle.std.specs.Int.{Width, w8, w16, w32, w64, w128}
 use Rattle.std.specs.List.{concat}
 use Rattle.lamport_tag.specs.declared.Tag.{Tag}
@@ -16,6 +16,8 @@ use Rattle.call_log.specs.declared.version.Version.TheVariants.{One, Two}
 use Rattle.call_log.specs.Version.{clock_bytes, clock_gap, number_bytes}
 use Rattle.call_log.specs.Entry.{body_bytes, encoding, argument_bytes, number_if, string_if, tag_if}
 use Rattle.call_log.specs.Limits.{least_entry}
+use Rattle.call_log.specs.Spelling.{IsLengthIf}
+use Rattle.call_log.specs.inside.Parts.{front_bytes, lead_bytes, length_if, reply_bytes}
 
 abbrev pub total_length : List (List ℕ) → ℕ
 total_length [] = 0
@@ -124,6 +126,31 @@ pub length-body_lt : (v : Version) (last : ℕ) (e : Entry) → IsShaped e → l
 length-body_lt v last e shaped =
     body_fits _ _ _ _ _ _ _ _ _ _ (length-clock_bytes v last e.clock).few (length-number_bytes v w16 e.thread).few (length-argument_bytes v e.call) (length-number_bytes v w64 e.reply).few
     (length-string_if v _ e.outgoing shaped.outgoing) (length-string_if v _ e.incoming shaped.incoming) (one_string e.call.kind) (length-tag_if v _ e.tag) (body_size v last e)
+
+-- ---- a body without its outgoing bytes
+
+length_parts : (a b c d e f g h : List ℕ) → length (concat (a ∷ b ∷ c ∷ []) ++ (d ++ ((e ++ (f ++ g)) ++ h))) ≡ length a + length b + length c + length d + length e + length f + length g + length h
+length_parts a b c d e f g h =
+    omega (arith, length-append (concat (a ∷ b ∷ c ∷ [])) (d ++ ((e ++ (f ++ g)) ++ h)), length-concat (a ∷ b ∷ c ∷ []), length-append d ((e ++ (f ++ g)) ++ h), length-append (e ++ (f ++ g)) h, length-append e (f ++ g), length-append f g)
+
+pub lead_size : (v : Version) (last sent : ℕ) (e : Entry)
+    → length (lead_bytes v last sent e) ≡ length (clock_bytes v last e.clock) + length (number_bytes v w16 e.thread) + 2 + length (argument_bytes v e.call) + length (number_bytes v w64 e.reply) + length (length_if v (row e.call.kind).entry.outgoing sent) + length (string_if v (row e.call.kind).entry.incoming e.incoming) + length (tag_if v (row e.call.kind).entry.tag e.tag)
+unfolding lead_bytes front_bytes reply_bytes
+lead_size v last sent e =
+    length_parts (clock_bytes v last e.clock) (number_bytes v w16 e.thread) ((row e.call.kind).number ∷ e.signal ∷ []) (argument_bytes v e.call) (number_bytes v w64 e.reply) (length_if v (row e.call.kind).entry.outgoing sent) (string_if v (row e.call.kind).entry.incoming e.incoming) (tag_if v (row e.call.kind).entry.tag e.tag)
+
+length-length_if : (v : Version) (has : Bool) (n : ℕ) → IsLengthIf has n → length (length_if v has n) + n ≤ cond has 2147483664 0
+length-length_if v true n few = omega (arith, few, (length-number_bytes v w32 n).few)
+length-length_if v false n none = omega (arith, none)
+
+with_sent : (n c t a r o i g s : ℕ) → n ≡ c + t + 2 + a + r + o + i + g → n + s ≡ c + t + 2 + a + r + (o + s) + i + g
+with_sent n c t a r o i g s e = omega arith
+
+pub lead_fits : (v : Version) (last sent : ℕ) (e : Entry) → IsShaped e → IsLengthIf (row e.call.kind).entry.outgoing sent → length (lead_bytes v last sent e) + sent < 2 ^ 32
+lead_fits v last sent e shaped few =
+    body_fits _ _ _ _ _ _ _ _ _ _ (length-clock_bytes v last e.clock).few (length-number_bytes v w16 e.thread).few (length-argument_bytes v e.call) (length-number_bytes v w64 e.reply).few
+    (length-length_if v _ sent few) (length-string_if v _ e.incoming shaped.incoming) (one_string e.call.kind) (length-tag_if v _ e.tag)
+    (with_sent _ _ _ _ _ _ _ _ sent (lead_size v last sent e))
 
 -- ---- the entry
 

@@ -1,6 +1,7 @@
 pub mod FieldLemmas
 pub mod ShapeTests
 pub mod EntrySizes
+pub mod Leads
 pub mod EntryLemmas
 pub mod HeadLemmas
 pub mod KeptHead

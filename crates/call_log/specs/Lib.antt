@@ -1,5 +1,6 @@
 pub mod Version
 pub mod Entry
+pub mod Spelling
 pub mod Head
 pub mod Reading
 pub mod Log

@@ -1,7 +1,10 @@
 // How many bytes an entry takes.
-ghost use Rattle.std.specs.Prelude.{◌≡◌, ◌^◌, ◌<◌, ◌≤◌, length};
+ghost use Rattle.std.specs.Prelude.{◌≡◌, ◌+◌, ◌^◌, ◌<◌, ◌≤◌, length};
+ghost use Rattle.call_table.specs.Table.{row};
 ghost use Rattle.lib_calls.specs.Entry.{IsStringIf, IsTagIf, entry_of, IsShaped};
-ghost use Rattle.call_log.specs.Entry.{argument_bytes, body_bytes, encoding, number_if, string_if, tag_if};
+ghost use Rattle.call_log.specs.Entry.{argument_bytes, encoding, number_if, string_if, tag_if};
+ghost use Rattle.call_log.specs.Spelling.{IsLengthIf};
+ghost use Rattle.call_log.specs.inside.Parts.{lead_bytes, length_if};
 
 use crate::number::{length_clock, length_u16, length_u32, length_u64};
 use crate::version::Version;
@@ -14,23 +17,24 @@ pub fn entry_length(version: Version, last: u64, entry: &EntryView<'_>) -> u64
     requires { IsShaped (entry_of entry.now) }
     ensures { result ≡ length (encoding version last (entry_of entry.now)) }
 {
-    let body = body_length(version, last, entry);
+    let body = body_length(version, last, entry, entry.outgoing.len() as u32);
     length_u32(version, body) + u64::from(body)
 }
 
-// The number of bytes that its body takes.
-#[tactic(auto, using(crate::proofs::EntrySizes::body_size))]
+// The number of bytes that its body takes, if so many bytes go out.
+#[tactic(auto, using(crate::proofs::EntrySizes::lead_size))]
 #[inline(always)]
-pub(crate) fn body_length(version: Version, last: u64, entry: &EntryView<'_>) -> u32
-    requires { IsShaped (entry_of entry.now) }
-    ensures { result ≡ length (body_bytes version last (entry_of entry.now)) }
+pub(crate) fn body_length(version: Version, last: u64, entry: &EntryView<'_>, sent: u32) -> u32
+    requires shape { IsShaped (entry_of entry.now) }
+    requires sent { IsLengthIf (row entry.now.call.kind).entry.outgoing sent }
+    ensures { result ≡ length (lead_bytes version last sent (entry_of entry.now)) + sent }
 {
     let kind = entry.call.kind;
     let clock = length_clock(version, last, entry.clock);
     let thread = length_u16(version, entry.thread);
     let arguments = arguments_length(version, &entry.call);
     let reply = length_u64(version, entry.reply);
-    let outgoing = string_length(version, kind.has_outgoing(), entry.outgoing);
+    let outgoing = length_length(version, kind.has_outgoing(), sent) + u64::from(sent);
     let incoming = string_length(version, kind.has_incoming(), entry.incoming);
     let tag = tag_length(version, kind.has_tag(), entry.tag);
     (clock + thread + 2 + arguments + reply + outgoing + incoming + tag) as u32
@@ -59,6 +63,15 @@ fn number_length(version: Version, has: bool, number: u64) -> u64
     if has { length_u64(version, number) } else { 0 }
 }
 
+// How many bytes the length of bytes takes, where the kind has them.
+#[inline(always)]
+fn length_length(version: Version, has: bool, count: u32) -> u64
+    ensures size { result ≡ length (length_if version has count) }
+    ensures small { result ≤ 10 }
+{
+    if has { length_u32(version, count) } else { 0 }
+}
+
 // How many bytes a byte string takes, with its length.
 #[inline(always)]
 fn string_length(version: Version, has: bool, bytes: &[u8]) -> u64
@@ -75,7 +88,7 @@ fn string_length(version: Version, has: bool, bytes: &[u8]) -> u64
 
 // How many bytes a tag takes, with its flag.
 #[inline(always)]
-fn tag_length(version: Version, has: bool, tag: Option<Tag>) -> u64
+pub(crate) fn tag_length(version: Version, has: bool, tag: Option<Tag>) -> u64
     requires { IsTagIf has tag }
     ensures size { result ≡ length (tag_if version has tag) }
     ensures small { result ≤ 21 }

@@ -3,7 +3,9 @@
 //! A log has one of two versions, which says how the numbers of its entries are spelled and nothing else:
 //! in version 1 each takes the width of its field, and in version 2 as few bytes as possible, with the
 //! clock as what it is above that of the entry before. Heads of both are the same but for the version.
-//! Both are read and written; `rewrite` makes a log of version 2 of either.
+//! Both are read and written; `rewrite` makes a log of version 2 of either. The outgoing bytes of an entry come last, so
+//! that `put_before_outgoing` spells an entry while they are elsewhere, and `incoming_in` finds those that came in where
+//! they were spelled (`specs/Spelling`).
 //!
 //! Contracts see a log as its head and what is left of it (`Unread` of specs/Log): the version, the clock of the
 //! entry that was read last, and the bytes after that entry. For any bytes after a head of either
@@ -23,6 +25,7 @@ mod log_buf;
 mod number;
 mod put;
 mod rewriting;
+mod spelled;
 mod version;
 mod view;
 
@@ -30,7 +33,8 @@ pub use head::{BadHead, LogHead};
 pub use length::entry_length;
 pub use limits::MOST_LOG;
 pub use log_buf::LogBuf;
-pub use put::{put_entry, put_head};
+pub use put::{put_before_outgoing, put_entry, put_head};
 pub use rewriting::rewrite;
+pub use spelled::incoming_in;
 pub use version::Version;
 pub use view::LogView;

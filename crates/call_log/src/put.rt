@@ -1,9 +1,11 @@
 // Writing the head and the entries of a log.
 ghost use Rattle.std.specs.Prelude.{◌≡◌, ◌^◌, ◌<◌, ◌≤◌, ◌++◌, ◌&&◌, nat_lt, length, map, take, Some, OnOk, OnErr};
 ghost use Rattle.std.specs.List.{concat};
+ghost use Rattle.call_table.specs.Table.{row};
 ghost use Rattle.lib_calls.specs.Entry.{IsStringIf, IsTagIf, entry_of, IsShaped};
-ghost use Rattle.call_log.specs.Entry.{argument_bytes, body_bytes, encoding, flagged_tag, number_if, string_if, tag_if};
-ghost use Rattle.call_log.specs.inside.Parts.{front_bytes, reply_bytes};
+ghost use Rattle.call_log.specs.Entry.{argument_bytes, encoding, flagged_tag, number_if, string_if, tag_if};
+ghost use Rattle.call_log.specs.Spelling.{AddsBeforeOutgoing, IsLengthIf};
+ghost use Rattle.call_log.specs.inside.Parts.{framed_lead, front_bytes, lead_bytes, length_if, reply_bytes};
 ghost use Rattle.call_log.specs.declared.version.Version.TheVariants.{Two};
 ghost use Rattle.call_log.specs.Version.{clock_gap};
 ghost use Rattle.call_log.specs.Head.{IsHead, head_bytes, head_of};
@@ -49,76 +51,120 @@ pub fn put_entry(
     ensures ok { OnOk result (out.new.items ≡ out.old.items ++ encoding version last (entry_of entry.now)) }
     ensures err { OnErr result (out.new.items ≡ out.old.items) }
 {
-    match version {
-        Version::Two if is_small(entry) => put_small(out, last, entry),
-        _ => put_measured(out, version, last, entry),
-    }
-}
-
-// Whether the body most likely takes less than 128 bytes in version 2.
-#[inline(always)]
-fn is_small(entry: &EntryView<'_>) -> bool {
-    entry.outgoing.len() < 64 && entry.incoming.len() < 64
-}
-
-// Adds an entry of version 2. The length of its body most likely takes one byte, which is put in once the
-// body comes after it, so that no field is measured first.
-#[inline(always)]
-fn put_small(out: &mut Vec<u8>, last: u64, entry: &EntryView<'_>) -> Result<(), AllocError>
-    requires { IsShaped (entry_of entry.now) }
-    ensures ok { OnOk result (out.new.items ≡ out.old.items ++ encoding Two last (entry_of entry.now)) }
-    ensures err { OnErr result (out.new.items ≡ out.old.items) }
-{
     let start = out.len();
-    put_byte(out, 0)?;
-    if let Err(error) = put_body(out, Version::Two, last, entry) {
-        out.truncate(start);
-        return Err(error);
-    }
-    let size = out.len() - start - 1;
-    if size < 128 {
-        out[start] = size as u8;
-        return Ok(());
-    }
-    out.truncate(start);
-    put_measured(out, Version::Two, last, entry)
-}
-
-// Adds an entry, whose body is measured first.
-fn put_measured(
-    out: &mut Vec<u8>,
-    version: Version,
-    last: u64,
-    entry: &EntryView<'_>,
-) -> Result<(), AllocError>
-    requires { IsShaped (entry_of entry.now) }
-    ensures ok { OnOk result (out.new.items ≡ out.old.items ++ encoding version last (entry_of entry.now)) }
-    ensures err { OnErr result (out.new.items ≡ out.old.items) }
-{
-    let start = out.len();
-    put_number_u32(out, version, body_length(version, last, entry))?;
-    if let Err(error) = put_body(out, version, last, entry) {
+    put_framed(out, version, last, entry, entry.outgoing.len() as u32)?;
+    if let Err(error) = put_bytes(out, entry.outgoing) {
         out.truncate(start);
         return Err(error);
     }
     Ok(())
 }
 
-// Adds the fields of an entry, or some of them where memory runs out.
+/// Adds an entry after one with the clock `last`, but for its outgoing bytes, which come last. There are to be `sent` of
+/// them, whatever the entry has.
 #[inline(always)]
-fn put_body(
+pub fn put_before_outgoing(
     out: &mut Vec<u8>,
     version: Version,
     last: u64,
     entry: &EntryView<'_>,
+    sent: u32,
+) -> Result<(), AllocError>
+    requires shape { IsShaped (entry_of entry.now) }
+    requires sent { IsLengthIf (row entry.now.call.kind).entry.outgoing sent }
+    ensures ok { OnOk result (AddsBeforeOutgoing version last sent (entry_of entry.now) out.old.items out.new.items) }
+    ensures err { OnErr result (out.new.items ≡ out.old.items) }
+{
+    put_framed(out, version, last, entry, sent)
+}
+
+// The same, as the bytes that are added.
+#[inline(always)]
+fn put_framed(
+    out: &mut Vec<u8>,
+    version: Version,
+    last: u64,
+    entry: &EntryView<'_>,
+    sent: u32,
+) -> Result<(), AllocError>
+    requires shape { IsShaped (entry_of entry.now) }
+    requires sent { IsLengthIf (row entry.now.call.kind).entry.outgoing sent }
+    ensures ok { OnOk result (out.new.items ≡ out.old.items ++ framed_lead version last sent (entry_of entry.now)) }
+    ensures err { OnErr result (out.new.items ≡ out.old.items) }
+{
+    match version {
+        Version::Two if sent < 64 && entry.incoming.len() < 64 => put_small(out, last, entry, sent),
+        _ => put_measured(out, version, last, entry, sent),
+    }
+}
+
+// Adds an entry of version 2 but for its outgoing bytes. The length of its body most likely takes one byte, which is put
+// in once the body comes after it, so that no field is measured first.
+#[inline(always)]
+fn put_small(
+    out: &mut Vec<u8>,
+    last: u64,
+    entry: &EntryView<'_>,
+    sent: u32,
+) -> Result<(), AllocError>
+    requires shape { IsShaped (entry_of entry.now) }
+    requires sent { IsLengthIf (row entry.now.call.kind).entry.outgoing sent }
+    ensures ok { OnOk result (out.new.items ≡ out.old.items ++ framed_lead Two last sent (entry_of entry.now)) }
+    ensures err { OnErr result (out.new.items ≡ out.old.items) }
+{
+    let start = out.len();
+    put_byte(out, 0)?;
+    if let Err(error) = put_lead(out, Version::Two, last, entry, sent) {
+        out.truncate(start);
+        return Err(error);
+    }
+    let size = (out.len() - start - 1) as u64 + u64::from(sent);
+    if size < 128 {
+        out[start] = size as u8;
+        return Ok(());
+    }
+    out.truncate(start);
+    put_measured(out, Version::Two, last, entry, sent)
+}
+
+// Adds an entry but for its outgoing bytes. Its body is measured first.
+fn put_measured(
+    out: &mut Vec<u8>,
+    version: Version,
+    last: u64,
+    entry: &EntryView<'_>,
+    sent: u32,
+) -> Result<(), AllocError>
+    requires shape { IsShaped (entry_of entry.now) }
+    requires sent { IsLengthIf (row entry.now.call.kind).entry.outgoing sent }
+    ensures ok { OnOk result (out.new.items ≡ out.old.items ++ framed_lead version last sent (entry_of entry.now)) }
+    ensures err { OnErr result (out.new.items ≡ out.old.items) }
+{
+    let start = out.len();
+    put_number_u32(out, version, body_length(version, last, entry, sent))?;
+    if let Err(error) = put_lead(out, version, last, entry, sent) {
+        out.truncate(start);
+        return Err(error);
+    }
+    Ok(())
+}
+
+// Adds the fields of an entry but for its outgoing bytes, or some of them where memory runs out.
+#[inline(always)]
+fn put_lead(
+    out: &mut Vec<u8>,
+    version: Version,
+    last: u64,
+    entry: &EntryView<'_>,
+    sent: u32,
 ) -> Result<(), AllocError>
     requires { IsShaped (entry_of entry.now) }
-    ensures ok { OnOk result (out.new.items ≡ out.old.items ++ body_bytes version last (entry_of entry.now)) }
+    ensures ok { OnOk result (out.new.items ≡ out.old.items ++ lead_bytes version last sent (entry_of entry.now)) }
     ensures err { OnErr result (take (length out.old.items) out.new.items ≡ out.old.items) }
 {
     put_front(out, version, last, entry)?;
     put_arguments(out, version, &entry.call)?;
-    put_reply(out, version, entry)?;
+    put_reply(out, version, entry, sent)?;
     put_tag_if(out, version, entry.call.kind.has_tag(), entry.tag)
 }
 
@@ -216,18 +262,41 @@ fn put_number_if(
     }
 }
 
-// Adds the reply, and the bytes that went out and came in, or a part of that where memory runs out.
+// Adds the reply, how many bytes are to go out, and the bytes that came in, or a part of that where memory runs out.
 #[tactic(auto, unfolding(crate::specs::inside::Parts::reply_bytes))]
 #[inline(always)]
-fn put_reply(out: &mut Vec<u8>, version: Version, entry: &EntryView<'_>) -> Result<(), AllocError>
+fn put_reply(
+    out: &mut Vec<u8>,
+    version: Version,
+    entry: &EntryView<'_>,
+    sent: u32,
+) -> Result<(), AllocError>
     requires { IsShaped (entry_of entry.now) }
-    ensures ok { OnOk result (out.new.items ≡ out.old.items ++ reply_bytes version (entry_of entry.now)) }
+    ensures ok { OnOk result (out.new.items ≡ out.old.items ++ reply_bytes version sent (entry_of entry.now)) }
     ensures err { OnErr result (take (length out.old.items) out.new.items ≡ out.old.items) }
 {
     let kind = entry.call.kind;
     put_number_u64(out, version, entry.reply)?;
-    put_string_if(out, version, kind.has_outgoing(), entry.outgoing)?;
+    put_length_if(out, version, kind.has_outgoing(), sent)?;
     put_string_if(out, version, kind.has_incoming(), entry.incoming)
+}
+
+// Adds the length of bytes, where the kind has them.
+#[inline(always)]
+fn put_length_if(
+    out: &mut Vec<u8>,
+    version: Version,
+    has: bool,
+    length: u32,
+) -> Result<(), AllocError>
+    ensures ok { OnOk result (out.new.items ≡ out.old.items ++ length_if version has length) }
+    ensures err { OnErr result (out.new.items ≡ out.old.items) }
+{
+    if has {
+        put_number_u32(out, version, length)
+    } else {
+        Ok(())
+    }
 }
 
 // Adds bytes after their length, or the length alone where memory runs out, where the kind has them.

@@ -1,21 +1,33 @@
 -- The parts of an entry: their bytes, and what the functions give that read one.
-use Rattle.std.specs.Prelude.{ℕ, List, [], ◌∷◌, ◌++◌, ◌≡◌, Option, Some, None}
+use Rattle.std.specs.Prelude.{ℕ, ◌+◌, Bool, if◌then◌else◌, List, [], ◌∷◌, ◌++◌, ◌≡◌, length, Option, Some, None}
 use Rattle.std.specs.List.{concat}
-use Rattle.std.specs.Int.{w16, w64}
+use Rattle.std.specs.Int.{w16, w32, w64}
 use Rattle.lib_calls.specs.declared.entry.Entry.{Entry}
 use Rattle.call_log.specs.declared.version.Version.{Version}
 use Rattle.call_table.specs.Table.{row}
 use Rattle.fri_bytes.specs.Reading.{CursorState}
 use Rattle.call_log.specs.Version.{clock_bytes, number_bytes}
-use Rattle.call_log.specs.Entry.{string_if}
+use Rattle.call_log.specs.Entry.{argument_bytes, string_if, tag_if}
 
 -- the fields of an entry before its arguments
 unfoldable pub front_bytes : Version → ℕ → Entry → List ℕ
 front_bytes v last e = concat (clock_bytes v last e.clock ∷ number_bytes v w16 e.thread ∷ ((row e.call.kind).number ∷ e.signal ∷ []) ∷ [])
 
--- those after its arguments and before its tag
-unfoldable pub reply_bytes : Version → Entry → List ℕ
-reply_bytes v e = number_bytes v w64 e.reply ++ (string_if v (row e.call.kind).entry.outgoing e.outgoing ++ string_if v (row e.call.kind).entry.incoming e.incoming)
+-- the length of bytes, where the kind has them
+abbrev pub length_if : Version → Bool → ℕ → List ℕ
+length_if v has n = if has then number_bytes v w32 n else []
+
+-- those after its arguments and before its tag, but for its outgoing bytes, of which there are so many
+unfoldable pub reply_bytes : Version → ℕ → Entry → List ℕ
+reply_bytes v sent e = number_bytes v w64 e.reply ++ (length_if v (row e.call.kind).entry.outgoing sent ++ string_if v (row e.call.kind).entry.incoming e.incoming)
+
+-- all fields but for its outgoing bytes
+unfoldable pub lead_bytes : Version → ℕ → ℕ → Entry → List ℕ
+lead_bytes v last sent e = front_bytes v last e ++ (argument_bytes v e.call ++ (reply_bytes v sent e ++ tag_if v (row e.call.kind).entry.tag e.tag))
+
+-- these after the length of the whole body
+unfoldable pub framed_lead : Version → ℕ → ℕ → Entry → List ℕ
+framed_lead v last sent e = number_bytes v w32 (length (lead_bytes v last sent e) + sent) ++ lead_bytes v last sent e
 
 -- what a reader that may stop half way gives: the value at the front and what follows it
 abbrev pub GivesField : {A : Type 0} → Option A → CursorState → Option (A × List ℕ) → Type 0

@@ -5,26 +5,26 @@ use Rattle.lib_calls.specs.declared.entry.Entry.{Entry}
 use Rattle.lib_calls.specs.Entry.{entry_of}
 use Rattle.fri_bytes.specs.Short.{short_bytes}
 use Rattle.call_log.specs.declared.version.Version.TheVariants.{Two}
-use Rattle.call_log.specs.Entry.{body_bytes, encoding}
+use Rattle.call_log.specs.inside.Parts.{framed_lead, lead_bytes}
 use Rattle.call_log.proofs.put.put_small.Goals as goal
 
 short_byte : (n : ℕ) → n < 128 → short_bytes n ≡ n ∷ []
 unfolding short_bytes
 short_byte n small = rw (lt-ltb n 128 small) refl
 
--- a short body after its length is the entry
-behind_length : (last : ℕ) (e : Entry) → length (body_bytes Two last e) < 128 → encoding Two last e ≡ length (body_bytes Two last e) ∷ body_bytes Two last e
-unfolding encoding
-behind_length last e small = ap (λ (t : List ℕ). t ++ body_bytes Two last e) (short_byte (length (body_bytes Two last e)) small)
+-- what is spelled of a short body, after the length of the whole
+behind_length : (last sent : ℕ) (e : Entry) (size : ℕ) → size ≡ length (lead_bytes Two last sent e) + sent → size < 128 → framed_lead Two last sent e ≡ size ∷ lead_bytes Two last sent e
+unfolding framed_lead
+behind_length last sent e size is small =
+    ap (λ (n : ℕ). short_bytes n ++ lead_bytes Two last sent e) (sym is) ∙ ap (λ (t : List ℕ). t ++ lead_bytes Two last sent e) (short_byte size small)
 
--- the byte in front of what was added takes how much was added
-set_in : (old part mid new : List ℕ) (start size : ℕ) → mid ≡ old ++ 0 ∷ [] → new ≡ mid ++ part → start ≡ length old → size ≡ length part → slice_set new start size ≡ old ++ (length part ∷ part)
-set_in old part mid new start size put more at is =
+-- the byte in front of what was added takes a number
+set_in : (old part mid new : List ℕ) (start size : ℕ) → mid ≡ old ++ 0 ∷ [] → new ≡ mid ++ part → start ≡ length old → slice_set new start size ≡ old ++ (size ∷ part)
+set_in old part mid new start size put more at =
     let whole : new ≡ old ++ 0 ∷ part = more ∙ ap (λ (t : List ℕ). t ++ part) put ∙ append_assoc old (0 ∷ []) part in
     ap (λ (t : List ℕ). slice_set t start size) whole
     ∙ ap (λ (i : ℕ). slice_set (old ++ 0 ∷ part) i size) at
-    ∙ ap (λ (n : ℕ). slice_set (old ++ 0 ∷ part) (length old) n) is
-    ∙ set-append_seam old 0 part (length part)
+    ∙ set-append_seam old 0 part size
 
 added : (old part mid new : List ℕ) → mid ≡ old ++ 0 ∷ [] → new ≡ mid ++ part → length new ≡ length old + 1 + length part
 added old part mid new put more =
@@ -34,13 +34,12 @@ pub returns-then-size-lt128-clause-ok : goal.returns-then-size-lt128-clause-ok
 returns-then-size-lt128-clause-ok c =
     let e : Entry = entry_of c.args.entry.now in
     let old : List ℕ = c.args.out.now.items in
-    let part : List ℕ = body_bytes Two c.args.last e in
+    let part : List ℕ = lead_bytes Two c.args.last c.args.sent e in
     let mid : List ℕ = c.put_byte.new.out.items in
-    let new : List ℕ = c.put_body.new.out.items in
+    let new : List ℕ = c.put_lead.new.out.items in
     let put : mid ≡ old ++ 0 ∷ [] = c.in_ok-put_byte.ensures.ok in
     let more : new ≡ mid ++ part = c.in_default.ensures.ok in
     let start : c.len-start.result ≡ length old = search rules in
     let end : c.len.result ≡ length new = search rules in
-    let size : c.len.result - c.len-start.result - 1 ≡ length part = omega (arith, added old part mid new put more, start, end) in
-    let small : length part < 128 = omega (arith, size, c.if-size-lt128.true) in
-    set_in old part mid new c.len-start.result _ put more start size ∙ ap (λ (t : List ℕ). old ++ t) (sym (behind_length c.args.last e small))
+    let size : c.len.result - c.len-start.result - 1 + c.from.result ≡ length part + c.args.sent = omega (arith, c.from.ensures, added old part mid new put more, start, end) in
+    set_in old part mid new c.len-start.result _ put more start ∙ ap (λ (t : List ℕ). old ++ t) (sym (behind_length c.args.last c.args.sent e _ size c.if-size-lt128.true))

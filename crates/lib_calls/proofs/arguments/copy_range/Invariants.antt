@@ -1,9 +1,0 @@
-use Rattle.std.proofs.Common.{◌≡◌, ◌≤◌, ◌-◌}
-use Rattle.guest_memory.specs.Memory.{bytes_from}
-use Rattle.lib_calls.proofs.arguments.copy_range.Given as goal
-
-abbrev pub invariant-loop-count : goal.invariant-loop-count
-invariant-loop-count l = (l.count ≤ l.len) × (l.bytes ≡ bytes_from l.memory l.addr l.count)
-
-abbrev pub decreases-loop-count : goal.decreases-loop-count
-decreases-loop-count l = l.len - l.count
