@@ -12,6 +12,7 @@ pub mod LiveGroups
 pub mod SummaryLines
 pub mod RecordAnswer
 pub mod SharedLemmas
+pub mod SpelledEvents
 pub mod LiveEvents
 pub mod RunSteps
 pub mod LogsAgree

@@ -168,12 +168,6 @@ abbrev pub entry_with : ℕ → ℕ → ℕ → Call → Answer → List ℕ →
 entry_with clock signal t c a outgoing =
     record { clock = clock; thread = t; signal = signal; call = c; reply = a.reply; outgoing = outgoing; incoming = a.incoming; tag = a.tag }
 
--- it is put together field by field
-pub entry_made : (clock signal t : ℕ) (c : Call) (a : Answer) (outgoing incoming : List ℕ) → incoming ≡ a.incoming
-    → record { clock = clock; thread = t; signal = signal; call = c; reply = a.reply; outgoing = outgoing; incoming = incoming; tag = a.tag } ≡ entry_with clock signal t c a outgoing
-entry_made clock signal t c a outgoing incoming is =
-    ap (λ (bytes : List ℕ). entry_with clock signal t c (record a { incoming = bytes }) outgoing) is
-
 -- what is asked in a world in which the process was not killed
 pub record IsTried (S : State) (t : ℕ) (env : Env) (c : Call) (asked : PlainNeed) : Type 0 where
   pub stands : IsAsked S t c asked

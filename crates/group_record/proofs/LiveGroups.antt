@@ -53,11 +53,9 @@ at_steps steps = record { steps = steps; idle = 0; full = None }
 
 abbrev pub recorder_with : Parts → ℕ → ℕ → Recorder
 recorder_with parts acted idle = record {
-  alloc = parts.alloc;
   members = parts.members;
   world = parts.world;
   prints = parts.prints;
-  bytes = parts.bytes;
   acted = acted;
   idle = idle;
 }
@@ -148,25 +146,19 @@ few_there count m S sound is =
     let same : S ≡ sound.state = same_Some _ _ (sym is ∙ sound.process) in
     omega (arith, ap (λ (S : State). S.events) same, sound.events, sound.room)
 
--- an entry that was spelled, and for which the log has room
-pub can_make : (m other : Member) (e same : Entry) (bytes : List ℕ) (fits : Bool) → m ≡ other → e ≡ same → CanKeepEntry other same → CountsEvent other same → bytes ≡ spelled_entry m e
-    → fits ≡ nat_le (m.size + length bytes) most_log → fits ≡ true → CanMakeEvent other e bytes
-can_make m other e same bytes fits is told keeps counts spelled test room =
-    let here : bytes ≡ spelled_entry other e = spelled ∙ ap (λ (m : Member). spelled_entry m e) is in
-    record {
-      keeps = subst (CanKeepEntry other) (sym told) keeps;
-      counts = subst (CountsEvent other) (sym told) counts;
-      spelled = here;
-      fits = subst (λ (bytes : List ℕ). other.size + length bytes ≤ most_log) here (subst (λ (m : Member). m.size + length bytes ≤ most_log) is (leb-true _ _ (sym test ∙ room)));
-    }
+-- an entry that takes so many bytes, and for which the log has room
+pub can_make : (m : Member) (e : Entry) (size : ℕ) (fits : Bool) → CanKeepEntry m e → CountsEvent m e → size ≡ length (spelled_entry m e)
+    → fits ≡ nat_le (m.size + size) most_log → fits ≡ true → CanMakeEvent m e size
+can_make m e size fits keeps counts spelled test room = record {
+  keeps = keeps;
+  counts = counts;
+  spelled = spelled;
+  fits = subst (λ n. m.size + n ≤ most_log) spelled (leb-true _ _ (sym test ∙ room));
+}
 
 -- and for which it has none
-pub taken_full : (m other : Member) (e same : Entry) (bytes : List ℕ) (fits : Bool) → m ≡ other → e ≡ same → bytes ≡ spelled_entry m e
-    → fits ≡ nat_le (m.size + length bytes) most_log → fits ≡ false → most_log < other.size + length (spelled_entry other same)
-taken_full m other e same bytes fits is told spelled test full =
-    subst (λ (e : Entry). most_log < other.size + length (spelled_entry other e)) told
-    (subst (λ (m : Member). most_log < m.size + length (spelled_entry m e)) is
-    (subst (λ (bytes : List ℕ). most_log < m.size + length bytes) spelled (short_of (m.size + length bytes) most_log (sym test ∙ full))))
+pub taken_full : (m : Member) (e : Entry) (size : ℕ) (fits : Bool) → size ≡ length (spelled_entry m e) → fits ≡ nat_le (m.size + size) most_log → fits ≡ false → most_log < m.size + length (spelled_entry m e)
+taken_full m e size fits spelled test full = subst (λ n. most_log < m.size + n) spelled (short_of (m.size + size) most_log (sym test ∙ full))
 
 -- what was taken is what the try gave, wherever the group stood
 pub tried_so : Counting → (old new : Parts) (p thread : ℕ) (m : Member) (S : State) (entry : Entry) (result : Result Tried AllocError) → p < length old.members.items
@@ -355,8 +347,8 @@ sound_of counting group steps parts lives few =
       each = λ p m at. sound_member group steps p (process_count parts.world) m (sym size) (keeps.members p m at);
     }
 
-sound_after : (count : ℕ) (m : Member) (e : Entry) (bytes : List ℕ) → CanMakeEvent m e bytes → IsSoundMember count m → IsSoundMember count (member_after m e)
-sound_after count m e bytes can sound =
+sound_after : (count : ℕ) (m : Member) (e : Entry) (size : ℕ) → CanMakeEvent m e size → IsSoundMember count m → IsSoundMember count (member_after m e)
+sound_after count m e size can sound =
     let same : can.counts.state ≡ sound.state = same_Some _ _ (sym can.counts.process ∙ sound.process) in
     record {
       state = next can.counts.state e;
@@ -366,9 +358,9 @@ sound_after count m e bytes can sound =
       room = can.fits;
     }
 
-pub sound_made : (old new : Parts) (p : ℕ) (m : Member) (e : Entry) (bytes : List ℕ) → AreSoundParts old → slice_get old.members.items p ≡ Some m → CanMakeEvent m e bytes → MadeEvent old p m e new
+pub sound_made : (old new : Parts) (p : ℕ) (m : Member) (e : Entry) (taken : ℕ) → AreSoundParts old → slice_get old.members.items p ≡ Some m → CanMakeEvent m e taken → MadeEvent old p m e new
     → process_count new.world ≡ process_count old.world → AreSoundParts new
-sound_made old new p m e bytes sound at can made size =
+sound_made old new p m e taken sound at can made size =
     let members : length new.members.items ≡ length old.members.items = ap length made.members ∙ length_set old.members.items p (member_after m e) in
     let prints : length new.prints ≡ length old.prints = ap length made.prints ∙ length_set old.prints p (slice_index_or old.prints p [] ++ printed e) in
     record {
@@ -377,7 +369,7 @@ sound_made old new p m e bytes sound at can made size =
       kept = omega (arith, members, prints, sound.kept);
       each = λ q n there. subst (λ count. IsSoundMember count n) (sym size)
           (set_each old.members.items p (member_after m e) (λ q n. IsSoundMember (process_count old.world) n)
-          (λ inside. sound_after (process_count old.world) m e bytes can (sound.each p m at))
+          (λ inside. sound_after (process_count old.world) m e taken can (sound.each p m at))
           (λ q n apart at. sound.each q n at)
           q n (sym (ap (λ ms. slice_get ms q) made.members) ∙ there));
     }

@@ -2,7 +2,7 @@
 use Rattle.std.specs.Prelude.{◌≡◌, ◌≢◌, ℕ, suc, ◌≤◌, Bool, true, false, All, AllPairs, List, [], ◌∷◌, ◌++◌, length, Option, Some, None, option_map, Result, Ok, Err, slice_get}
 use Rattle.std.specs.List.{flat_map}
 use Rattle.std.specs.Option.{option_to_list}
-use Rattle.lib_calls.specs.Entry.{IsShaped}
+use Rattle.lib_calls.specs.Entry.{IsShaped, entry_of}
 use Rattle.lib_calls.specs.Traffic.{prints}
 use Rattle.lossy_net.specs.declared.net.SentBytes.{SentBytes}
 use Rattle.lossy_net.specs.Network.{kept_sent, nth_of}
@@ -97,7 +97,7 @@ BeginsLive schedule begun (Err errors.NoMemory) = Unit {0}
 abbrev pub TriesAfter : GroupStart → List RunStep → ℕ → ℕ → Tried → LiveParts → Type 0
 TriesAfter group steps p thread tried.Idle new = (event_of_try group steps p thread ≡ None) × IsLiveAfter group steps new
 TriesAfter group steps p thread (tried.Had entry) new =
-    (e : Event) × (event_of_try group steps p thread ≡ Some e) × (log_has_room group steps p e ≡ true) × (entry ≡ e.entry) × IsLiveAfter group (Had p e ∷ steps) new
+    (e : Event) × (event_of_try group steps p thread ≡ Some e) × (log_has_room group steps p e ≡ true) × (entry_of entry ≡ e.entry) × IsLiveAfter group (Had p e ∷ steps) new
 TriesAfter group steps p thread tried.Full new =
     (e : Event) × (event_of_try group steps p thread ≡ Some e) × (log_has_room group steps p e ≡ false) × IsLiveAfter group steps new
 

@@ -74,11 +74,9 @@ fn new_recorder<'m>(
     let world = World::new(alloc, count)?;
     let prints = Prints::new(alloc, images, count)?;
     Ok(Recorder {
-        alloc,
         members,
         world,
         prints,
-        bytes: Vec::new(alloc),
         acted: 0,
         idle: 0,
     })

@@ -10,7 +10,8 @@
 //!
 //! A `LiveGroup` goes on by one try or item at a time and without files (`specs/Live`): it stands where the run of these
 //! stands, and tells what the run has of each. Inside, a recorder holds the members of the group, each a process with its log
-//! (`specs/inside/Recorded`, `specs/inside/Members`), and so does a live group (`specs/inside/Parts`).
+//! (`specs/inside/Recorded`, `specs/inside/Members`), and so does a live group (`specs/inside/Parts`). No entry of an event
+//! is kept: it is spelled at once, with what it sends out straight from the memory, and lent from there.
 #![tactic(auto)]
 
 mod answer;

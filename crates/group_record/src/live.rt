@@ -55,12 +55,17 @@ impl<'m> LiveGroup<'m> {
         Ok(LiveGroup { parts })
     }
 
-    /// One try of a thread of process `p`.
-    pub fn attempt(&mut self, p: u32, thread: u16) -> Result<Tried, AllocError>
+    /// One try of a thread of process `p`. The entry of its event is spelled in `bytes`, from where its bytes are lent.
+    pub fn attempt<'a>(
+        &mut self,
+        p: u32,
+        thread: u16,
+        bytes: &'a mut Vec<u8>,
+    ) -> Result<Tried<'a>, AllocError>
         requires { p < live_count self.old }
         ensures { IfOk result (λ tried. LiveTries self.old p thread tried self.new) }
     {
-        self.parts.attempt(p, thread)
+        self.parts.attempt(p, thread, bytes)
     }
 
     /// Does an item that is not `run`, and tells whether it acted. Of `run` nothing is done.

@@ -5,7 +5,7 @@ ghost use Rattle.call_log.specs.Head.{head_bytes};
 ghost use Rattle.call_log.specs.Limits.{most_log};
 ghost use Rattle.call_log.specs.declared.version.Version.TheVariants.{Two};
 ghost use Rattle.fri_text.specs.Name.{is_name as is_name_word};
-ghost use Rattle.lib_calls.specs.Entry.{IsShaped, entry_of};
+ghost use Rattle.lib_calls.specs.Entry.{entry_of};
 ghost use Rattle.schedule_text.specs.Schedule.{IsProcess};
 ghost use Rattle.guest_process.specs.Next.{next};
 ghost use Rattle.guest_process.specs.Start.{start as start_of};
@@ -15,7 +15,7 @@ ghost use Rattle.group_record.specs.inside.Members.{CanKeepEntry, LogHasRoom, St
 ghost use Rattle.group_record.specs.Files.{change};
 
 use crate::error::RecordError;
-use call_log::{LogHead, MOST_LOG, Version, put_entry, put_head};
+use call_log::{LogHead, MOST_LOG, Version, put_head};
 use fri_outside::Files;
 use guest_module::ValidModule;
 use guest_process::Process;
@@ -66,42 +66,32 @@ impl<'m> Member<'m> {
         }
     }
 
-    /// Writes the entry of an event to the log, where the log has room, and makes the event. The entry is
-    /// spelled in `bytes`. `number` is that of the item to which the event belongs.
+    /// Writes the bytes of an event's entry to the log, where the log has room, and makes the event. `number` is that
+    /// of the item to which the event belongs.
     pub(crate) fn log_event<F: Files>(
         &mut self,
         number: u64,
         entry: &EntryView<'_>,
-        bytes: &mut Vec<u8>,
+        bytes: &[u8],
         files: &mut F,
     ) -> Result<(), RecordError>
-        requires shape { IsShaped (entry_of entry.now) }
         requires event { CanKeepEntry self.old (entry_of entry.now) }
+        requires spelled { bytes.now ≡ spelled_entry self.old (entry_of entry.now) }
         ensures writes { WritesToLog self.old number (spelled_entry self.old (entry_of entry.now)) result (change (F.told files.old) (F.told files.new)) }
         ensures ok { OnOk result (self.new ≡ member_after self.old (entry_of entry.now)) }
         ensures counted { F.counts files.new ≡ after_writes (F.counts files.old) result }
     {
-        self.spell(entry, bytes)?;
         self.write(number, bytes, files)?;
         self.make_event(entry, bytes.len())?;
         Ok(())
     }
 
-    /// Spells the entry of the next event.
-    pub(crate) fn spell(&self, entry: &EntryView<'_>, bytes: &mut Vec<u8>) -> Result<(), AllocError>
-        requires { IsShaped (entry_of entry.now) }
-        ensures { OnOk result (bytes.new.items ≡ spelled_entry self.now (entry_of entry.now)) }
-    {
-        bytes.clear();
-        put_entry(bytes, Version::Two, self.last, entry)
-    }
-
-    /// Whether the log has room for these bytes.
-    pub(crate) fn has_room(&self, bytes: &[u8]) -> bool
+    /// Whether the log has room for so many bytes.
+    pub(crate) fn has_room(&self, size: usize) -> bool
         requires { self.now.size ≤ most_log }
-        ensures { result ≡ nat_le (self.now.size + length bytes.now) most_log }
+        ensures { result ≡ nat_le (self.now.size + size) most_log }
     {
-        bytes.len() <= MOST_LOG - self.size
+        size <= MOST_LOG - self.size
     }
 
     // Writes bytes at the end of the log, where it has room.
@@ -111,7 +101,7 @@ impl<'m> Member<'m> {
         ensures writes { WritesToLog self.now number bytes.now result (change (F.told files.old) (F.told files.new)) }
         ensures counted { F.counts files.new ≡ after_writes (F.counts files.old) result }
     {
-        if !self.has_room(bytes) {
+        if !self.has_room(bytes.len()) {
             return Err(RecordError::LogFull(number));
         }
         files.append(&self.log, bytes)?;

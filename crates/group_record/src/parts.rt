@@ -1,36 +1,34 @@
 // What a group is made of that goes on try by try.
 ghost use Rattle.std.specs.Prelude.{◌≡◌, ◌<◌, ◌≤◌, ◌^◌, Some, IfOk, OnOk, IsTrue, length, slice_get};
 ghost use Rattle.lamport_tag.specs.Limits.{most_processes};
-ghost use Rattle.lib_calls.specs.Entry.{IsShaped, entry_of};
+ghost use Rattle.lib_calls.specs.Entry.{entry_of};
 ghost use Rattle.lib_calls.specs.Traffic.{drawn as drawn_of, is_taken as is_taken_of};
 ghost use Rattle.lossy_net.specs.Network.{mailbox_of};
 ghost use Rattle.schedule_text.specs.Schedule.{IsInRange};
 ghost use Rattle.group_world.specs.World.{process_count, surroundings_of};
 ghost use Rattle.group_record.specs.declared.member.Member.{Member as MemberOf};
 ghost use Rattle.group_record.specs.Live.{IsNoRun, LiveActs, LiveTries, TellsKilled, TellsPrinted, TellsSent, live_states};
-ghost use Rattle.group_record.specs.inside.Members.{CanKeepEntry};
+ghost use Rattle.group_record.specs.inside.Members.{CanKeepEntry, spelled_entry};
 ghost use Rattle.group_record.specs.inside.Parts.{AreNewParts, AreSoundParts, CanMakeEvent, CountsEvent, MadeEvent, TakesEntry, live_parts};
 
-use crate::event::{live_entry, new_entry};
+use crate::event::{live_event, spell_event, spelled_event};
 use crate::items::act;
 use crate::member::Member;
 use crate::prints::Prints;
 use crate::tried::Tried;
 use group_world::{SentBytes, World};
 use guest_process::Process;
-use lib_calls::{Entry, EntryView};
+use lib_calls::EntryView;
 use schedule_text::Item;
 use std::alloc::{AllocError, Global};
 
-/// The processes with their logs' sizes, the world around them, and what they print. The entry of an event is
-/// spelled in `bytes`, so that its size is known. After want of memory at an event no process is left.
+/// The processes with their logs' sizes, the world around them, and what they print. After want of memory at an event no
+/// process is left.
 #[derive(Drop)]
 pub(crate) struct Parts<'m> {
-    pub(crate) alloc: Global,
     pub(crate) members: Vec<Member<'m>>,
     pub(crate) world: World,
     pub(crate) prints: Prints,
-    pub(crate) bytes: Vec<u8>,
 }
 
 impl<'m> Parts<'m> {
@@ -43,67 +41,73 @@ impl<'m> Parts<'m> {
         let world = World::new(alloc, count)?;
         let prints = Prints::new(alloc, true, count)?;
         Ok(Parts {
-            alloc,
             members,
             world,
             prints,
-            bytes: Vec::new(alloc),
         })
     }
 
-    /// One try of a thread.
-    pub(crate) fn attempt(&mut self, p: u32, thread: u16) -> Result<Tried, AllocError>
+    /// One try of a thread. The entry of its event is spelled in `bytes`, so that its size is known.
+    pub(crate) fn attempt<'a>(
+        &mut self,
+        p: u32,
+        thread: u16,
+        bytes: &'a mut Vec<u8>,
+    ) -> Result<Tried<'a>, AllocError>
         requires sound { AreSoundParts self.old }
         requires process { p < length self.old.members.items }
         ensures sound { AreSoundParts self.new }
         ensures tries { IfOk result (λ tried. LiveTries (live_parts self.old) p thread tried (live_parts self.new)) }
     {
         group_world::laws::by_counting();
-        let Some(process) = &self.members[p as usize].process else {
+        let member = &self.members[p as usize];
+        let Some(process) = &member.process else {
             unreachable!();
         };
-        let mut entry = new_entry(self.alloc);
-        let has_event = live_entry(&mut entry, process, thread, &self.world, p)?;
-        if !has_event {
+        let Some(event) = live_event(process, thread, &self.world, p) else {
             return Ok(Tried::Idle);
-        }
-        self.take_entry(p, entry)
+        };
+        let start = spell_event(process, &event, member.last, bytes)?;
+        let entry = spelled_event(bytes, &event, start);
+        self.take_entry(p, entry, bytes.len())
     }
 
-    // Makes the event of this entry, where the log of its process has room.
-    fn take_entry(&mut self, p: u32, entry: Entry) -> Result<Tried, AllocError>
+    // Makes the event of an entry that takes so many bytes, where the log of its process has room.
+    fn take_entry<'a>(
+        &mut self,
+        p: u32,
+        entry: EntryView<'a>,
+        size: usize,
+    ) -> Result<Tried<'a>, AllocError>
         requires sound { AreSoundParts self.old }
         requires process { p < length self.old.members.items }
-        requires shape { IsShaped entry }
-        requires event { (m : MemberOf) → slice_get self.old.members.items p ≡ Some m → CanKeepEntry m entry }
-        requires counted { (m : MemberOf) → slice_get self.old.members.items p ≡ Some m → CountsEvent m entry }
-        requires datagram { IsTrue (is_taken_of entry) → 1 ≤ length (mailbox_of self.old.world.net p) }
-        requires drawn { drawn_of entry ≤ length (surroundings_of self.old.world p).pool }
+        requires event { (m : MemberOf) → slice_get self.old.members.items p ≡ Some m → CanKeepEntry m (entry_of entry) }
+        requires counted { (m : MemberOf) → slice_get self.old.members.items p ≡ Some m → CountsEvent m (entry_of entry) }
+        requires size { (m : MemberOf) → slice_get self.old.members.items p ≡ Some m → size ≡ length (spelled_entry m (entry_of entry)) }
+        requires datagram { IsTrue (is_taken_of (entry_of entry)) → 1 ≤ length (mailbox_of self.old.world.net p) }
+        requires drawn { drawn_of (entry_of entry) ≤ length (surroundings_of self.old.world p).pool }
         ensures sound { AreSoundParts self.new }
-        ensures takes { IfOk result (λ tried. (m : MemberOf) → slice_get self.old.members.items p ≡ Some m → TakesEntry self.old p m entry tried self.new) }
+        ensures takes { IfOk result (λ tried. (m : MemberOf) → slice_get self.old.members.items p ≡ Some m → TakesEntry self.old p m (entry_of entry.entry) tried self.new) }
     {
-        let view = entry.view();
-        let member = &self.members[p as usize];
-        member.spell(&view, &mut self.bytes)?;
-        if !member.has_room(&self.bytes) {
+        if !self.members[p as usize].has_room(size) {
             return Ok(Tried::Full);
         }
-        self.make_event(p, &view)?;
+        self.make_event(p, &entry, size)?;
         Ok(Tried::Had(entry))
     }
 
     // Makes the event of an entry that was spelled and for which the log has room. After want of memory no process is left,
     // since one that was to make an event is gone.
-    fn make_event(&mut self, p: u32, entry: &EntryView<'_>) -> Result<(), AllocError>
+    fn make_event(&mut self, p: u32, entry: &EntryView<'_>, size: usize) -> Result<(), AllocError>
         requires sound { AreSoundParts self.old }
         requires process { p < length self.old.members.items }
-        requires event { (m : MemberOf) → slice_get self.old.members.items p ≡ Some m → CanMakeEvent m (entry_of entry.now) self.old.bytes.items }
+        requires event { (m : MemberOf) → slice_get self.old.members.items p ≡ Some m → CanMakeEvent m (entry_of entry.now) size }
         requires datagram { IsTrue (is_taken_of (entry_of entry.now)) → 1 ≤ length (mailbox_of self.old.world.net p) }
         requires drawn { drawn_of (entry_of entry.now) ≤ length (surroundings_of self.old.world p).pool }
         ensures sound { AreSoundParts self.new }
         ensures made { OnOk result ((m : MemberOf) → slice_get self.old.members.items p ≡ Some m → MadeEvent self.old p m (entry_of entry.now) self.new) }
     {
-        match self.try_event(p, entry) {
+        match self.try_event(p, entry, size) {
             Ok(()) => Ok(()),
             Err(error) => {
                 self.members.clear();
@@ -113,16 +117,16 @@ impl<'m> Parts<'m> {
     }
 
     // The same, but after want of memory the parts are in between.
-    fn try_event(&mut self, p: u32, entry: &EntryView<'_>) -> Result<(), AllocError>
+    fn try_event(&mut self, p: u32, entry: &EntryView<'_>, size: usize) -> Result<(), AllocError>
         requires around { p < process_count self.old.world }
         requires process { p < length self.old.members.items }
-        requires event { (m : MemberOf) → slice_get self.old.members.items p ≡ Some m → CanMakeEvent m (entry_of entry.now) self.old.bytes.items }
+        requires event { (m : MemberOf) → slice_get self.old.members.items p ≡ Some m → CanMakeEvent m (entry_of entry.now) size }
         requires datagram { IsTrue (is_taken_of (entry_of entry.now)) → 1 ≤ length (mailbox_of self.old.world.net p) }
         requires drawn { drawn_of (entry_of entry.now) ≤ length (surroundings_of self.old.world p).pool }
         ensures made { OnOk result ((m : MemberOf) → slice_get self.old.members.items p ≡ Some m → MadeEvent self.old p m (entry_of entry.now) self.new) }
         ensures size { OnOk result (process_count self.new.world ≡ process_count self.old.world) }
     {
-        self.members[p as usize].make_event(entry, self.bytes.len())?;
+        self.members[p as usize].make_event(entry, size)?;
         self.world.take_event(p, entry)?;
         self.prints.add(p, entry)?;
         Ok(())

@@ -1,6 +1,6 @@
 // A group that is recorded, try by try.
 ghost use Rattle.std.specs.Prelude.{◌≡◌, ◌+◌, ◌<◌, ◌≤◌, ◌^◌, ℕ, All, OnOk, IsTrue, length, slice_get, sum_by, Some, if◌then◌else◌};
-ghost use Rattle.lib_calls.specs.Entry.{IsShaped};
+ghost use Rattle.lib_calls.specs.Entry.{entry_of};
 ghost use Rattle.lib_calls.specs.Traffic.{drawn as drawn_of, is_taken as is_taken_of};
 ghost use Rattle.lossy_net.specs.Network.{mailbox_of};
 ghost use Rattle.schedule_text.specs.Schedule.{IsInRange};
@@ -13,25 +13,23 @@ ghost use Rattle.group_record.specs.Answer.{after_writes};
 ghost use Rattle.group_record.specs.Files.{change};
 
 use crate::error::RecordError;
-use crate::event::{live_entry, new_entry};
+use crate::event::{live_event, spell_event, spelled_event};
 use crate::items::act;
 use crate::member::Member;
 use crate::prints::Prints;
 use fri_outside::Files;
 use group_world::World;
-use lib_calls::Entry;
+use lib_calls::EntryView;
 use schedule_text::Item;
 use std::alloc::{AllocError, Global};
 
 /// A group that is recorded: its processes, the world around them, what they print, where it is kept, and how
-/// many steps acted and tries and items were idle. The entry of an event is spelled in `bytes`.
+/// many steps acted and tries and items were idle.
 #[derive(Drop)]
 pub(crate) struct Recorder<'m> {
-    pub(crate) alloc: Global,
     pub(crate) members: Vec<Member<'m>>,
     pub(crate) world: World,
     pub(crate) prints: Prints,
-    pub(crate) bytes: Vec<u8>,
     pub(crate) acted: u64,
     pub(crate) idle: u64,
 }
@@ -40,6 +38,7 @@ impl<'m> Recorder<'m> {
     /// Does all items of a schedule.
     pub(crate) fn perform_all<F: Files>(
         &mut self,
+        alloc: Global,
         items: &[Item],
         files: &mut F,
     ) -> Result<(), RecordError>
@@ -50,21 +49,21 @@ impl<'m> Recorder<'m> {
         ensures prints { OnOk result (length self.new.prints ≡ length self.old.prints) }
         ensures counted { F.counts files.new ≡ after_writes (F.counts files.old) result }
     {
-        let mut entry = new_entry(self.alloc);
+        let mut bytes = Vec::new(alloc);
         let mut number = 0;
         for item in items {
             number += 1;
-            self.perform(number, item, &mut entry, files)?;
+            self.perform(number, item, &mut bytes, files)?;
         }
         Ok(())
     }
 
-    // Does the item with this number, from 1. Its events are told by `entry`, one after the other.
+    // Does the item with this number, from 1. The entries of its events are spelled in `bytes`, one after the other.
     fn perform<F: Files>(
         &mut self,
         number: u64,
         item: &Item,
-        entry: &mut Entry,
+        bytes: &mut Vec<u8>,
         files: &mut F,
     ) -> Result<(), RecordError>
         requires under_way { RecordingUnderWay self.old (F.told files.old) }
@@ -81,7 +80,7 @@ impl<'m> Recorder<'m> {
                 process,
                 thread,
                 times,
-            } => self.run(number, *process, *thread, *times, entry, files),
+            } => self.run(number, *process, *thread, *times, bytes, files),
             _ => Ok(self.act(item)?),
         }
     }
@@ -93,7 +92,7 @@ impl<'m> Recorder<'m> {
         p: u32,
         thread: u16,
         times: u32,
-        entry: &mut Entry,
+        bytes: &mut Vec<u8>,
         files: &mut F,
     ) -> Result<(), RecordError>
         requires under_way { RecordingUnderWay self.old (F.told files.old) }
@@ -105,7 +104,7 @@ impl<'m> Recorder<'m> {
         ensures counted { F.counts files.new ≡ after_writes (F.counts files.old) result }
     {
         for _ in 0..times {
-            self.attempt(number, p, thread, entry, files)?;
+            self.attempt(number, p, thread, bytes, files)?;
         }
         Ok(())
     }
@@ -116,7 +115,7 @@ impl<'m> Recorder<'m> {
         number: u64,
         p: u32,
         thread: u16,
-        entry: &mut Entry,
+        bytes: &mut Vec<u8>,
         files: &mut F,
     ) -> Result<(), RecordError>
         requires under_way { RecordingUnderWay self.old (F.told files.old) }
@@ -129,42 +128,44 @@ impl<'m> Recorder<'m> {
     {
         group_world::laws::by_counting();
         fri_outside::laws::keeps_files();
-        let Some(process) = &self.members[p as usize].process else {
+        let member = &self.members[p as usize];
+        let Some(process) = &member.process else {
             unreachable!();
         };
-        let has_event = live_entry(entry, process, thread, &self.world, p)?;
-        if !has_event {
+        let Some(event) = live_event(process, thread, &self.world, p) else {
             self.idle += 1;
             return Ok(());
-        }
-        self.log_event(number, p, entry, files)
+        };
+        let start = spell_event(process, &event, member.last, bytes)?;
+        let entry = spelled_event(bytes, &event, start);
+        self.log_event(number, p, &entry, bytes, files)
     }
 
-    // Writes the entry of an event to the log of its process, and makes the event.
+    // Writes the entry of an event, which is spelled in `bytes`, to the log of its process, and makes the event.
     fn log_event<F: Files>(
         &mut self,
         number: u64,
         p: u32,
-        entry: &Entry,
+        entry: &EntryView<'_>,
+        bytes: &[u8],
         files: &mut F,
     ) -> Result<(), RecordError>
         requires process { p < length self.old.members.items }
         requires around { p < process_count self.old.world }
-        requires shape { IsShaped entry.now }
-        requires event { (m : MemberOf) → slice_get self.old.members.items p ≡ Some m → CanKeepEntry m entry.now }
-        requires datagram { IsTrue (is_taken_of entry.now) → 1 ≤ length (mailbox_of self.old.world.net p) }
-        requires drawn { drawn_of entry.now ≤ length (surroundings_of self.old.world p).pool }
+        requires event { (m : MemberOf) → slice_get self.old.members.items p ≡ Some m → CanKeepEntry m (entry_of entry.now) }
+        requires spelled { (m : MemberOf) → slice_get self.old.members.items p ≡ Some m → bytes.now ≡ spelled_entry m (entry_of entry.now) }
+        requires datagram { IsTrue (is_taken_of (entry_of entry.now)) → 1 ≤ length (mailbox_of self.old.world.net p) }
+        requires drawn { drawn_of (entry_of entry.now) ≤ length (surroundings_of self.old.world p).pool }
         requires few { HasCountsFor 1 self.old }
         ensures writes { (m : MemberOf) → slice_get self.old.members.items p ≡ Some m →
-            WritesToLog m number (spelled_entry m entry.now) result (change (F.told files.old) (F.told files.new)) }
-        ensures ok { OnOk result ((m : MemberOf) → slice_get self.old.members.items p ≡ Some m → IsLoggedEvent self.old p m entry.now self.new) }
+            WritesToLog m number (spelled_entry m (entry_of entry.now)) result (change (F.told files.old) (F.told files.new)) }
+        ensures ok { OnOk result ((m : MemberOf) → slice_get self.old.members.items p ≡ Some m → IsLoggedEvent self.old p m (entry_of entry.now) self.new) }
         ensures prints { OnOk result (length self.new.prints ≡ length self.old.prints) }
         ensures counted { F.counts files.new ≡ after_writes (F.counts files.old) result }
     {
-        let entry = entry.view();
-        self.members[p as usize].log_event(number, &entry, &mut self.bytes, files)?;
-        self.world.take_event(p, &entry)?;
-        self.prints.add(p, &entry)?;
+        self.members[p as usize].log_event(number, entry, bytes, files)?;
+        self.world.take_event(p, entry)?;
+        self.prints.add(p, entry)?;
         self.acted += 1;
         Ok(())
     }

@@ -31,7 +31,7 @@ pub fn run_record<F: Files>(
 {
     group_world::laws::by_counting();
     let mut recorder = begin(alloc, schedule, modules, images, files)?;
-    recorder.perform_all(schedule.items(), files)?;
+    recorder.perform_all(alloc, schedule.items(), files)?;
     let summary = summary_of(alloc, schedule.processes(), &recorder)?;
     write_images(alloc, images, schedule.processes(), &recorder, files)?;
     Ok(summary)

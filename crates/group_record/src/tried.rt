@@ -1,13 +1,13 @@
 // What comes of a try.
-use lib_calls::Entry;
+use lib_calls::EntryView;
 
 /// What a try of a thread gave.
 #[derive(Debug, Drop)]
-pub enum Tried {
+pub enum Tried<'a> {
     /// Nothing: the thread waits, or is none that runs.
     Idle,
-    /// The event of this entry.
-    Had(Entry),
+    /// The event of this entry, whose bytes are lent.
+    Had(EntryView<'a>),
     /// An event for which the process's log would have no room. It was not made.
     Full,
 }

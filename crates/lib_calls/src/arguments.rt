@@ -1,11 +1,11 @@
 // The bytes of the guest's memory that a call names.
-ghost use Rattle.std.specs.Prelude.{◌≡◌, ◌+◌, ◌^◌, ◌≤◌, bytes_eq, length, OnOk, IsTrue, []};
+ghost use Rattle.std.specs.Prelude.{◌≡◌, ◌+◌, ◌++◌, ◌^◌, ◌≤◌, bytes_eq, length, OnOk, IsTrue, []};
 ghost use Rattle.guest_memory.specs.Memory.{bytes_from, is_inside as is_inside_of};
 ghost use Rattle.lib_calls.specs.Effects.{is_good, is_range as is_range_of, named, outgoing_of};
 
 use crate::entry::Call;
 use call_table::Kind;
-use fri_bytes::Bytes;
+use fri_bytes::put_bytes;
 use guest_memory::Memory;
 use std::alloc::AllocError;
 
@@ -50,52 +50,71 @@ pub(crate) fn is_inside(memory: &Memory, addr: u64, len: u64) -> bool
     addr <= count && len <= count - addr
 }
 
-/// Copies the bytes that the call sends out of the memory as it is now, in place of those that were there: those that
-/// print and send name, where their arguments are good, and none else.
+/// How many bytes the call sends out of the memory as it is now.
 #[tactic(auto, unfolding(crate::specs::Effects::outgoing_of))]
 #[inline(always)]
-pub fn copy_outgoing(bytes: &mut Bytes, call: &Call, memory: &Memory) -> Result<(), AllocError>
-    ensures { OnOk result (bytes.new ≡ outgoing_of call.now memory.now) }
+pub fn outgoing_length(call: &Call, memory: &Memory) -> u32
+    ensures { result ≡ length (outgoing_of call.now memory.now) }
 {
     match call.kind {
-        Kind::Print => copy_named(bytes, memory, call.a0, call.a1),
-        Kind::Send => copy_named(bytes, memory, call.a1, call.a2),
-        _ => {
-            bytes.clear();
-            Ok(())
-        }
+        Kind::Print => named_length(memory, call.a0, call.a1),
+        Kind::Send => named_length(memory, call.a1, call.a2),
+        _ => 0,
     }
 }
 
-// Copies a range that a call may name, and nothing where it may not.
-fn copy_named(bytes: &mut Bytes, memory: &Memory, addr: u64, len: u64) -> Result<(), AllocError>
-    ensures { OnOk result (bytes.new ≡ named memory.now addr len) }
+// How many bytes a range has that a call may name, and none where it may not.
+fn named_length(memory: &Memory, addr: u64, len: u64) -> u32
+    ensures { result ≡ length (named memory.now addr len) }
+{
+    if is_range(memory, addr, len) {
+        len as u32
+    } else {
+        0
+    }
+}
+
+/// Adds the bytes that the call sends out of the memory as it is now: those that print and send name, where their
+/// arguments are good, and none else.
+#[tactic(auto, unfolding(crate::specs::Effects::outgoing_of))]
+#[inline(always)]
+pub fn push_outgoing(out: &mut Vec<u8>, call: &Call, memory: &Memory) -> Result<(), AllocError>
+    ensures { OnOk result (out.new.items ≡ out.old.items ++ outgoing_of call.now memory.now) }
+{
+    match call.kind {
+        Kind::Print => push_named(out, memory, call.a0, call.a1),
+        Kind::Send => push_named(out, memory, call.a1, call.a2),
+        _ => Ok(()),
+    }
+}
+
+// Adds a range that a call may name, and nothing where it may not.
+fn push_named(out: &mut Vec<u8>, memory: &Memory, addr: u64, len: u64) -> Result<(), AllocError>
+    ensures { OnOk result (out.new.items ≡ out.old.items ++ named memory.now addr len) }
 {
     if !is_range(memory, addr, len) {
-        bytes.clear();
         return Ok(());
     }
-    copy_range(bytes, memory, addr, len)
+    push_range(out, memory, addr, len)
 }
 
-// Copies a range of the memory, which lends it in parts, in place of the bytes that were there.
-pub(crate) fn copy_range(
-    bytes: &mut Bytes,
+// Adds a range of the memory, which lends it in parts.
+pub(crate) fn push_range(
+    out: &mut Vec<u8>,
     memory: &Memory,
     addr: u64,
     len: u64,
 ) -> Result<(), AllocError>
     requires inside { addr + len ≤ length memory.now.bytes }
     requires small { addr + len ≤ 2 ^ 24 }
-    ensures { OnOk result (bytes.new ≡ bytes_from memory.now addr len) }
+    ensures { OnOk result (out.new.items ≡ out.old.items ++ bytes_from memory.now addr len) }
 {
-    bytes.clear();
     let mut count = 0;
     while count < len {
         let Some(part) = memory.lent(addr + count, len - count) else {
             unreachable!();
         };
-        bytes.push_all(part)?;
+        put_bytes(out, part)?;
         count += part.len() as u64;
     }
     Ok(())

@@ -2,7 +2,7 @@
 ghost use Rattle.std.specs.Prelude.{◌≡◌, ◌+◌, ◌≤◌, ◌^◌, length, IfOk, Some, None, if◌then◌else◌};
 ghost use Rattle.guest_memory.specs.Memory.{bytes_from, is_inside as is_inside_of};
 
-use crate::arguments::{MEMORY_PAGE, copy_range, is_inside};
+use crate::arguments::{MEMORY_PAGE, is_inside, push_range};
 use fri_bytes::Bytes;
 use guest_memory::Memory;
 use std::alloc::{AllocError, Global};
@@ -36,7 +36,7 @@ fn read(alloc: Global, memory: &Memory, addr: u64, len: u64) -> Result<Bytes, Al
     requires small { addr + len ≤ 2 ^ 24 }
     ensures { IfOk result (λ bytes. bytes ≡ bytes_from memory.now addr len) }
 {
-    let mut bytes = Bytes::new(alloc);
-    copy_range(&mut bytes, memory, addr, len)?;
-    Ok(bytes)
+    let mut bytes = Vec::new(alloc);
+    push_range(&mut bytes, memory, addr, len)?;
+    Ok(Bytes::from_vec(bytes))
 }

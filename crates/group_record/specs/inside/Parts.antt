@@ -1,6 +1,7 @@
 -- What a live group is made of, and what holds of it even where memory ran out.
 use Rattle.std.specs.Prelude.{◌≡◌, ℕ, ◌+◌, ◌<◌, ◌≤◌, List, [], length, map, replicate, Some, slice_get, slice_set}
 use Rattle.lib_calls.specs.declared.entry.Entry.{Entry}
+use Rattle.lib_calls.specs.Entry.{entry_of}
 use Rattle.lib_calls.specs.Traffic.{printed}
 use Rattle.call_log.specs.Limits.{most_log}
 use Rattle.guest_process.specs.Next.{next}
@@ -50,17 +51,17 @@ pub record CountsEvent (m : Member) (e : Entry) : Type 0 where
   pub events : (next state e).events ≡ state.events + 1
   pub count_is : (next state e).count ≡ state.count
 
--- a member can make the event of an entry that is spelled so, and the log has room for it
-pub record CanMakeEvent (m : Member) (e : Entry) (bytes : List ℕ) : Type 0 where
+-- a member can make the event of an entry that takes so many bytes, and the log has room for it
+pub record CanMakeEvent (m : Member) (e : Entry) (size : ℕ) : Type 0 where
   pub keeps : CanKeepEntry m e
   pub counts : CountsEvent m e
-  pub spelled : bytes ≡ spelled_entry m e
+  pub spelled : size ≡ length (spelled_entry m e)
   pub fits : LogHasRoom m (spelled_entry m e)
 
 -- an entry was taken whose log had room for it, or had none, and then nothing changed
 abbrev pub TakesEntry : Parts → ℕ → Member → Entry → Tried → Parts → Type 0
 TakesEntry old p m e tried.Idle new = ⊥
-TakesEntry old p m e (tried.Had entry) new = (entry ≡ e) × LogHasRoom m (spelled_entry m e) × MadeEvent old p m e new
+TakesEntry old p m e (tried.Had entry) new = (entry_of entry ≡ e) × LogHasRoom m (spelled_entry m e) × MadeEvent old p m e new
 TakesEntry old p m e tried.Full new = (most_log < m.size + length (spelled_entry m e)) × (live_parts new ≡ live_parts old)
 
 -- nothing has happened around these members, and nothing is printed

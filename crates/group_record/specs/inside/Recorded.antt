@@ -1,11 +1,16 @@
 -- What a recorder has done so far, and what it says of what it does next.
-use Rattle.std.specs.Prelude.{◌≡◌, ◌≢◌, ℕ, ◌+◌, ◌++◌, ◌<◌, ◌≤◌, ◌^◌, [], ⊤, Bool, true, false, ◌&&◌, not, is_some, option_and_then, if◌then◌else◌, IsTrue, AllPairs, List, length, map, Option, Some, None, Result, Ok, Err, slice_get, slice_set}
+use Rattle.std.specs.Prelude.{◌≡◌, ◌≢◌, ℕ, ◌+◌, ◌++◌, ◌<◌, ◌≤◌, ◌^◌, [], ⊤, Bool, true, false, ◌&&◌, not, is_some, option_and_then, if◌then◌else◌, IsTrue, AllPairs, List, drop, length, map, Option, Some, None, Result, Ok, Err, slice_get, slice_set}
 use Rattle.std.specs.List.{slice_index_or}
 use Rattle.fri_outside.specs.Outside.{Folder}
 use Rattle.fri_outside.specs.Several.{AreFirstMade, with_files}
 use Rattle.lib_calls.specs.declared.entry.Entry.{Entry}
 use Rattle.lib_calls.specs.Traffic.{drawn, is_taken, printed, prints}
-use Rattle.lib_calls.specs.Entry.{IsShaped}
+use Rattle.lib_calls.specs.declared.entry.EntryView.{EntryView}
+use Rattle.lib_calls.specs.Effects.{outgoing_of}
+use Rattle.lib_calls.specs.Entry.{IsShaped, entry_of}
+use Rattle.call_log.specs.declared.version.Version.TheVariants.{Two}
+use Rattle.call_log.specs.Entry.{encoding}
+use Rattle.call_log.specs.Spelling.{with_outgoing}
 use Rattle.schedule_text.specs.declared.process.ProcessLine.{ProcessLine}
 use Rattle.guest_process.specs.Live.{Env, Event, live}
 use Rattle.guest_process.specs.OneEvent.{AgreesWithEvent as IsTold}
@@ -64,6 +69,16 @@ pub record IsLiveEntry (S : State) (thread : ℕ) (env : Env) (entry : Entry) : 
 abbrev pub IsEntryOf : State → ℕ → Env → Option Entry → Type 0
 IsEntryOf S thread env None = live S thread env ≡ None
 IsEntryOf S thread env (Some entry) = IsLiveEntry S thread env entry
+
+-- an event of a process with the bytes that it sends out of the memory
+abbrev pub event_entry : State → EntryView → Entry
+event_entry S event = with_outgoing (entry_of event) (outgoing_of event.call S.store.memory)
+
+-- the bytes are those of an entry after one with the clock `last`, and what it sends out begins there
+pub record IsSpelledEvent (last : ℕ) (e : Entry) (start : ℕ) (bytes : List ℕ) : Type 0 where
+  pub spelled : bytes ≡ encoding Two last e
+  pub inside : start ≤ length bytes
+  pub sent : drop start bytes ≡ e.outgoing
 
 -- what is kept of the prints, where process p printed this more
 abbrev pub with_print : List (List ℕ) → ℕ → List ℕ → List (List ℕ)

@@ -1,4 +1,4 @@
-use Rattle.std.proofs.Common.{◌≡◌, ◌∙◌, length, ap, arith}
+use Rattle.std.proofs.Common.{◌≡◌, ◌∙◌, ap}
 use Rattle.std.specs.Prelude.{slice_set}
 use Rattle.lib_calls.specs.Entry.{entry_of}
 use Rattle.group_record.specs.declared.member.Member.{Member}
@@ -10,7 +10,7 @@ pub make_event-requires : goal.make_event-requires
 make_event-requires c =
     let m = c.index_mut.result.now in
     let can = c.requires.event m (at_place c.args.self.now.members.items c.args.p m c.requires.process c.index_mut.ensures.value) in
-    record { event = can.keeps; size = omega (arith, c.len.ensures, ap length can.spelled); room = can.fits }
+    record { event = can.keeps; size = can.spelled; room = can.fits }
 
 pub returns-clause-made : goal.returns-clause-made
 returns-clause-made c = λ m at.

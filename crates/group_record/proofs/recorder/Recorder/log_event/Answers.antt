@@ -1,13 +1,9 @@
-use Rattle.std.proofs.Common.{◌≡◌, ◌∙◌, inr, ap, refl, sym, subst}
+use Rattle.std.proofs.Common.{◌≡◌, ◌∙◌, inr, ap, refl}
 use Rattle.std.specs.Prelude.{slice_set}
 use Rattle.std.proofs.lemmas.Result.{err_from_is_err_and}
-use Rattle.lib_calls.specs.declared.entry.Entry.{Entry}
-use Rattle.group_record.specs.inside.Members.{CanKeepEntry, member_after}
-use Rattle.group_record.specs.declared.member.Member.{Member}
-use Rattle.group_world.specs.World.{after_event}
 use Rattle.lib_calls.specs.Entry.{entry_of}
-use Rattle.lib_calls.specs.Traffic.{printed}
-use Rattle.group_record.specs.inside.Recorded.{with_print}
+use Rattle.group_record.specs.inside.Members.{member_after}
+use Rattle.group_record.specs.declared.member.Member.{Member}
 use Rattle.group_record.proofs.RecorderSteps.{stops_of, written_of}
 use Rattle.group_record.proofs.SharedLemmas.{at_place, only_one}
 use Rattle.group_record.proofs.recorder.Recorder.log_event.Goals as goal
@@ -15,33 +11,38 @@ use Rattle.group_record.proofs.recorder.Recorder.log_event.Goals as goal
 pub log_event-requires-clause-event : goal.log_event-requires-clause-event
 log_event-requires-clause-event g c =
     let m = c.index_mut.result.now in
-    subst (λ (e : Entry). CanKeepEntry m e) (sym c.view-entry.ensures) (c.requires.event m (at_place c.args.self.now.members.items c.args.p m c.requires.process c.index_mut.ensures.value))
+    c.requires.event m (at_place c.args.self.now.members.items c.args.p m c.requires.process c.index_mut.ensures.value)
+
+pub log_event-requires-clause-spelled : goal.log_event-requires-clause-spelled
+log_event-requires-clause-spelled g c =
+    let m = c.index_mut.result.now in
+    c.requires.spelled m (at_place c.args.self.now.members.items c.args.p m c.requires.process c.index_mut.ensures.value)
 
 pub returns-in_err-log_event-clause-writes : goal.returns-in_err-log_event-clause-writes
 returns-in_err-log_event-clause-writes g c = λ m at.
     let p = err_from_is_err_and c.from_residual.result c.from_residual.ensures.1 in
     let same = only_one c.args.self.now.members.items c.args.p c.index_mut.result.now m c.requires.process c.index_mut.ensures.value at in
-    rw (p.1, p.2) (stops_of c.index_mut.result.now m c.args.number (entry_of c.view-entry.result) c.args.entry.now c.in_err-log_event.field-0.0 (g.F.Files.told c.args.files.now) (g.F.Files.told c.log_event.new.files) same c.view-entry.ensures c.in_err-log_event.ensures.writes)
+    rw (p.1, p.2) (stops_of c.index_mut.result.now m c.args.number (entry_of c.args.entry.now) (entry_of c.args.entry.now) c.in_err-log_event.field-0.0 (g.F.Files.told c.args.files.now) (g.F.Files.told c.log_event.new.files) same refl c.in_err-log_event.ensures.writes)
 
 pub returns-in_err-take_event-clause-writes : goal.returns-in_err-take_event-clause-writes
 returns-in_err-take_event-clause-writes g c = λ m at.
     let p = err_from_is_err_and c.from_residual-in_err-take_event.result c.from_residual-in_err-take_event.ensures.1 in
     let same = only_one c.args.self.now.members.items c.args.p c.index_mut.result.now m c.requires.process c.index_mut.ensures.value at in
-    rw (p.1, p.2) (inr (written_of c.index_mut.result.now m (entry_of c.view-entry.result) c.args.entry.now (g.F.Files.told c.args.files.now) (g.F.Files.told c.log_event.new.files) same c.view-entry.ensures c.in_ok-log_event.ensures.writes))
+    rw (p.1, p.2) (inr (written_of c.index_mut.result.now m (entry_of c.args.entry.now) (entry_of c.args.entry.now) (g.F.Files.told c.args.files.now) (g.F.Files.told c.log_event.new.files) same refl c.in_ok-log_event.ensures.writes))
 
 pub returns-clause-writes : goal.returns-clause-writes
 returns-clause-writes g c = λ m at.
     let same = only_one c.args.self.now.members.items c.args.p c.index_mut.result.now m c.requires.process c.index_mut.ensures.value at in
-    written_of c.index_mut.result.now m (entry_of c.view-entry.result) c.args.entry.now (g.F.Files.told c.args.files.now) (g.F.Files.told c.log_event.new.files) same c.view-entry.ensures c.in_ok-log_event.ensures.writes
+    written_of c.index_mut.result.now m (entry_of c.args.entry.now) (entry_of c.args.entry.now) (g.F.Files.told c.args.files.now) (g.F.Files.told c.log_event.new.files) same refl c.in_ok-log_event.ensures.writes
 
 pub returns-clause-ok : goal.returns-clause-ok
 returns-clause-ok g c = λ m at.
     let same = only_one c.args.self.now.members.items c.args.p c.index_mut.result.now m c.requires.process c.index_mut.ensures.value at in
-    let made : c.log_event.new.self ≡ member_after m c.args.entry.now = c.in_ok-log_event.ensures.ok ∙ ap (λ (m : Member). member_after m (entry_of c.view-entry.result)) same ∙ ap (member_after m) c.view-entry.ensures in
+    let made : c.log_event.new.self ≡ member_after m (entry_of c.args.entry.now) = c.in_ok-log_event.ensures.ok ∙ ap (λ (m : Member). member_after m (entry_of c.args.entry.now)) same in
     record {
       members = ap (λ (x : Member). slice_set c.args.self.now.members.items c.args.p x) made;
-      world = c.in_ok-take_event.ensures.ok ∙ ap (after_event c.args.self.now.world c.args.p) c.view-entry.ensures;
-      prints = c.in_ok-add.ensures ∙ ap (λ (e : Entry). with_print c.args.self.now.prints c.args.p (printed e)) c.view-entry.ensures;
+      world = c.in_ok-take_event.ensures.ok;
+      prints = c.in_ok-add.ensures;
       acted = refl;
       idle = refl;
     }
