@@ -3,6 +3,7 @@ use Rattle.std.proofs.Common.{◌≡◌, ◌∙◌, ℕ, ◌+◌, ◌<◌, Bool,
 use Rattle.std.proofs.lemmas.List.{get_or_default}
 use Rattle.std.specs.Prelude.{codes, is_some, ◌++◌}
 use Rattle.lib_calls.specs.declared.entry.Entry.{Entry}
+use Rattle.lib_calls.specs.Entry.{entry_of}
 use Rattle.schedule_text.specs.declared.item.Item.{Item}
 use Rattle.guest_process.specs.Live.{Event}
 use Rattle.group_record.specs.Live.{ActsAfter, LiveParts, TriesAfter}
@@ -31,7 +32,7 @@ attempt_by group number p thread before o room at =
 -- what is told after a try of a process with this name
 abbrev pub told_after : Tried → List ℕ → Told → Told
 told_after tried.Idle name told = record told { idle = told.idle + 1 }
-told_after (tried.Had entry) name told = told_event told name entry
+told_after (tried.Had entry) name told = told_event told name (entry_of entry)
 told_after tried.Full name told = told
 
 abbrev pub is_full_try : Tried → Bool
@@ -51,14 +52,14 @@ attempt_goes group number p thread before live told name tried.Idle room named (
       ap (λ (o : Option ℕ). is_some o) room,
     )
 attempt_goes group number p thread before live told name (tried.Had entry) room named (e, at, fits, same, stands) =
-    subst (WentOnTo group before live told (told_event told name entry) false)
+    subst (WentOnTo group before live told (told_event told name (entry_of entry)) false)
     (sym (attempt_by group number p thread before (Some e) room at ∙ ap (λ (b : Bool). cond b (with_step (Had p e) before) (with_full_log number before)) fits)) (
       record {
         made = Had p e ∷ [];
         steps = refl;
         stands = stands;
         tells = refl;
-        text = ap (λ (name : List ℕ). told.text ++ told_if told.tells (named_event_text name entry ++ codes "\n")) named
+        text = ap (λ (name : List ℕ). told.text ++ told_if told.tells (named_event_text name (entry_of entry) ++ codes "\n")) named
             ∙ ap (λ (entry : Entry). told.text ++ told_if told.tells (named_event_text (name_of_process group p) entry ++ codes "\n")) same;
         acted = refl;
         idle = refl;

@@ -12,13 +12,14 @@ use group_record::{LiveGroup, Tried};
 use schedule_text::Item;
 use std::alloc::AllocError;
 
-// One try of a thread of process `p`. True comes where its log had no room for the event.
+// One try of a thread of process `p`, whose event is spelled in `bytes`. True comes where its log had no room for the event.
 fn attempt_once(
     live: &mut LiveGroup<'_>,
     names: &[Bytes],
     p: u32,
     thread: u16,
     told: &mut Told,
+    bytes: &mut Vec<u8>,
 ) -> Result<bool, AllocError>
     requires under_way { IsUnderWay names.now live.old }
     requires process { p < length names.now }
@@ -27,13 +28,13 @@ fn attempt_once(
     ensures counted { OnOk result (counted_of told.new ≤ counted_of told.old + 1) }
 {
     group_record::laws::live_groups();
-    match live.attempt(p, thread)? {
+    match live.attempt(p, thread, bytes)? {
         Tried::Idle => {
             told.idle += 1;
             Ok(false)
         }
         Tried::Had(entry) => {
-            told.event(names[p as usize].as_slice(), &entry.view())?;
+            told.event(names[p as usize].as_slice(), &entry)?;
             Ok(false)
         }
         Tried::Full => Ok(true),
@@ -48,6 +49,7 @@ fn attempt_all(
     thread: u16,
     times: u32,
     told: &mut Told,
+    bytes: &mut Vec<u8>,
 ) -> Result<bool, AllocError>
     requires under_way { IsUnderWay names.now live.old }
     requires process { p < length names.now }
@@ -56,7 +58,7 @@ fn attempt_all(
     ensures counted { OnOk result (counted_of told.new ≤ counted_of told.old + times) }
 {
     for _ in 0..times {
-        if attempt_once(live, names, p, thread, told)? {
+        if attempt_once(live, names, p, thread, told, bytes)? {
             return Ok(true);
         }
     }
@@ -92,6 +94,7 @@ pub(crate) fn perform(
     names: &[Bytes],
     item: &Item,
     told: &mut Told,
+    bytes: &mut Vec<u8>,
 ) -> Result<bool, AllocError>
     requires under_way { IsUnderWay names.now live.old }
     requires in_range { IsInRange (length names.now) item.now }
@@ -104,7 +107,7 @@ pub(crate) fn perform(
             process,
             thread,
             times,
-        } => attempt_all(live, names, *process, *thread, *times, told),
+        } => attempt_all(live, names, *process, *thread, *times, told, bytes),
         _ => {
             act(live, names, item, told)?;
             Ok(false)
@@ -118,6 +121,7 @@ pub(crate) fn perform_all(
     names: &[Bytes],
     items: &[Item],
     told: &mut Told,
+    bytes: &mut Vec<u8>,
 ) -> Result<Option<u64>, AllocError>
     requires under_way { IsUnderWay names.now live.old }
     requires in_range { All (IsInRange (length names.now)) items.now }
@@ -127,7 +131,7 @@ pub(crate) fn perform_all(
     let mut number = 0;
     for item in items {
         number += 1;
-        if perform(live, names, item, told)? {
+        if perform(live, names, item, told, bytes)? {
             return Ok(Some(number));
         }
     }

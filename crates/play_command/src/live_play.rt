@@ -16,6 +16,8 @@ pub(crate) struct Play<'m> {
     pub(crate) schedule: &'m Schedule,
     pub(crate) modules: &'m [SharedModule],
     pub(crate) names: Vec<Bytes>,
+    /// The entry of the event that was made last.
+    pub(crate) bytes: Vec<u8>,
     pub(crate) live: LiveGroup<'m>,
     pub(crate) tries: u64,
     pub(crate) full: bool,

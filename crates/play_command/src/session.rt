@@ -43,7 +43,9 @@ impl<'m> Playing<'m> {
         let names = copied_names(alloc, schedule)?;
         let mut live = LiveGroup::begin(alloc, schedule, modules)?;
         let mut told = Told::new(alloc, false);
-        if let Some(item) = perform_all(&mut live, &names, schedule.items(), &mut told)? {
+        let mut bytes = Vec::new(alloc);
+        let items = schedule.items();
+        if let Some(item) = perform_all(&mut live, &names, items, &mut told, &mut bytes)? {
             return Err(RecordError::LogFull(item));
         }
         let mut text = Text::new(alloc);
@@ -52,8 +54,9 @@ impl<'m> Playing<'m> {
             schedule,
             modules,
             names,
+            bytes,
             live,
-            tries: tries_of(schedule.items()),
+            tries: tries_of(items),
             full: false,
             told,
             usual: None,
@@ -196,7 +199,13 @@ impl<'m> Play<'m> {
         ensures playing { OnOk result (IsPlaying self.new.schedule.now (map module_of self.new.modules.now) self.new.names.items self.new.live self.new.tries) }
     {
         self.told.restart();
-        let full = perform(&mut self.live, &self.names, item, &mut self.told)?;
+        let full = perform(
+            &mut self.live,
+            &self.names,
+            item,
+            &mut self.told,
+            &mut self.bytes,
+        )?;
         let name = self.names[process_of_item(item) as usize].as_slice();
         let usual = end(&mut self.told, full, name)?;
         self.tries = tries;

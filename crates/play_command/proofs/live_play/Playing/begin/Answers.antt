@@ -34,7 +34,7 @@ invariant_of-result c =
     record {
       playing = subst (λ (play : Play). IsPlaying play.schedule.now (map module_of play.modules.now) play.names.items play.live play.tries) (sym c.in_ok-play.ensures.ok)
           (is_playing schedule modules c.in_ok-names.names.items c.perform_all.new.live c.perform_all.new.told c.tries_of.result c.items.ensures.in_range (length-map c.args.modules.now module_of ∙ c.requires) c.in_ok-names.ensures
-          (c.tries_of.ensures ∙ ap run_count c.items-2.ensures.value) done);
+          (c.tries_of.ensures ∙ ap run_count c.items.ensures.value) done);
     }
 
 pub returns : goal.returns
@@ -49,6 +49,6 @@ returns c =
       done.first,
       done.is_begun,
       subst (λ (play : Play). OpensWith schedule modules done.first play text) (sym c.in_ok-play.ensures.ok)
-          (opens schedule modules _ told text done refl c.in_ok-names.ensures refl (c.tries_of.ensures ∙ ap run_count c.items-2.ensures.value) refl
+          (opens schedule modules _ told text done refl c.in_ok-names.ensures refl (c.tries_of.ensures ∙ ap run_count c.items.ensures.value) refl
           (c.in_ok-push_items_line.ensures ∙ ap (λ (t : List ℕ). t ++ items_line told.acted told.idle) c.new-text.ensures)),
     )
