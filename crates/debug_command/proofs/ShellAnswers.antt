@@ -8,7 +8,7 @@ use Rattle.conversation.specs.Talker.{AnswersSo}
 use Rattle.debug_command.specs.Session.{shell_answer}
 
 here : (state : SessionState) (line : List ℕ) (new : SessionState) (text : List ℕ) (goes : Go) → IsLineAnswer (answer state line) new text goes → AnswersSo (shell_answer state line) (λ after. new ≡ after) text goes
-here state line new text goes said = record { text_is = said.text; stands_in = said.state; quits_is = said.quits }
+here state line new text goes said = record { text_is = said.text_is; stands_in = said.state; quits_is = said.quits }
 
 pub shell_answers : (old : SessionState) (line : List ℕ) (new : SessionState) (text : List ℕ) (goes : Go) → IsLineAnswer (answer old line) new text goes
     → (state : SessionState) → old ≡ state → AnswersSo (shell_answer state line) (λ after. new ≡ after) text goes
