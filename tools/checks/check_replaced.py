@@ -24,7 +24,7 @@ from tools_path import TOP  # before the modules of the tools, which it lets be 
 from asking.program import program_of
 from logs.format import read_log, spelled
 
-GUESTS = os.path.join(TOP, "crates", "real_cases", "data")
+GUESTS = os.path.join(TOP, "crates", "friday_cases", "data")
 PAIRS = "ping.wasm ping.log pong.wasm pong.log"
 OLD = b"an older file\n" * 1000
 

@@ -1,4 +1,5 @@
-//! Plays a script of cases over files in memory, and prints what came of each command as a transcript.
+//! Plays a script of cases over files in memory, and then commands over the files of the folder, and prints what came of each
+//! command as a transcript.
 //!
 //! A script is text in lines. A line without words, and one whose first byte is `#`, is passed over. NAME has no
 //! blanks. BYTES are pieces between blanks, put together: hexadecimal digits, `N*DIGITS` for N times the same, `=NAME`
@@ -36,8 +37,10 @@ mod bytes;
 mod order;
 mod outcome;
 mod play;
+mod real;
 
 use play::Session;
+use real::play_real_files;
 use std::alloc::Global;
 use std::io::{self, BufRead, BufReader, BufWriter, Write};
 
@@ -71,5 +74,6 @@ fn main(rt: HostRuntime) -> io::Result<()> {
     let script = BufReader::new(alloc, rt.reader())?;
     let mut out = BufWriter::new(alloc, io::writer(&rt))?;
     play_script(alloc, script, &mut out)?;
-    out.flush()
+    out.flush()?;
+    play_real_files(&rt)
 }

@@ -4,7 +4,8 @@ file and the guests in ../guests. It needs wat2wasm of the package wabt.
 
 make.py [--check]   (with --check nothing is written: it says where the files are not what the tables make)
 
-What the program is to print is put together here from the rules of docs/formats.md, and never from its output."""
+What the program is to print is put together here from the rules of docs/formats.md, and never from its output. What it prints
+of real files (src/real.rt) is written out in real.txt."""
 
 import os
 import sys
@@ -44,6 +45,8 @@ def main(words):
     script = Script()
     for part in PARTS:
         part.table(script)
+    with open(os.path.join(HERE, "real.txt"), encoding="utf-8") as file:
+        script.told += file.read().splitlines()
     drifted = False
     for name, lines in (("stdin", script.lines), ("stdout", script.told)):
         path = os.path.join(HERE, "..", name)

@@ -1,4 +1,4 @@
-// Each object of the outside through its trait, with a call that fails. `real_cases` tries what commands do with real files.
+// Each object of the outside through its trait, with a call that fails. `friday_cases` tries what commands do with real files.
 use fri_outside::{
     Console, FileError, Files, MemFiles, MemSink, MemSource, MemTerminal, ReaderSource, RealFiles,
     Sink, Source, Terminal, WriteError, WriterSink, write_whole,

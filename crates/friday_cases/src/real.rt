@@ -1,10 +1,9 @@
-//! Plays commands over the files and streams of the runtime, in the folder that it is run in, and prints what came of each:
-//! the words, what the call printed, its status, and the files that it made.
-//!
-//! Its stored run is how the adapters of `fri_outside` over the runtime are tested: a recording that lies on a disk, files
-//! that are absent, too large or no files, files that are replaced, and a device that takes no byte. They tell nothing of
-//! what they hold, so no clause here says what is printed.
-#![tactic(auto)]
+// Commands over the files and streams of the runtime, in the folder that the program is run in, with the words, what the call
+// printed, its status, and the files that it made.
+//
+// This tests the adapters of `fri_outside` over the runtime: a recording that lies on a disk, files that are absent, too large
+// or no files, files that are replaced, and a device that takes no byte. They tell nothing of what they hold, so no clause here
+// says what is printed.
 
 use fri_outside::{Console, ReaderSource, RealFiles, WriterSink};
 use friday_app::{Status, friday};
@@ -164,11 +163,11 @@ fn fill<R: Files + Print + AllocGlobal>(rt: &R) -> io::Result<()> {
     fs::remove_file(rt, "pong.log")
 }
 
-fn main(rt: HostRuntime) -> io::Result<()> {
-    record_and_replay(&rt)?;
-    play_on(&rt)?;
-    refuse(&rt)?;
-    rewrite(&rt)?;
-    stay(&rt)?;
-    fill(&rt)
+pub fn play_real_files<R: Files + Print + AllocGlobal>(rt: &R) -> io::Result<()> {
+    record_and_replay(rt)?;
+    play_on(rt)?;
+    refuse(rt)?;
+    rewrite(rt)?;
+    stay(rt)?;
+    fill(rt)
 }
