@@ -14,7 +14,7 @@ use thiserror::Error;
 pub(crate) const MAGIC: &[u8] = b"LLOG";
 
 /// The head of a log: the version of its format, the number of processes in the group, the process's number and its name.
-#[derive(Clone, Copy, Debug, PartialEq, Eq)]
+#[derive(Clone, Copy)]
 pub struct LogHead<'a> {
     pub version: Version,
     pub count: u32,
@@ -23,7 +23,7 @@ pub struct LogHead<'a> {
 }
 
 /// The bytes do not begin with the head of a log.
-#[derive(Clone, Copy, Debug, PartialEq, Eq, Error)]
+#[derive(Clone, Copy, Debug, Error)]
 #[error("the bytes do not begin with the head of a log")]
 pub struct BadHead;
 

@@ -12,7 +12,7 @@ use std::marker::Model;
 const NAME_START: usize = 17;
 
 /// A log that keeps its bytes, with its head found in them.
-#[derive(Debug, Drop)]
+#[derive(Drop)]
 pub struct LogBuf {
     bytes: Vec<u8>,
     version: Version,

@@ -5,7 +5,7 @@ ghost use Rattle.call_log.specs.Version.{version_number, version_numbered};
 /// A version of the format. It says how the numbers of the entries are spelled, and nothing else: in
 /// version 1 in as many bytes as the field is wide, in version 2 in as few as possible, and the clock by
 /// what it is above that of the entry before.
-#[derive(Clone, Copy, Debug, PartialEq, Eq)]
+#[derive(Clone, Copy)]
 pub enum Version {
     One,
     Two,

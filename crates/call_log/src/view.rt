@@ -13,7 +13,7 @@ use lib_calls::EntryView;
 use std::marker::Model;
 
 /// A log that is read from its front.
-#[derive(Debug, Drop)]
+#[derive(Drop)]
 pub struct LogView<'a> {
     head: LogHead<'a>,
     // The clock of the entry that was read last.

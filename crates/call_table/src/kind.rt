@@ -5,7 +5,7 @@ ghost use Rattle.call_table.specs.Table.{kind_named, kind_numbered, row};
 use crate::signature::Signature;
 
 /// The kind of a call. `Begin` is what a thread waits for before it runs: a guest can't import it.
-#[derive(Clone, Copy, Debug, PartialEq, Eq, Drop)]
+#[derive(Clone, Copy, Drop)]
 pub enum Kind {
     Begin,
     Exit,

@@ -2,7 +2,7 @@
 
 /// A call's parameters and result. All parameters are i32 but where `wide_param` says that the one
 /// parameter is i64.
-#[derive(Clone, Copy, Debug, PartialEq, Eq, Drop)]
+#[derive(Clone, Copy, Drop)]
 pub struct Signature {
     /// How many parameters the call has.
     pub params: u8,

@@ -5,7 +5,7 @@ ghost use Rattle.causal_cut.specs.declared.refusal.CutError.TheVariants as error
 use std::alloc::AllocError;
 
 /// Why there is no cut.
-#[derive(Clone, Copy, Debug, PartialEq, Eq)]
+#[derive(Clone, Copy)]
 pub enum CutError {
     /// The node has fewer accepted events.
     NoEvent,

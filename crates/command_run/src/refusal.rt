@@ -8,7 +8,7 @@ use fri_text::Text;
 use std::alloc::{AllocError, AllocFailed, Global};
 
 /// Why a file is refused.
-#[derive(Clone, Copy, Debug, PartialEq, Eq)]
+#[derive(Clone, Copy)]
 pub enum Reason {
     TooLarge,
     BadLine(u64),

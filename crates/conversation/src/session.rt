@@ -5,7 +5,7 @@ ghost use Rattle.conversation.specs.Talker.{Answered, AnswersSo};
 use std::alloc::{AllocError, Global};
 
 /// Whether a session goes on.
-#[derive(Clone, Copy, Debug, PartialEq, Eq)]
+#[derive(Clone, Copy)]
 pub enum Go {
     On,
     Quit,

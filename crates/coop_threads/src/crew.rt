@@ -20,7 +20,7 @@ use std::mem;
 pub const MOST_THREADS: u16 = 64;
 
 /// The threads of a process, which are numbered from 0, and the locks that they hold.
-#[derive(Debug, Drop)]
+#[derive(Drop)]
 pub struct Crew<T> {
     threads: Vec<Slot<T>>,
     locks: Locks,

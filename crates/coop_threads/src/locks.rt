@@ -10,7 +10,7 @@ use std::collections::BTreeMap;
 use std::marker::Model;
 
 // The thread that holds each lock that is held, by their numbers.
-#[derive(Debug, Drop)]
+#[derive(Drop)]
 pub(crate) struct Locks {
     holders: BTreeMap<u32, u16>,
 }

@@ -7,7 +7,7 @@ use crate::status::Status;
 use std::alloc::AllocError;
 
 // A thread whose value is kept here, one whose value was lent out, or one that is over.
-#[derive(Debug, Drop)]
+#[derive(Drop)]
 pub(crate) enum Slot<T> {
     Kept(T),
     Lent,

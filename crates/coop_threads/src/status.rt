@@ -2,7 +2,7 @@
 
 /// How a thread stands: no thread of the number was made, the crew has its value, its value was taken
 /// out, or it has ended.
-#[derive(Clone, Copy, Debug, PartialEq, Eq)]
+#[derive(Clone, Copy)]
 pub enum Status {
     Unknown,
     Live,

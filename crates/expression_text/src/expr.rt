@@ -5,7 +5,7 @@ use std::alloc::{AllocError, Global};
 
 /// The node that a place belongs to: by its number, or none where no node has the name that was given; the node that
 /// an aggregate stands at; or the node of the event that led to the position.
-#[derive(Clone, Copy, Debug, PartialEq, Eq)]
+#[derive(Clone, Copy)]
 pub enum NodeName {
     Named(Option<u32>),
     Each,
@@ -13,14 +13,14 @@ pub enum NodeName {
 }
 
 /// An operator with one operand.
-#[derive(Clone, Copy, Debug, PartialEq, Eq)]
+#[derive(Clone, Copy)]
 pub enum Unary {
     Minus,
     Not,
 }
 
 /// An operator with two operands.
-#[derive(Clone, Copy, Debug, PartialEq, Eq)]
+#[derive(Clone, Copy)]
 pub enum Binary {
     Or,
     And,
@@ -38,7 +38,7 @@ pub enum Binary {
 }
 
 /// What is made of the values at all nodes.
-#[derive(Clone, Copy, Debug, PartialEq, Eq)]
+#[derive(Clone, Copy)]
 pub enum Agg {
     Sum,
     Min,
@@ -47,7 +47,7 @@ pub enum Agg {
 }
 
 /// How many bits a load reads, and whether they have a sign.
-#[derive(Clone, Copy, Debug, PartialEq, Eq)]
+#[derive(Clone, Copy)]
 pub enum Width {
     U8,
     U16,

@@ -6,7 +6,7 @@ ghost use Rattle.expression_text.specs.Faulty.{has_aggregate, is_nested, is_of_e
 use crate::expr::{Expr, NodeName};
 
 /// What may be wrong with an expression that is of the grammar.
-#[derive(Clone, Copy, Debug, PartialEq, Eq)]
+#[derive(Clone, Copy)]
 pub struct Faults {
     /// An aggregate is in an aggregate.
     pub nested: bool,

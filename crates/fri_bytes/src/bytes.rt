@@ -7,7 +7,7 @@ use std::alloc::{AllocError, Global};
 use std::marker::Model;
 
 /// Bytes that are kept together. Contracts see the list of the bytes and never the spare room.
-#[derive(Debug, Drop)]
+#[derive(Drop)]
 pub struct Bytes {
     vec: Vec<u8>,
 }

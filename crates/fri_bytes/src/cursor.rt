@@ -12,7 +12,7 @@ use std::marker::Model;
 
 /// A place in some bytes, from which they are read. Contracts see the bytes that are left and the
 /// count of those that were taken. A reader that answers None leaves the cursor as it was.
-#[derive(Debug, Drop)]
+#[derive(Drop)]
 pub struct Cursor<'a> {
     rest: &'a [u8],
     at: usize,

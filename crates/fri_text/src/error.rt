@@ -1,7 +1,7 @@
 // Why a word isn't what was asked for.
 
 /// Why a word can't be read.
-#[derive(Clone, Copy, Debug, PartialEq, Eq)]
+#[derive(Clone, Copy)]
 pub enum TextError {
     /// The word isn't a number.
     NotNumber,

@@ -12,7 +12,7 @@ const LINE_ROOM: usize = 64;
 
 /// Text in the making. Contracts see the list of its bytes. Each call adds at the end, and adds nothing
 /// where there is no memory for all of it.
-#[derive(Debug, Drop)]
+#[derive(Drop)]
 pub struct Text {
     bytes: Vec<u8>,
 }

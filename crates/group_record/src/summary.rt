@@ -14,7 +14,7 @@ use std::alloc::{AllocError, Global};
 
 /// How a process is at the end: its name, how many events it had, whether it runs and how it ended,
 /// and whether it was killed.
-#[derive(Debug, PartialEq, Eq, Drop)]
+#[derive(Drop)]
 pub struct SummaryLine {
     pub name: Bytes,
     pub events: u64,
@@ -23,7 +23,7 @@ pub struct SummaryLine {
 }
 
 /// A line for each process, in order of their numbers, and how many tries and items acted and were idle.
-#[derive(Debug, Drop)]
+#[derive(Drop)]
 pub struct Summary {
     pub lines: Vec<SummaryLine>,
     pub acted: u64,

@@ -2,7 +2,7 @@
 use lib_calls::EntryView;
 
 /// What a try of a thread gave.
-#[derive(Debug, Drop)]
+#[derive(Drop)]
 pub enum Tried<'a> {
     /// Nothing: the thread waits, or is none that runs.
     Idle,

@@ -21,7 +21,7 @@ use std::vec::IntoIter;
 
 /// A log that was replayed to its end: the name of its process, how many entries were accepted, how the process
 /// stands after them, and the verdict.
-#[derive(Debug, PartialEq, Eq, Drop)]
+#[derive(Drop)]
 pub struct ReportLine {
     pub name: Bytes,
     pub events: u64,
@@ -32,7 +32,7 @@ pub struct ReportLine {
 /// The logs of a group, in order of their processes' numbers; and of the events that are accepted, how many sent
 /// a datagram into the group, how many took one with a tag, for how many of these the send is not among the
 /// events, and how many took one without a tag.
-#[derive(Debug, Drop)]
+#[derive(Drop)]
 pub struct Report {
     pub lines: Vec<ReportLine>,
     pub sends: u64,

@@ -19,7 +19,7 @@ const MOST_KEPT_LOCALS: usize = 1_048_576;
 
 /// What calls of one of the module's own functions look up: the locals that it declares, how many operands a call takes, and
 /// the type of what it leaves.
-#[derive(Debug, Drop)]
+#[derive(Drop)]
 pub(crate) struct CallRow {
     pub(crate) declared: Declared,
     pub(crate) takes: usize,
@@ -27,7 +27,7 @@ pub(crate) struct CallRow {
 }
 
 /// A module that is valid. Contracts see it as its module.
-#[derive(Debug, Drop)]
+#[derive(Drop)]
 pub struct ValidModule {
     valid: Module,
     // For each import, the kind of its calls.

@@ -2,7 +2,7 @@
 
 /// Why an entry of a log can't be the next event of its process, in the order in which the conditions
 /// are looked at.
-#[derive(Clone, Copy, Debug, PartialEq, Eq, Drop)]
+#[derive(Clone, Copy, Drop)]
 pub enum Divergence {
     /// The process is not running.
     AfterEnd,

@@ -2,7 +2,7 @@
 use wasm_types::Trap;
 
 /// Whether a process runs, and how it ended.
-#[derive(Clone, Copy, Debug, PartialEq, Eq, Drop)]
+#[derive(Clone, Copy, PartialEq, Eq, Drop)]
 pub enum End {
     Running,
     /// All its threads have ended.

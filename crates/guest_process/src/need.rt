@@ -10,7 +10,7 @@ use crate::waiting::Waiting;
 use lib_calls::{Call, Kind, REFUSED, good_arguments};
 
 /// What the answer to a pending call depends on.
-#[derive(Clone, Copy, Debug, PartialEq, Eq, Drop)]
+#[derive(Clone, Copy, Drop)]
 pub enum Need {
     /// Process and call determine the reply.
     Fixed(u64),

@@ -5,7 +5,7 @@ ghost use Rattle.guest_signals.specs.Signals.{handler_of, most_signal, no_handle
 use std::marker::Model;
 
 /// The handlers of the signals 1 to 31: for each one a function, by its number, or none.
-#[derive(Clone, Copy, Debug)]
+#[derive(Clone, Copy)]
 pub struct Handlers {
     functions: [Option<u32>; 32],
 }

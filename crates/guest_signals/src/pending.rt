@@ -5,7 +5,7 @@ ghost use Rattle.guest_signals.specs.Signals.{any_pending, is_pending_in, most_s
 use std::marker::Model;
 
 /// A set of signals, from 1 to 31. Whether there is any in it is kept with them, since it is asked at each event.
-#[derive(Clone, Copy, Debug)]
+#[derive(Clone, Copy)]
 pub struct Pending {
     signals: [bool; 32],
     any: bool,

@@ -26,7 +26,7 @@ pub const MOST_PROCESSES: usize = 16;
 const MOST_CLOCK: u64 = 1 << 62;
 
 /// Who sent a datagram: the process's number, and the clock of its send.
-#[derive(Clone, Copy, Debug, PartialEq, Eq)]
+#[derive(Clone, Copy, PartialEq, Eq)]
 pub struct Tag {
     pub sender: u32,
     pub clock: u64,

@@ -8,7 +8,7 @@ use lamport_tag::Tag;
 
 /// A library call: its kind, and its arguments as far as the kind has them, else 0. An argument of 32
 /// bits has zeros above.
-#[derive(Clone, Copy, Debug, PartialEq, Eq)]
+#[derive(Clone, Copy)]
 pub struct Call {
     pub kind: Kind,
     pub a0: u64,
@@ -20,7 +20,7 @@ pub struct Call {
 /// was delivered with it (0 for none), the call that was answered with its reply, the bytes that went
 /// out and came in, and the tag of the datagram that was taken. A reply of 32 bits has zeros above, and
 /// where there is no result it is 0.
-#[derive(Clone, Copy, Debug, PartialEq, Eq)]
+#[derive(Clone, Copy)]
 pub struct EntryView<'a> {
     pub clock: u64,
     pub thread: u16,
@@ -33,7 +33,7 @@ pub struct EntryView<'a> {
 }
 
 /// An entry that owns its bytes.
-#[derive(Debug, PartialEq, Eq, Drop)]
+#[derive(Drop)]
 pub struct Entry {
     pub clock: u64,
     pub thread: u16,

@@ -10,14 +10,14 @@ use std::alloc::{AllocError, Global};
 use std::marker::Model;
 
 /// The first datagram in a mailbox: its tag, where it has one, and the bytes after the tag.
-#[derive(Clone, Copy, Debug, PartialEq, Eq)]
+#[derive(Clone, Copy)]
 pub struct Front<'a> {
     pub tag: Option<Tag>,
     pub payload: &'a [u8],
 }
 
 /// A datagram that was sent into the group: for which process, and all its bytes, tag and payload.
-#[derive(Clone, Copy, Debug, PartialEq, Eq)]
+#[derive(Clone, Copy)]
 pub struct SentBytes<'a> {
     pub to: u32,
     pub bytes: &'a [u8],

@@ -3,7 +3,7 @@
 use watch_expr::Expr;
 
 /// The word that a command begins with.
-#[derive(Clone, Copy, Debug, PartialEq, Eq)]
+#[derive(Clone, Copy)]
 pub(crate) enum PlayVerb {
     Processes,
     Threads,

@@ -7,7 +7,7 @@ use shell_lines::{LineRefusal, refused};
 use std::alloc::{AllocError, Global};
 
 /// Why a line is refused: as in the debugger, or for what it would do to the recording.
-#[derive(Clone, Copy, Debug, PartialEq, Eq)]
+#[derive(Clone, Copy)]
 pub enum PlayRefusal {
     AsLine(LineRefusal),
     BadItem,

@@ -10,7 +10,7 @@ use crate::program::{Program, SayItem, Stmt};
 use watch_expr::{Expr, find_faults};
 
 /// What may be wrong with a program that is of the grammar.
-#[derive(Clone, Copy, Debug, PartialEq, Eq)]
+#[derive(Clone, Copy)]
 pub struct ProgramFaults {
     /// An aggregate is in an aggregate.
     pub nested: bool,

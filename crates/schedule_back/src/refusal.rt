@@ -5,7 +5,7 @@ ghost use Rattle.schedule_back.specs.declared.refusal.BackError.TheVariants as e
 use std::alloc::AllocError;
 
 /// Why there is no schedule of the logs of a group.
-#[derive(Clone, Copy, Debug, PartialEq, Eq)]
+#[derive(Clone, Copy)]
 pub enum BackError {
     /// The log of this process, the first such, has an entry that is not legal, or bytes after its entries.
     NotWhole(u32),

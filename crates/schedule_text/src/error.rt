@@ -6,7 +6,7 @@ use std::alloc::{AllocError, AllocFailed};
 use thiserror::Error;
 
 /// Why no schedule was read.
-#[derive(Clone, Copy, Debug, PartialEq, Eq, Error)]
+#[derive(Clone, Copy, Debug, Error)]
 pub enum ScheduleError {
     /// The line with this number, counted from 1, is the first that isn't allowed at its place. Where
     /// the header or a process line is still to come at the end, it is the line after the last.

@@ -12,7 +12,7 @@ use guest_signals::MOST_SIGNAL;
 use std::alloc::{AllocError, Global};
 
 /// What happens next in a group. Processes are numbered from 0 in the order of their lines.
-#[derive(Debug, PartialEq, Eq, Drop)]
+#[derive(Drop)]
 pub enum Item {
     /// `times` tries, each by itself, to make an event of the thread. The thread is 0 to `MOST_THREAD_NUMBER`,
     /// and the tries are 1 to `MOST_RUNS`.

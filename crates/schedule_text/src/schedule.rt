@@ -8,7 +8,7 @@ use std::marker::Model;
 
 /// A schedule: the processes of a group, numbered from 0, and what happens to them, in order. Each
 /// schedule is in range: `IsSchedule` holds of it. Contracts see the two lists.
-#[derive(Debug, Drop)]
+#[derive(Drop)]
 pub struct Schedule {
     processes: Vec<ProcessLine>,
     items: Vec<Item>,

@@ -6,7 +6,7 @@ use point_programs::Program;
 use watch_expr::Expr;
 
 /// The word that a command begins with.
-#[derive(Clone, Copy, Debug, PartialEq, Eq)]
+#[derive(Clone, Copy)]
 pub(crate) enum Verb {
     Goto,
     Step,
@@ -29,7 +29,7 @@ pub(crate) enum Verb {
 }
 
 /// Which nodes a breakpoint is for: all, or the one with a name, as which it is given by its number.
-#[derive(Clone, Copy, Debug, PartialEq, Eq)]
+#[derive(Clone, Copy)]
 pub enum WhichNodes {
     Everywhere,
     At(Option<u32>),

@@ -6,7 +6,7 @@ use fri_text::Text;
 use std::alloc::{AllocError, Global};
 
 /// Why a line is refused. A syntax error names a column, from 1.
-#[derive(Clone, Copy, Debug, PartialEq, Eq)]
+#[derive(Clone, Copy)]
 pub enum LineRefusal {
     Syntax(u32),
     NoNode,

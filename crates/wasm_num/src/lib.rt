@@ -28,7 +28,7 @@ pub use convert::{
 };
 
 /// Why a division has no result.
-#[derive(Clone, Copy, Debug, PartialEq, Eq)]
+#[derive(Clone, Copy)]
 pub enum Trap {
     /// The divisor is 0.
     ZeroDivisor,

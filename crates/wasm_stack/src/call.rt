@@ -8,7 +8,7 @@ use wasm_values::bits;
 
 /// A call of the library: the index of the imported function, and the bits of its arguments in their
 /// order, with 0 where it has fewer than three.
-#[derive(Clone, Copy, Debug, PartialEq, Eq, Drop)]
+#[derive(Clone, Copy, Drop)]
 pub struct CallSite {
     pub func: u32,
     pub a0: u64,

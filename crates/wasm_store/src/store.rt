@@ -45,7 +45,7 @@ impl<'m> Model for Store<'m> {
 }
 
 /// Why a module does not begin.
-#[derive(Clone, Copy, Debug, PartialEq, Eq, Drop)]
+#[derive(Clone, Copy, Drop)]
 pub enum StartError {
     /// A segment ends past the table or the memory.
     BadSegment,

@@ -7,7 +7,7 @@ use crate::code::ValType;
 use crate::code::ValType::{F32, F64, I32, I64};
 
 /// What a load or a store moves.
-#[derive(Clone, Copy, Debug, PartialEq, Eq, Drop)]
+#[derive(Clone, Copy, Drop)]
 pub struct Access {
     pub moved: ValType,
     /// The number of bytes in memory, as an exponent of 2.

@@ -3,7 +3,7 @@ ghost use Rattle.std.specs.Prelude.{◌≡◌};
 ghost use Rattle.wasm_types.specs.Floats.{is_float};
 
 /// A value type (WebAssembly 1.0, section 2.3.1).
-#[derive(Clone, Copy, Debug, PartialEq, Eq, Drop)]
+#[derive(Clone, Copy, Debug, Drop)]
 pub enum ValType {
     I32,
     I64,
@@ -23,7 +23,7 @@ impl ValType {
 
 /// A value that a module computes with, as its bits. Modules with floats are not run, so there is
 /// no value of their types.
-#[derive(Clone, Copy, Debug, PartialEq, Eq, Drop)]
+#[derive(Clone, Copy, Debug, Drop)]
 pub enum Value {
     I32(u32),
     I64(u64),
@@ -31,7 +31,7 @@ pub enum Value {
 
 /// An instruction with those inside it (WebAssembly 1.0, section 2.4).
 // It is dropped by recursion. That is fine, since a decoded module nests at most 1,000 blocks.
-#[derive(Debug, PartialEq, Eq, Drop)]
+#[derive(Debug, Drop)]
 pub enum Instr {
     Unreachable,
     Nop,

@@ -13,7 +13,7 @@ pub const MOST_THREAD_SIZE: usize = 16384;
 
 /// The locals that a function declares, as counts and types without those of count 0, of which a module can declare
 /// millions. Contracts see these runs.
-#[derive(Debug, Drop)]
+#[derive(Drop)]
 pub struct Declared {
     runs: Vec<(u32, ValType)>,
     // How many locals there are, if a thread may have as many.

@@ -3,14 +3,14 @@
 use crate::code::{Instr, ValType};
 
 /// The types of a function's parameters and results.
-#[derive(Debug, PartialEq, Eq, Drop)]
+#[derive(Debug, Drop)]
 pub struct FuncType {
     pub params: Vec<ValType>,
     pub results: Vec<ValType>,
 }
 
 /// The sizes that a memory or a table may have: a memory's in pages, a table's in elements.
-#[derive(Clone, Copy, Debug, PartialEq, Eq, Drop)]
+#[derive(Clone, Copy, Debug, Drop)]
 pub struct Limits {
     pub min: u32,
     pub max: Option<u32>,
@@ -18,7 +18,7 @@ pub struct Limits {
 
 /// What is imported: a function of the type with this index, a table, a memory, or a global with its
 /// type and whether it is mutable.
-#[derive(Clone, Copy, Debug, PartialEq, Eq, Drop)]
+#[derive(Clone, Copy, Debug, Drop)]
 pub enum ImportDesc {
     Func(u32),
     Table(Limits),
@@ -27,7 +27,7 @@ pub enum ImportDesc {
 }
 
 /// An import. The names are UTF-8.
-#[derive(Debug, PartialEq, Eq, Drop)]
+#[derive(Debug, Drop)]
 pub struct Import {
     pub module: Vec<u8>,
     pub name: Vec<u8>,
@@ -36,7 +36,7 @@ pub struct Import {
 
 /// A function of the module: its type's index, its locals apart from the parameters, each a count and a
 /// type, and its body without the last `end`.
-#[derive(Debug, PartialEq, Eq, Drop)]
+#[derive(Debug, Drop)]
 pub struct Func {
     pub type_index: u32,
     pub locals: Vec<(u32, ValType)>,
@@ -44,7 +44,7 @@ pub struct Func {
 }
 
 /// A global of the module, and the expression that gives it its first value.
-#[derive(Debug, PartialEq, Eq, Drop)]
+#[derive(Debug, Drop)]
 pub struct GlobalDef {
     pub kind: ValType,
     pub mutable: bool,
@@ -52,7 +52,7 @@ pub struct GlobalDef {
 }
 
 /// What is exported, by its index.
-#[derive(Clone, Copy, Debug, PartialEq, Eq, Drop)]
+#[derive(Clone, Copy, Debug, Drop)]
 pub enum ExportDesc {
     Func(u32),
     Table(u32),
@@ -61,14 +61,14 @@ pub enum ExportDesc {
 }
 
 /// An export. The name is UTF-8.
-#[derive(Debug, PartialEq, Eq, Drop)]
+#[derive(Debug, Drop)]
 pub struct Export {
     pub name: Vec<u8>,
     pub desc: ExportDesc,
 }
 
 /// An element segment: the functions that a table holds from the offset on.
-#[derive(Debug, PartialEq, Eq, Drop)]
+#[derive(Debug, Drop)]
 pub struct Elem {
     pub table: u32,
     pub offset: Vec<Instr>,
@@ -76,7 +76,7 @@ pub struct Elem {
 }
 
 /// A data segment: the bytes that a memory holds from the offset on.
-#[derive(Debug, PartialEq, Eq, Drop)]
+#[derive(Debug, Drop)]
 pub struct Segment {
     pub memory: u32,
     pub offset: Vec<Instr>,
@@ -84,7 +84,7 @@ pub struct Segment {
 }
 
 /// A module.
-#[derive(Debug, PartialEq, Eq, Drop)]
+#[derive(Debug, Drop)]
 pub struct Module {
     pub types: Vec<FuncType>,
     pub imports: Vec<Import>,

@@ -7,7 +7,7 @@ use crate::code::ValType;
 use crate::code::ValType::{F32, F64, I32, I64};
 
 /// What an operator on numbers takes and gives.
-#[derive(Clone, Copy, Debug, PartialEq, Eq, Drop)]
+#[derive(Clone, Copy, Drop)]
 pub struct Operator {
     /// Whether it takes two operands of one type.
     pub is_binary: bool,

@@ -7,7 +7,7 @@ use crate::code::Value;
 use std::marker::Model;
 
 /// A value as two words, which are copied together. Contracts see the value.
-#[derive(Clone, Copy, Debug, Drop)]
+#[derive(Clone, Copy, Drop)]
 pub struct Slot {
     // 0 with 32 bits, and 1 with 64.
     wide: u64,

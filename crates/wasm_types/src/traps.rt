@@ -2,7 +2,7 @@
 
 /// Why a thread is stopped. Apart from the traps of WebAssembly 1.0 these are `Exhausted`, where the
 /// room for operands and frames is used up, and `Spent`, where the budget of steps is.
-#[derive(Clone, Copy, Debug, PartialEq, Eq, Drop)]
+#[derive(Clone, Copy, PartialEq, Eq, Drop)]
 pub enum Trap {
     Unreachable = 1,
     ZeroDivisor,

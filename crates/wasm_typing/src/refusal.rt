@@ -5,7 +5,7 @@ ghost use Rattle.wasm_typing.specs.declared.refusal.TypingError.TheVariants.{Out
 use std::alloc::{AllocError, AllocFailed};
 
 /// Why a check ends early.
-#[derive(Clone, Copy, Debug, PartialEq, Eq, Drop)]
+#[derive(Clone, Copy, Drop)]
 pub enum TypingError {
     /// What is checked breaks the rule.
     Invalid,

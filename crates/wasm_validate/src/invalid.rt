@@ -6,7 +6,7 @@ use std::alloc::AllocError;
 use thiserror::Error;
 
 /// Why a module is refused. Of several reasons the first is given, in this order.
-#[derive(Clone, Copy, Debug, PartialEq, Eq, Drop, Error)]
+#[derive(Clone, Copy, Debug, Drop, Error)]
 pub enum Invalid {
     /// A float value type or an instruction on floats stands anywhere in the module.
     #[error("the module has floats")]

@@ -19,7 +19,7 @@ use std::alloc::AllocError;
 
 /// What an expression can read of a node: a watch page of 4,096 bytes of its memory, a global, what each of its events
 /// changes (its clock, the count of its events, the thread of the last and whether it has ended), or the size of its memory.
-#[derive(Clone, Copy, Debug, PartialEq, Eq)]
+#[derive(Clone, Copy, PartialEq, Eq)]
 pub enum Place {
     Page { node: u32, page: u32 },
     Global { node: u32, n: u64 },
