@@ -1,5 +1,5 @@
 // Files that stay open.
-ghost use Rattle.std.specs.Prelude.{◌≡◌, ◌<◌, IfSome, length, vec_len};
+ghost use Rattle.std.specs.Prelude.{◌≡◌, ◌<◌, IfSome, IsTrue, length, vec_len};
 
 use crate::WriteError;
 use std::alloc::{AllocError, Global};
@@ -13,8 +13,8 @@ struct NamedFile<F: Drop> {
     file: F,
 }
 
-/// Files that stay open, each under a name of its own. Most often a file is asked for that was found last, or
-/// the one behind it, so names are compared from there on.
+/// Files that stay open, each under a name of its own. Most often a file is asked for that stands behind the one that was
+/// found last, or that one itself, so these names are compared first.
 #[derive(Drop)]
 pub(crate) struct OpenFiles<F: Drop> {
     files: Vec<NamedFile<F>>,
@@ -32,32 +32,43 @@ impl<F: OpenFile + Drop> OpenFiles<F> {
     /// The file of this name, where it is open.
     #[inline(always)]
     pub(crate) fn get_mut(&mut self, name: &str) -> Option<&mut F> {
-        if !self.is_at(self.last, name) {
-            self.last = self.index_of(name)?;
-        }
+        self.last = self.index_of(name)?;
         match self.files.get_mut(self.last) {
             Some(open) => Some(&mut open.file),
             None => None,
         }
     }
 
-    // Whether the file at this place has this name.
-    #[inline(always)]
-    fn is_at(&self, index: usize, name: &str) -> bool {
-        match self.files.get(index) {
-            Some(open) => open.name.as_str() == name,
-            None => false,
-        }
-    }
-
     // Where the file of this name is among those that are open.
+    #[inline(always)]
     fn index_of(&self, name: &str) -> Option<usize>
         ensures { IfSome result (λ index. index < vec_len self.now.files) }
     {
-        let (front, behind) = self.files.split_at(self.last.min(self.files.len()));
-        match index_in(behind, name) {
-            Some(index) => Some(front.len() + index),
-            None => index_in(front, name),
+        let next = self.behind_last();
+        if self.is_at(next, name) {
+            return Some(next);
+        }
+        if self.is_at(self.last, name) {
+            return Some(self.last);
+        }
+        index_in(self.files.as_slice(), name)
+    }
+
+    // The place behind that of the file that was found last. Behind the last place is the first.
+    #[inline(always)]
+    fn behind_last(&self) -> usize {
+        let next = self.last.saturating_add(1);
+        if next < self.files.len() { next } else { 0 }
+    }
+
+    // Whether the file at this place has this name.
+    #[inline(always)]
+    fn is_at(&self, index: usize, name: &str) -> bool
+        ensures { IsTrue result → index < vec_len self.now.files }
+    {
+        match self.files.get(index) {
+            Some(open) => open.name.as_str() == name,
+            None => false,
         }
     }
 
