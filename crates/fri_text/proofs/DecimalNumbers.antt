@@ -1,60 +1,45 @@
 -- Decimal words, and the text of numbers.
-use Rattle.std.proofs.Common.{◌≡◌, ℕ, suc, ◌+◌, ◌-◌, ◌*◌, ◌^◌, ◌<◌, ◌≤◌, Bool, true, false, cond, eqb, ltb, leb, List, [], ◌∷◌, length, get_or, take, Some, None, Err, refl, ap, sym, ◌∙◌, arith, rules, ℤ, pos, negsuc}
+use Rattle.std.proofs.Common.{◌≡◌, ℕ, suc, ◌+◌, ◌-◌, ◌*◌, ◌^◌, ◌<◌, ◌≤◌, Bool, true, false, cond, eqb, ltb, leb, List, [], ◌∷◌, length, get_or, take, Some, Err, refl, ap, ◌∙◌, arith, rules, ℤ, pos, negsuc}
 use Rattle.std.specs.Prelude.{decimal, option_map, neg_ℤ, unsigned_abs}
 use Rattle.std.specs.Char.{digit_value, is_ascii_digit}
 use Rattle.std.specs.Fmt.{signed_decimal}
 use Rattle.std.specs.List.{list_all}
 use Rattle.std.specs.Str.Parse.{digits_value}
-use Rattle.std.proofs.lemmas.Bool.{and_from, and_parts, leb-false, leb-true, lt-ltb, lt-leb, ne_eqb}
+use Rattle.std.proofs.lemmas.Bool.{and_from, and_parts, leb-true, lt-ltb, lt-leb, ne_eqb}
 use Rattle.std.proofs.lemmas.Int.Digits.{digits_value_more}
-use Rattle.std.proofs.lemmas.List.Folds.{list_all_at}
-use Rattle.std.proofs.lemmas.Option.{cond_some}
 use Rattle.std.proofs.lemmas.Str.{digit_value_digit}
 use Rattle.std.proofs.lemmas.Str.Parse.{IsNumeralModel, digits_value-take-le, numerals_by_value}
 use Rattle.std.proofs.lemmas.Fmt.{decimal_is_IsNumeral}
-use Rattle.fri_text.specs.declared.error.TextError.TheVariants.{TooGreat}
+use Rattle.fri_text.specs.declared.error.TextError.TheVariants.{NotNumber, TooGreat}
 use Rattle.fri_text.specs.Decimal.{is_decimal, decimal_of, signed_of, up_to}
 
 -- these digits and their number are those that std parses
 pub numerals : IsNumeralModel (λ (ds : List ℕ). list_all is_ascii_digit ds ≡ true) (digits_value 10)
 numerals = numerals_by_value _ (search rules)
 
--- the byte at a place of digits writes its value
-digit_at : (word : List ℕ) (i : ℕ) → list_all is_ascii_digit word ≡ true → i < length word → digit_value (get_or word i 0) + 48 ≡ get_or word i 0
-digit_at word i digits inside = by_test (is_ascii_digit (get_or word i 0)) refl
-  where
-    by_test : (b : Bool) → is_ascii_digit (get_or word i 0) ≡ b → digit_value (get_or word i 0) + 48 ≡ get_or word i 0
-    by_test true e =
-        let within = and_parts (leb 48 (get_or word i 0)) (leb (get_or word i 0) 57) e in
-        digit_value_digit (get_or word i 0) (leb-true 48 (get_or word i 0) within.0, leb-true (get_or word i 0) 57 within.1)
-    by_test false e = let no = list_all_at is_ascii_digit word i 0 inside e in cc
+-- a digit writes its value
+digit_at : (word : List ℕ) (i : ℕ) → is_ascii_digit (get_or word i 0) ≡ true → digit_value (get_or word i 0) + 48 ≡ get_or word i 0
+digit_at word i is_digit =
+    let within = and_parts (leb 48 (get_or word i 0)) (leb (get_or word i 0) 57) is_digit in
+    digit_value_digit (get_or word i 0) (leb-true 48 (get_or word i 0) within.0, leb-true (get_or word i 0) 57 within.1)
 
 -- the number of one digit more
-digit_more : (word : List ℕ) (i number digit : ℕ) → list_all is_ascii_digit word ≡ true → i < length word → number ≡ digits_value 10 (take i word) → digit ≡ get_or word i 0 - 48
+pub digit_more : (word : List ℕ) (i number digit : ℕ) → is_ascii_digit (get_or word i 0) ≡ true → i < length word → number ≡ digits_value 10 (take i word) → digit ≡ get_or word i 0 - 48
     → 10 * number + digit ≡ digits_value 10 (take (i + 1) word)
-digit_more word i number digit digits inside so_far is =
-    omega (arith, digits_value_more 10 word i inside, digit_at word i digits inside, so_far, is)
+digit_more word i number digit is_digit inside so_far is =
+    omega (arith, digits_value_more 10 word i inside, digit_at word i is_digit, so_far, is)
 
--- it is read where it may be asked for
-pub digit_taken : (word : List ℕ) (i number digit max next : ℕ) → list_all is_ascii_digit word ≡ true → i < length word → number ≡ digits_value 10 (take i word) → digit ≡ get_or word i 0 - 48
-    → cond (leb (10 * number + digit) max) (Some (10 * number + digit)) None ≡ Some next → (next ≡ digits_value 10 (take (i + 1) word)) × (next ≤ max)
-digit_taken word i number digit max next digits inside so_far is taken =
-    let found = cond_some (leb (10 * number + digit) max) (10 * number + digit) next taken in
-    let within = leb-true (10 * number + digit) max found.0 in
-    (sym found.1 ∙ digit_more word i number digit digits inside so_far is, omega (arith, found.1, within))
-
--- and else the whole number is above any that may be asked for
-pub digit_refused : (word : List ℕ) (i number digit max : ℕ) → list_all is_ascii_digit word ≡ true → i < length word → number ≡ digits_value 10 (take i word) → digit ≡ get_or word i 0 - 48
-    → cond (leb (10 * number + digit) max) (Some (10 * number + digit)) None ≡ None → Err TooGreat ≡ up_to max (decimal_of word)
-digit_refused word i number digit max digits inside so_far is refused =
-    let above : max < 10 * number + digit = by_test (leb (10 * number + digit) max) refl refused in
-    let most = digits_value-take-le 10 word (i + 1) (omega arith) in
-    let over : max < digits_value 10 word = omega (arith, above, most, digit_more word i number digit digits inside so_far is) in
-    rw (lt-ltb 0 (length word) (omega arith), digits, lt-leb (digits_value 10 word) max over) refl
+-- The front of a word writes a number above any that may be asked for, and so does the word, if it has no other byte than digits.
+pub long_refused : (word : List ℕ) (i number max : ℕ) → i < length word → number ≡ digits_value 10 (take (i + 1) word) → max < number
+    → Err (cond (list_all is_ascii_digit word) TooGreat NotNumber) ≡ up_to max (decimal_of word)
+long_refused word i number max inside front above = by_test (list_all is_ascii_digit word) refl
   where
-    by_test : (b : Bool) → leb (10 * number + digit) max ≡ b → cond b (Some (10 * number + digit)) None ≡ None → max < 10 * number + digit
-    by_test true e h = cc
-    by_test false e h = leb-false (10 * number + digit) max e
+    by_test : (b : Bool) → list_all is_ascii_digit word ≡ b → Err (cond b TooGreat NotNumber) ≡ up_to max (decimal_of word)
+    by_test true e =
+        let most = digits_value-take-le 10 word (i + 1) (omega arith) in
+        let over : max < digits_value 10 word = omega (arith, above, most, front) in
+        rw (lt-ltb 0 (length word) (omega arith), e, lt-leb (digits_value 10 word) max over) refl
+    by_test false e = rw (lt-ltb 0 (length word) (omega arith), e) refl
 
 -- what writing a number appends is a decimal word
 is_decimal-decimal : (n : ℕ) → n < 2 ^ 64 → is_decimal (decimal n) ≡ true

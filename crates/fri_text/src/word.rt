@@ -1,7 +1,8 @@
 // Numbers and names that are written in one word.
-ghost use Rattle.std.specs.Prelude.{◌≡◌, ◌+◌, ◌*◌, nat_le, Some, None, if◌then◌else◌};
+ghost use Rattle.std.specs.Prelude.{◌≡◌, ◌+◌, ◌*◌, ◌^◌, nat_lt, Some, None, if◌then◌else◌};
 ghost use Rattle.std.specs.Char.{is_ascii_digit};
 ghost use Rattle.std.specs.List.{list_all};
+ghost use Rattle.fri_text.specs.declared.error.TextError.TheVariants.{NotNumber, TooGreat};
 ghost use Rattle.fri_text.specs.Name.{is_name as is_name_word, is_name_byte};
 ghost use Rattle.fri_text.specs.Decimal.{decimal_of, signed_of, up_to, within_i64};
 
@@ -13,23 +14,54 @@ use crate::error::TextError;
 pub fn read_decimal(word: &[u8], max: u64) -> Result<u64, TextError>
     ensures { result ≡ up_to max (decimal_of word.now) }
 {
-    if word.is_empty() || !are_digits(word) {
+    if word.is_empty() {
         return Err(TextError::NotNumber);
     }
     let mut number = 0;
     for byte in word {
+        if !byte.is_ascii_digit() {
+            return Err(TextError::NotNumber);
+        }
         let digit = u64::from(*byte - b'0');
-        number = with_digit(number, digit, max).ok_or(TextError::TooGreat)?;
+        let Some(longer) = with_digit(number, digit) else {
+            return Err(fault_of_long(word));
+        };
+        number = longer;
     }
-    Ok(number)
+    at_most(number, max)
 }
 
-// The number with one more digit behind it, if it is at most `max`.
-fn with_digit(number: u64, digit: u64, max: u64) -> Option<u64>
-    ensures { result ≡ (if nat_le (10 * number + digit) max then Some (10 * number + digit) else None) }
+// The number with one more digit behind it, if it has 64 bits.
+#[inline(always)]
+fn with_digit(number: u64, digit: u64) -> Option<u64>
+    ensures { result ≡ (if nat_lt (10 * number + digit) (2 ^ 64) then Some (10 * number + digit) else None) }
 {
-    let longer = number.checked_mul(10)?.checked_add(digit)?;
-    (longer <= max).then_some(longer)
+    number.checked_mul(10)?.checked_add(digit)
+}
+
+// The number, if it is at most `max`.
+#[inline(always)]
+fn at_most(number: u64, max: u64) -> Result<u64, TextError>
+    ensures { result ≡ up_to max (Some number) }
+{
+    if number <= max {
+        Ok(number)
+    } else {
+        Err(TextError::TooGreat)
+    }
+}
+
+// Why the word is refused, whose front writes a number of more than 64 bits.
+#[cold]
+#[inline(never)]
+fn fault_of_long(word: &[u8]) -> TextError
+    ensures { result ≡ (if list_all is_ascii_digit word.now then TooGreat else NotNumber) }
+{
+    if are_digits(word) {
+        TextError::TooGreat
+    } else {
+        TextError::NotNumber
+    }
 }
 
 fn are_digits(bytes: &[u8]) -> bool

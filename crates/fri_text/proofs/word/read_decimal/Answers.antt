@@ -1,34 +1,34 @@
-use Rattle.std.proofs.Common.{◌≡◌, true, Option, Some, None, Ok, Err, ap, refl, sym, ◌∙◌, rules}
+use Rattle.std.proofs.Common.{◌≡◌, ℕ, ◌^◌, ◌<◌, Bool, true, false, cond, ltb, get_or, Some, None, Err, ap, refl, sym, ◌∙◌, arith, rules}
 use Rattle.std.specs.Char.{is_ascii_digit}
-use Rattle.std.specs.List.{list_all}
-use Rattle.std.specs.Option.{ok_or}
-use Rattle.std.proofs.lemmas.Result.{err_from_is_err_and}
-use Rattle.fri_text.specs.declared.error.TextError.{TextError}
-use Rattle.fri_text.specs.declared.error.TextError.TheVariants.{TooGreat}
-use Rattle.fri_text.proofs.DecimalNumbers.{digit_refused, digit_taken}
+use Rattle.std.proofs.lemmas.Bool.{and_from, ltb-false}
+use Rattle.std.proofs.lemmas.List.Folds.{list_all_more}
+use Rattle.std.proofs.lemmas.Option.{cond_some}
+use Rattle.fri_text.proofs.DecimalNumbers.{digit_more, long_refused}
 use Rattle.fri_text.proofs.word.read_decimal.Goals as goal
 
--- what was made of something that was found, or was not
-found : {T : Type 0} (o : Option T) (fault : TextError) (x : T) → ok_or o fault ≡ Ok x → o ≡ Some x
-found None fault x h = cc
-found (Some y) fault x h = cc
+-- what is not below the limit
+above : (n most max : ℕ) → cond (ltb n most) (Some n) None ≡ None → max < most → max < n
+above n most max none small = by_test (ltb n most) refl
+  where
+    by_test : (b : Bool) → ltb n most ≡ b → max < n
+    by_test true e = let no : Some n ≡ None = (sym (rw e refl) ∙ none) in cc
+    by_test false e = let far = ltb-false n most e in omega arith
 
-missing : {T : Type 0} (o : Option T) (fault other : TextError) → ok_or o fault ≡ Err other → (o ≡ None) × (other ≡ fault)
-missing None fault other h = (refl, cc)
-missing (Some y) fault other h = cc
-
-pub returns-in_err-number : goal.returns-in_err-number
-returns-in_err-number c =
-    let p = err_from_is_err_and c.from_residual.result c.from_residual.ensures.1 in
+pub returns-in_default : goal.returns-in_default
+returns-in_default c =
     let l = c.loop-byte in
-    let none = missing c.with_digit.result TooGreat c.in_err-number.field-0.0 (sym c.ok_or.ensures.value ∙ c.in_err-number.was) in
-    let digits : list_all is_ascii_digit c.args.word.now ≡ true = search rules in
-    p.1 ∙ ap Err (p.2 ∙ none.1) ∙ digit_refused c.args.word.now l.byte-index l.number c.from-digit.result c.args.max digits c.loop-byte-test.true l.invariant.0 c.from-digit.ensures
-    (sym c.with_digit.ensures ∙ none.0)
+    let is_digit : is_ascii_digit (get_or c.args.word.now l.byte-index 0) ≡ true = search rules in
+    let none : c.with_digit.result ≡ None = search rules in
+    let small : c.args.max < 2 ^ 64 = search rules in
+    let front = digit_more c.args.word.now l.byte-index l.number c.from-digit.result is_digit c.loop-byte-test.true l.invariant.number c.from-digit.ensures in
+    ap Err c.fault_of_long.ensures ∙ long_refused c.args.word.now l.byte-index _ c.args.max c.loop-byte-test.true front (above _ _ _ (sym c.with_digit.ensures ∙ none) small)
 
 pub loop-byte-preserved : goal.loop-byte-preserved
 loop-byte-preserved c =
     let l = c.loop-byte in
-    let digits : list_all is_ascii_digit c.args.word.now ≡ true = search rules in
-    digit_taken c.args.word.now l.byte-index l.number c.from-digit.result c.args.max c.in_ok-number.number digits c.loop-byte-test.true l.invariant.0 c.from-digit.ensures
-    (sym c.with_digit.ensures ∙ found c.with_digit.result TooGreat c.in_ok-number.number (sym c.ok_or.ensures.value ∙ c.in_ok-number.was))
+    let is_digit : is_ascii_digit (get_or c.args.word.now l.byte-index 0) ≡ true = search rules in
+    let found = cond_some _ _ _ (sym c.with_digit.ensures ∙ c.in-Some.is) in
+    record {
+      number = sym found.1 ∙ digit_more c.args.word.now l.byte-index l.number c.from-digit.result is_digit c.loop-byte-test.true l.invariant.number c.from-digit.ensures;
+      digits = list_all_more is_ascii_digit c.args.word.now l.byte-index 0 c.loop-byte-test.true ∙ and_from _ _ l.invariant.digits is_digit;
+    }
