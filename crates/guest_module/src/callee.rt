@@ -85,6 +85,7 @@ pub struct Called<'m> {
 pub fn called_at<'m>(module: &'m ValidModule, place: usize) -> Option<Called<'m>>
     ensures own { IfSome result (λ called. slice_get (module_of «module».now).funcs place ≡ Some called.callee) }
     ensures typed { IfSome result (λ called. HasCallType (module_of «module».now) called.callee called.takes called.gives) }
+    ensures none { IfNone result (slice_get (module_of «module».now).funcs place ≡ None) }
 {
     // Its `ensures` tells the proof that the module is valid.
     let _ = module.module();
