@@ -1,5 +1,5 @@
 // A function of the module as calls take it.
-ghost use Rattle.std.specs.Prelude.{◌≡◌, IfNone, IfSome, None, Some, slice_get};
+ghost use Rattle.std.specs.Prelude.{◌≡◌, ◌<◌, IfNone, IfSome, None, Some, length, slice_get};
 ghost use Rattle.guest_module.specs.Calls.{HasCallType};
 ghost use Rattle.wasm_types.specs.Code.{trees};
 ghost use Rattle.wasm_types.specs.Locals.{zeros};
@@ -65,11 +65,21 @@ pub fn callee_at<'m>(module: &'m ValidModule, place: usize) -> Option<Callee<'m>
     ensures some { IfSome result (λ callee. slice_get (module_of «module».now).funcs place ≡ Some callee) }
     ensures none { IfNone result (slice_get (module_of «module».now).funcs place ≡ None) }
 {
-    let Some(func) = module.module().funcs.get(place) else {
+    if place >= module.module().funcs.len() {
         return None;
-    };
+    }
+    Some(callee_there(module, place))
+}
+
+// The same of a function that there is.
+#[inline(always)]
+fn callee_there<'m>(module: &'m ValidModule, place: usize) -> Callee<'m>
+    requires { place < length (module_of «module».now).funcs }
+    ensures { slice_get (module_of «module».now).funcs place ≡ Some result }
+{
+    let func = &module.module().funcs[place];
     let declared = &module.row(place).declared;
-    Some(Callee { func, declared })
+    Callee { func, declared }
 }
 
 /// A function of the module, with how many operands a call of it takes and the type of what that leaves.
@@ -80,20 +90,20 @@ pub struct Called<'m> {
     pub gives: Option<ValType>,
 }
 
-/// The same with what a call takes and gives.
+/// The module's own function at this place, which there is, with what a call takes and gives.
 #[inline(always)]
-pub fn called_at<'m>(module: &'m ValidModule, place: usize) -> Option<Called<'m>>
-    ensures own { IfSome result (λ called. slice_get (module_of «module».now).funcs place ≡ Some called.callee) }
-    ensures typed { IfSome result (λ called. HasCallType (module_of «module».now) called.callee called.takes called.gives) }
-    ensures none { IfNone result (slice_get (module_of «module».now).funcs place ≡ None) }
+pub fn called_at<'m>(module: &'m ValidModule, place: usize) -> Called<'m>
+    requires { place < length (module_of «module».now).funcs }
+    ensures own { slice_get (module_of «module».now).funcs place ≡ Some result.callee }
+    ensures typed { HasCallType (module_of «module».now) result.callee result.takes result.gives }
 {
     // Its `ensures` tells the proof that the module is valid.
     let _ = module.module();
-    let callee = callee_at(module, place)?;
+    let callee = callee_there(module, place);
     let row = module.row(place);
-    Some(Called {
+    Called {
         callee,
         takes: row.takes,
         gives: row.gives,
-    })
+    }
 }

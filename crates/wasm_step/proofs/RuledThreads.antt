@@ -124,6 +124,16 @@ module _ (m : Module) (f : ℕ) (func : Func) (n : ℕ) (gives : Option ValType)
     at = h.at;
   }
 
+-- the module has the function
+pub has_own : (m : Module) (f : ℕ) (t : Thread) → length m.imports ≤ f → (call m f t ≡ Stops Sticks → ⊥) → f - length m.imports < length m.funcs
+has_own m f t past rule = by_func (slice_get m.funcs (f - length m.imports)) refl
+  where
+    by_func : (o : Option Func) → slice_get m.funcs (f - length m.imports) ≡ o → f - length m.imports < length m.funcs
+    by_func (Some func) e = slice_get_within m.funcs (f - length m.imports) func e
+    by_func None e =
+        let own = ap (λ b. if b then call_library f (imported_type m (slice_get m.imports f)) t else call_own m f (slice_get m.funcs (f - length m.imports)) t) (le-ltb f (length m.imports) past) in
+        absurd (rule (own ∙ ap (λ o. call_own m f o t) e))
+
 -- it has its arguments
 pub has_arguments : (m : Module) (f : ℕ) (func : Func) (n : ℕ) (gives : Option ValType) (t : Thread) → call m f t ≡ frame_goes_on t (called_with (arguments n t) n t f func gives) → (call m f t ≡ Stops Sticks → ⊥) → n ≤ length t.stack
 has_arguments m f func n gives t is rule = by_test (nat_lt (length t.stack) n) refl
@@ -139,6 +149,23 @@ has_place type g t rule = by_stack t.stack refl
     by_stack [] e = absurd (rule (ap (λ s. on_top s t (λ v u. on_i32 v (λ i. call_element g.«module» type (slice_get g.table i) u))) e))
     by_stack (I64 x ∷ rest) e = absurd (rule (ap (λ s. on_top s t (λ v u. on_i32 v (λ i. call_element g.«module» type (slice_get g.table i) u))) e))
     by_stack (I32 x ∷ rest) e = (x, e ∙ ap (λ rest. I32 x ∷ rest) (sym (ap (drop 1) e)))
+
+-- the module has the function that is there
+pub has_own_element : (m : Module) (type f x : ℕ) (g : Store) (t : Thread) → m ≡ g.«module» → t.stack ≡ I32 x ∷ drop 1 t.stack → slice_get g.table x ≡ Some (Some f) → length m.imports ≤ f
+    → (call_indirect type g t ≡ Stops Sticks → ⊥) → f - length m.imports < length m.funcs
+has_own_element m type f x g t same top at past rule = by_func (slice_get m.funcs (f - length m.imports)) refl
+  where
+    element : call_indirect type g t ≡ call_if_same m f (own_type m (slice_get m.funcs (f - length m.imports))) (slice_get m.types type) (without_operands 1 t)
+    element =
+        let u = without_operands 1 t in
+        ap (λ s. on_top s t (λ v u. on_i32 v (λ i. call_element g.«module» type (slice_get g.table i) u))) top
+        ∙ ap (λ (m : Module). call_element m type (slice_get g.table x) u) (sym same)
+        ∙ ap (λ o. call_element m type o u) at
+        ∙ ap (λ b. call_if_same m f (if b then imported_type m (slice_get m.imports f) else own_type m (slice_get m.funcs (f - length m.imports))) (slice_get m.types type) u) (le-ltb f (length m.imports) past)
+
+    by_func : (o : Option Func) → slice_get m.funcs (f - length m.imports) ≡ o → f - length m.imports < length m.funcs
+    by_func (Some func) e = slice_get_within m.funcs (f - length m.imports) func e
+    by_func None e = absurd (rule (element ∙ ap (λ o. call_if_same m f (own_type m o) (slice_get m.types type) (without_operands 1 t)) e))
 
 -- a call through the table calls the function that is there
 module _ (m : Module) (type f x : ℕ) (func : Func) (g : Store) (t : Thread) (same : m ≡ g.«module») (top : t.stack ≡ I32 x ∷ drop 1 t.stack) (at : slice_get g.table x ≡ Some (Some f))

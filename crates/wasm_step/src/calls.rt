@@ -1,5 +1,5 @@
 // Calls: of the library, of the module's own functions, and through the table.
-ghost use Rattle.std.specs.Prelude.{◌≡◌, ℕ, ◌+◌, ◌≤◌, [], ◌∷◌, IfOk, IfSome, IsTrue, OnOk, Some, false, length, nat_lt, slice_get};
+ghost use Rattle.std.specs.Prelude.{◌≡◌, ℕ, ◌+◌, ◌-◌, ◌<◌, ◌≤◌, [], ◌∷◌, IfOk, IfSome, IsTrue, OnOk, Some, false, length, nat_lt, slice_get};
 ghost use Rattle.wasm_types.specs.Code.{tree};
 ghost use Rattle.wasm_types.specs.Locals.{zeros};
 ghost use Rattle.wasm_types.specs.Modules.{func_type, module_of};
@@ -98,9 +98,7 @@ pub(crate) fn call_in_place<'m>(thread: &mut Stack<'m>, module: &'m ValidModule,
     ensures within { ThreadWithin thread.new }
     ensures same { result ≡ false → thread.new ≡ thread.old }
 {
-    let Some(called) = own_called(module, index) else {
-        return false;
-    };
+    let called = own_called(module, index);
     if has_few(&called) {
         thread.enter_within(index, called, 0, true)
     } else {
@@ -142,9 +140,7 @@ pub(crate) fn call_indirect_in_place<'m>(
     if is_imported(module, index) {
         return false;
     }
-    let Some(called) = own_called(module, index) else {
-        return false;
-    };
+    let called = own_called(module, index);
     if !has_type(module.module(), &called.callee, type_index) {
         return false;
     }
@@ -285,18 +281,17 @@ pub(crate) fn call_indirect<'m>(
     }
 }
 
-// The module's own function with this index, if there is one.
+// The module's own function with this index, which there is.
 #[tactic(auto, using(crate::proofs::RuledThreads::called_own, crate::proofs::RuledThreads::called_type))]
 #[inline(always)]
-fn own_called<'m>(module: &'m ValidModule, index: u32) -> Option<Called<'m>>
-    requires { length (module_of «module».now).imports ≤ index }
-    ensures types { IfSome result (λ own. HasOwnType (module_of «module».now) index own.callee) }
-    ensures calls { IfSome result (λ own. (t : Thread) → call (module_of «module».now) index t
-        ≡ frame_goes_on t (called_with (arguments own.takes t) own.takes t index own.callee own.gives)) }
+fn own_called<'m>(module: &'m ValidModule, index: u32) -> Called<'m>
+    requires past { length (module_of «module».now).imports ≤ index }
+    requires there { index - length (module_of «module».now).imports < length (module_of «module».now).funcs }
+    ensures types { HasOwnType (module_of «module».now) index result.callee }
+    ensures calls { (t : Thread) → call (module_of «module».now) index t
+        ≡ frame_goes_on t (called_with (arguments result.takes t) result.takes t index result.callee result.gives) }
 {
-    let place = index as usize - module.module().imports.len();
-    let called = called_at(module, place)?;
-    Some(called)
+    called_at(module, index as usize - module.module().imports.len())
 }
 
 // Whether a function has the type with this index, which mostly is its own.

@@ -8,4 +8,4 @@ pub returns-clause-typed : goal.returns-clause-typed
 returns-clause-typed c =
     let m = module_of c.args.«module».now in
     let valid = subst (λ m. IsValid (module_of m)) c.module.ensures.same c.module.ensures.valid in
-    row_typed m (slice_get m.funcs c.args.place) c.in_ok-callee.callee c.row-row.result.now c.in_ok-callee.ensures.some c.row-row.ensures c.args.place valid c.in_ok-callee.ensures.some
+    row_typed m (slice_get m.funcs c.args.place) c.callee_there-callee.result c.row-row.result.now c.callee_there-callee.ensures c.row-row.ensures c.args.place valid c.callee_there-callee.ensures

@@ -4,19 +4,19 @@ use Rattle.std.proofs.lemmas.Option.{gets, slice_get-map}
 use Rattle.std.specs.Option.{option_map}
 use Rattle.wasm_types.specs.Modules.{func, module_of}
 use Rattle.guest_module.proofs.LocalLemmas.{row_zeros}
-use Rattle.guest_module.proofs.callee.callee_at.Goals as goal
+use Rattle.guest_module.proofs.callee.callee_there.Goals as goal
 
 module _ (c : goal.After-row) where
-  own : slice_get (module_of c.args.«module».now).funcs c.args.place ≡ Some (func c.in-Some.func.now)
+  own : slice_get (module_of c.args.«module».now).funcs c.args.place ≡ Some (func c.index-func.result.now)
   own =
       let items = c.args.«module».now.funcs.items in
-      let held : slice_get items c.args.place ≡ Some c.in-Some.func.now = grind (arith, common_steps, gets) in
+      let held : slice_get items c.args.place ≡ Some c.index-func.result.now = grind (arith, common_steps, gets) in
       slice_get-map func items c.args.place ∙ ap (option_map func) held
 
 pub invariant_of-result : goal.invariant_of-result
 invariant_of-result c =
     let m = module_of c.args.«module».now in
-    row_zeros m (slice_get m.funcs c.args.place) (func c.in-Some.func.now) c.row.result.now (own c) c.row.ensures
+    row_zeros m (slice_get m.funcs c.args.place) (func c.index-func.result.now) c.row.result.now (own c) c.row.ensures
 
-pub returns-clause-some : goal.returns-clause-some
-returns-clause-some c = own c
+pub returns : goal.returns
+returns c = own c
