@@ -2,6 +2,7 @@ pub mod FieldLemmas
 pub mod ShapeTests
 pub mod EntrySizes
 pub mod Leads
+pub mod BareEntries
 pub mod EntryLemmas
 pub mod HeadLemmas
 pub mod KeptHead

@@ -1,11 +1,11 @@
 // Writing the head and the entries of a log.
-ghost use Rattle.std.specs.Prelude.{◌≡◌, ◌^◌, ◌<◌, ◌≤◌, ◌++◌, ◌&&◌, nat_lt, length, map, take, Some, OnOk, OnErr};
+ghost use Rattle.std.specs.Prelude.{◌≡◌, ◌^◌, ◌<◌, ◌≤◌, ◌++◌, ◌&&◌, nat_lt, length, map, take, IsTrue, Some, OnOk, OnErr};
 ghost use Rattle.std.specs.List.{concat};
 ghost use Rattle.call_table.specs.Table.{row};
 ghost use Rattle.lib_calls.specs.Entry.{IsStringIf, IsTagIf, entry_of, IsShaped};
 ghost use Rattle.call_log.specs.Entry.{argument_bytes, encoding, flagged_tag, number_if, string_if, tag_if};
 ghost use Rattle.call_log.specs.Spelling.{AddsBeforeOutgoing, IsLengthIf};
-ghost use Rattle.call_log.specs.inside.Parts.{framed_lead, front_bytes, lead_bytes, length_if, reply_bytes};
+ghost use Rattle.call_log.specs.inside.Parts.{framed_lead, front_bytes, is_bare, lead_bytes, length_if, reply_bytes};
 ghost use Rattle.call_log.specs.declared.version.Version.TheVariants.{Two};
 ghost use Rattle.call_log.specs.Version.{clock_gap};
 ghost use Rattle.call_log.specs.Head.{IsHead, head_bytes, head_of};
@@ -93,9 +93,66 @@ fn put_framed(
     ensures err { OnErr result (out.new.items ≡ out.old.items) }
 {
     match version {
+        Version::Two if is_bare(last, entry) => put_bare(out, last, entry, sent),
         Version::Two if sent < 64 && entry.incoming.len() < 64 => put_small(out, last, entry, sent),
         _ => put_measured(out, version, last, entry, sent),
     }
+}
+
+// Whether the entry has one argument and neither bytes nor a tag, and each number but the argument takes one byte in
+// version 2.
+#[inline(always)]
+fn is_bare(last: u64, entry: &EntryView<'_>) -> bool
+    ensures { result ≡ is_bare last (entry_of entry.now) }
+{
+    let kind = entry.call.kind;
+    kind.argument_count() == 1
+        && (!kind.has_outgoing()
+            && (!kind.has_incoming()
+                && (!kind.has_tag()
+                    && (entry.clock.wrapping_sub(last) < 128
+                        && (entry.thread < 128 && entry.reply < 128)))))
+}
+
+// Adds such an entry. If its argument takes at most three bytes, all bytes of the entry are added at once.
+#[inline(always)]
+fn put_bare(
+    out: &mut Vec<u8>,
+    last: u64,
+    entry: &EntryView<'_>,
+    sent: u32,
+) -> Result<(), AllocError>
+    requires bare { IsTrue (is_bare last (entry_of entry.now)) }
+    requires shape { IsShaped (entry_of entry.now) }
+    requires sent { IsLengthIf (row entry.now.call.kind).entry.outgoing sent }
+    ensures ok { OnOk result (out.new.items ≡ out.old.items ++ framed_lead Two last sent (entry_of entry.now)) }
+    ensures err { OnErr result (out.new.items ≡ out.old.items) }
+{
+    let gap = entry.clock.wrapping_sub(last) as u8;
+    let thread = entry.thread as u8;
+    let kind = entry.call.kind.number();
+    let argument = entry.call.a0;
+    let reply = entry.reply as u8;
+    if argument < 128 {
+        let argument = argument as u8;
+        return put_bytes(out, &[6, gap, thread, kind, entry.signal, argument, reply]);
+    }
+    let low = 128 + (argument % 128) as u8;
+    let high = argument / 128;
+    if high < 128 {
+        let high = high as u8;
+        return put_bytes(out, &[7, gap, thread, kind, entry.signal, low, high, reply]);
+    }
+    let middle = 128 + (high % 128) as u8;
+    let high = high / 128;
+    if high < 128 {
+        let high = high as u8;
+        return put_bytes(
+            out,
+            &[8, gap, thread, kind, entry.signal, low, middle, high, reply],
+        );
+    }
+    put_small(out, last, entry, sent)
 }
 
 // Adds an entry of version 2 but for its outgoing bytes. The length of its body most likely takes one byte, which is put

@@ -1,22 +1,11 @@
-use Rattle.std.proofs.Common.{◌≡◌, ℕ, ◌+◌, ◌-◌, ◌<◌, List, [], ◌∷◌, ◌++◌, length, slice_set, ap, ◌∙◌, refl, sym, append_assoc, arith, length-append, rules}
+use Rattle.std.proofs.Common.{◌≡◌, ℕ, ◌+◌, ◌-◌, List, [], ◌∷◌, ◌++◌, length, slice_set, ap, ◌∙◌, sym, append_assoc, arith, length-append, rules}
 use Rattle.std.proofs.Math.Seq.{set-append_seam}
-use Rattle.std.proofs.lemmas.Bool.{lt-ltb}
 use Rattle.lib_calls.specs.declared.entry.Entry.{Entry}
 use Rattle.lib_calls.specs.Entry.{entry_of}
-use Rattle.fri_bytes.specs.Short.{short_bytes}
 use Rattle.call_log.specs.declared.version.Version.TheVariants.{Two}
-use Rattle.call_log.specs.inside.Parts.{framed_lead, lead_bytes}
+use Rattle.call_log.specs.inside.Parts.{lead_bytes}
+use Rattle.call_log.proofs.BareEntries.{behind_length}
 use Rattle.call_log.proofs.put.put_small.Goals as goal
-
-short_byte : (n : ℕ) → n < 128 → short_bytes n ≡ n ∷ []
-unfolding short_bytes
-short_byte n small = rw (lt-ltb n 128 small) refl
-
--- what is spelled of a short body, after the length of the whole
-behind_length : (last sent : ℕ) (e : Entry) (size : ℕ) → size ≡ length (lead_bytes Two last sent e) + sent → size < 128 → framed_lead Two last sent e ≡ size ∷ lead_bytes Two last sent e
-unfolding framed_lead
-behind_length last sent e size is small =
-    ap (λ (n : ℕ). short_bytes n ++ lead_bytes Two last sent e) (sym is) ∙ ap (λ (t : List ℕ). t ++ lead_bytes Two last sent e) (short_byte size small)
 
 -- the byte in front of what was added takes a number
 set_in : (old part mid new : List ℕ) (start size : ℕ) → mid ≡ old ++ 0 ∷ [] → new ≡ mid ++ part → start ≡ length old → slice_set new start size ≡ old ++ (size ∷ part)
