@@ -119,7 +119,7 @@ one_more f (Some x) y h = (x, refl, same_Some _ _ h)
 pub record IsAsked (S : State) (t : ℕ) (c : Call) (asked : PlainNeed) : Type 0 where
   pub fits : StateFits S
   pub call : Some c ≡ option_map (λ w. w.call) (able S t)
-  pub need : Some asked ≡ option_map (λ w. plain_need (need w.call.kind S t w.call)) (able S t)
+  pub need : asked ≡ plain_need (need c.kind S t c)
 
 -- the thread that stands there
 record StandsThere (S : State) (t : ℕ) (c : Call) (asked : PlainNeed) : Type 0 where
@@ -139,15 +139,12 @@ able_is S t w h = by_test (is_running S) h
 stands_there : (S : State) (t : ℕ) (c : Call) (asked : PlainNeed) → IsAsked S t c asked → StandsThere S t c asked
 stands_there S t c asked h =
     let at = one_more (λ w. w.call) (able S t) c h.call in
-    let needed = one_more (λ w. plain_need (need w.call.kind S t w.call)) (able S t) asked h.need in
-    let w = at.0 in
-    let same : needed.0 ≡ w = same_Some _ _ (sym needed.1 ∙ at.1) in
     record {
-      waiting = w;
+      waiting = at.0;
       able = at.1;
       call = sym at.2;
       kind = ap (λ (c : Call). c.kind) at.2;
-      need = needed.2 ∙ ap (λ (w : Waiting). plain_need (need w.call.kind S t w.call)) same ∙ ap (λ (c : Call). plain_need (need w.call.kind S t c)) (sym at.2);
+      need = h.need ∙ ap (λ (call : Call). plain_need (need call.kind S t c)) at.2;
     }
 
 -- what is done with a value that is there only where a test holds

@@ -41,7 +41,7 @@ pub(crate) fn live_event<'a>(
         return None;
     }
     let call = process.pending(thread)?;
-    let need = process.need(thread)?;
+    let need = process.need(thread, call);
     let answer = answer_now(need, call, world, p)?;
     Some(EntryView {
         clock: next_clock(process.clock(), answer.tag),

@@ -6,7 +6,6 @@ ghost use Rattle.guest_process.specs.inside.Meanings.{state_of};
 
 use crate::body::Body;
 use crate::threads::narrow;
-use crate::waiting::Waiting;
 use lib_calls::{Call, Kind, REFUSED, good_arguments};
 
 /// What the answer to a pending call depends on.
@@ -21,22 +20,22 @@ pub enum Need {
 }
 
 impl<'m> Body<'m> {
-    /// What the answer to the thread's pending call depends on.
-    pub(crate) fn need(&self, thread: u16, waiting: &Waiting<'m>) -> Need
-        ensures { result ≡ plain_need (need waiting.now.call.kind (state_of self.now) thread waiting.now.call) }
+    /// What the answer to a call of the thread depends on.
+    pub(crate) fn need(&self, thread: u16, call: &Call) -> Need
+        ensures { result ≡ plain_need (need call.now.kind (state_of self.now) thread call.now) }
     {
-        match waiting.call.kind {
+        match call.kind {
             Kind::Begin | Kind::Exit | Kind::Note | Kind::Yield => Need::Fixed(0),
-            Kind::Print => self.replied(&waiting.call, waiting.call.a1),
+            Kind::Print => self.replied(call, call.a1),
             Kind::Now | Kind::SleepUntil => Need::World,
-            Kind::Random | Kind::Recv | Kind::TryRecv => self.asked(&waiting.call),
-            Kind::Send => self.replied(&waiting.call, waiting.call.a2),
+            Kind::Random | Kind::Recv | Kind::TryRecv => self.asked(call),
+            Kind::Send => self.replied(call, call.a2),
             Kind::Me => Need::Fixed(u64::from(self.who)),
-            Kind::Spawn => self.spawned(narrow(waiting.call.a0)),
-            Kind::Join => self.joined(thread, narrow(waiting.call.a0)),
-            Kind::Lock => self.locked(narrow(waiting.call.a0), thread),
-            Kind::Unlock => self.unlocked(narrow(waiting.call.a0), thread),
-            Kind::OnSignal => self.handled(narrow(waiting.call.a0), narrow(waiting.call.a1)),
+            Kind::Spawn => self.spawned(narrow(call.a0)),
+            Kind::Join => self.joined(thread, narrow(call.a0)),
+            Kind::Lock => self.locked(narrow(call.a0), thread),
+            Kind::Unlock => self.unlocked(narrow(call.a0), thread),
+            Kind::OnSignal => self.handled(narrow(call.a0), narrow(call.a1)),
             Kind::Thread => Need::Fixed(u64::from(thread)),
         }
     }

@@ -99,15 +99,11 @@ impl<'m> Process<'m> {
         }
     }
 
-    /// What the answer to the pending call of a thread depends on. `None` comes exactly where the
-    /// process is not running or the thread is not live.
-    pub fn need(&self, thread: u16) -> Option<Need>
-        ensures { result ≡ option_map (λ w. plain_need (need w.call.kind self.now thread w.call)) (able self.now thread) }
+    /// What the answer to a call depends on if the thread makes it.
+    pub fn need(&self, thread: u16, call: &Call) -> Need
+        ensures { result ≡ plain_need (need call.now.kind self.now thread call.now) }
     {
-        match self.able(thread) {
-            Some(waiting) => Some(self.body.need(thread, waiting)),
-            None => None,
-        }
+        self.body.need(thread, call)
     }
 
     // The thread with this number, where it is live and the process runs.

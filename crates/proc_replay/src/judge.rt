@@ -60,13 +60,12 @@ fn same_arguments(call: &Call, pending: &Call) -> bool
 
 // Whether some environment gives the answer.
 fn is_answer(process: &Process<'_>, call: &Call, entry: &EntryView<'_>) -> bool
-    requires { option_map (λ w. w.call) (able process.now entry.now.thread) ≡ Some call.now }
     ensures { result ≡ (checks_by call.now.kind process.now (entry_of entry.now) call.now (answer_of (entry_of entry.now))).reply }
 {
-    match process.need(entry.thread) {
-        Some(Need::Fixed(reply)) => entry.reply == reply && brings_nothing(entry),
-        Some(Need::World) => is_possible(process, call, entry),
-        Some(Need::Blocked) | None => false,
+    match process.need(entry.thread, call) {
+        Need::Fixed(reply) => entry.reply == reply && brings_nothing(entry),
+        Need::World => is_possible(process, call, entry),
+        Need::Blocked => false,
     }
 }
 
