@@ -9,7 +9,7 @@ use Rattle.lossy_net.specs.Network.{Traffic, no_traffic, nth_of, sent_by, traffi
 use Rattle.guest_signals.specs.Signals.{is_signal, most_signal}
 use Rattle.group_world.specs.History.{Act, Event, Deliver, Inject, Clock, Random, Signal, Kill, History, addressed_datagram, given, is_killed, is_pending, mailbox, one_if, pool, put_last_if, sends, supplied_bytes, taken_count, time, used_count}
 use Rattle.group_world.specs.Laws.{IsPossibleHistory, IsPossibleNext, Counting, IsCounted, sent_as}
-use Rattle.group_world.specs.World.{Surroundings, World, after_entry, has_pending, new_world, no_surroundings, sent_if, process_count, surroundings_of, took_if, with_act, without_signal, world_after}
+use Rattle.group_world.specs.World.{Surroundings, World, after_entry, new_world, no_surroundings, sent_if, process_count, surroundings_of, took_if, with_act, without_signal, world_after}
 use Rattle.group_world.proofs.ListEnds.{put_last_is}
 use Rattle.group_world.proofs.NetLemmas.{length-sent_if, length-took_if, length-with_delivered, nth_of-map, traffic_of-delivered, traffic_of-event, traffic_of-new, traffic_of-waiting}
 

@@ -4,11 +4,10 @@ ghost use Rattle.lib_calls.specs.Entry.{entry_of};
 ghost use Rattle.lib_calls.specs.Traffic.{drawn as drawn_of, is_sent as is_sent_of, is_taken as is_taken_of};
 ghost use Rattle.lossy_net.specs.Network.{first_waiting, kept_sent, mailbox_of, nth_of, sent_by};
 ghost use Rattle.guest_signals.specs.Signals.{most_signal};
-ghost use Rattle.group_world.specs.History.{Event, Deliver, Inject, Clock, Random, Signal, Kill, datagram as datagram_of};
+ghost use Rattle.group_world.specs.History.{Event, Deliver, Inject, Clock, Random, Signal, Kill};
 ghost use Rattle.group_world.specs.World.{has_pending, new_world, sent_if, process_count, surroundings_of, took_if, with_act};
 
 use crate::surroundings::Surroundings;
-use fri_bytes::Bytes;
 use lamport_tag::{Tag, write_tag};
 use lib_calls::{EntryView, is_sent, is_taken};
 use lossy_net::{Front, Net, SentBytes};
@@ -19,7 +18,6 @@ use std::marker::Model;
 /// see the network and what is around each process.
 #[derive(Drop)]
 pub struct World {
-    alloc: Global,
     count: u32,
     net: Net,
     surroundings: Vec<Surroundings>,
@@ -47,7 +45,6 @@ impl World {
             surroundings.push(Surroundings::new(alloc))?;
         }
         Ok(World {
-            alloc,
             count,
             net,
             surroundings,
@@ -145,8 +142,12 @@ impl World {
         if !is_sent(entry, self.count) {
             return Ok(());
         }
-        let bytes = datagram(self.alloc, p, entry)?;
-        self.net.add_sent(p, entry.call.a0 as u32, bytes)
+        let tag = write_tag(Tag {
+            sender: p,
+            clock: entry.clock,
+        });
+        self.net
+            .add_sent(p, entry.call.a0 as u32, &tag, entry.outgoing)
     }
 
     // Lets the datagram go that the event took, if it took one.
@@ -181,7 +182,6 @@ impl World {
         ensures err { OnErr result (self.new ≡ self.old) }
         ensures size { process_count self.new ≡ process_count self.old }
     {
-        let bytes = Bytes::from_slice(self.alloc, bytes)?;
         self.net.inject(p, bytes)
     }
 
@@ -224,19 +224,4 @@ impl World {
     {
         self.surroundings[p as usize].killed = true;
     }
-}
-
-// The datagram of a send of `p`: its tag, and what went out.
-fn datagram(alloc: Global, p: u32, entry: &EntryView<'_>) -> Result<Bytes, AllocError>
-    ensures { IfOk result (λ bytes. bytes ≡ datagram_of p (entry_of entry.now)) }
-{
-    let tag = Tag {
-        sender: p,
-        clock: entry.clock,
-    };
-    let tag = write_tag(tag);
-    let mut bytes = Vec::with_capacity(alloc, tag.len() + entry.outgoing.len())?;
-    bytes.extend_from_slice(&tag)?;
-    bytes.extend_from_slice(entry.outgoing)?;
-    Ok(Bytes::from_vec(bytes))
 }

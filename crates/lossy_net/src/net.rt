@@ -1,10 +1,9 @@
 // The network of a group.
-ghost use Rattle.std.specs.Prelude.{◌≡◌, ◌≢◌, ◌↔◌, ℕ, ◌<◌, ◌≤◌, [], length, replicate, IsTrue, IsNone, IfSome, IfOk, OnOk, OnErr, is_some, option_map};
+ghost use Rattle.std.specs.Prelude.{◌≡◌, ◌≢◌, ◌↔◌, ℕ, ◌<◌, ◌≤◌, [], ◌++◌, length, replicate, IsTrue, IsNone, IfSome, IfOk, OnOk, OnErr, is_some, option_map};
 ghost use Rattle.lossy_net.specs.Network.{Traffic, kept_sent, no_traffic, sent_by, mailbox_of, nth_of, with_sent, with_waiting, with_delivered, without_front, first_waiting, IsFirstWaiting};
 
 use crate::endpoint::Endpoint;
 use crate::shared::Shared;
-use fri_bytes::Bytes;
 use lamport_tag::{Tag, read_tag};
 use std::alloc::{AllocError, Global};
 use std::marker::Model;
@@ -62,16 +61,23 @@ impl Net {
         })
     }
 
-    /// Keeps a datagram that `p` sent to `to`. It waits nowhere until it is delivered.
-    pub fn add_sent(&mut self, p: u32, to: u32, bytes: Bytes) -> Result<(), AllocError>
+    /// Keeps a datagram that `p` sent to `to`, which is the tag and the payload behind it. It waits nowhere until it is
+    /// delivered.
+    pub fn add_sent(
+        &mut self,
+        p: u32,
+        to: u32,
+        tag: &[u8],
+        payload: &[u8],
+    ) -> Result<(), AllocError>
         requires sender { p < length self.old }
         requires receiver { to < length self.old }
         ensures ok { OnOk result (self.new
-            ≡ with_sent self.old p (record { to = to; bytes = bytes })) }
+            ≡ with_sent self.old p (record { to = to; bytes = tag.now ++ payload.now })) }
         ensures err { OnErr result (self.new ≡ self.old) }
         ensures processes { length self.new ≡ length self.old }
     {
-        let bytes = Shared::new(self.alloc, bytes)?;
+        let bytes = Shared::joined(self.alloc, tag, payload)?;
         self.endpoints[p as usize].add_sent(to, bytes)
     }
 
@@ -109,9 +115,9 @@ impl Net {
     }
 
     /// Puts bytes that no process sent at the end of the mailbox of `p`.
-    pub fn inject(&mut self, p: u32, bytes: Bytes) -> Result<(), AllocError>
+    pub fn inject(&mut self, p: u32, bytes: &[u8]) -> Result<(), AllocError>
         requires { p < length self.old }
-        ensures ok { OnOk result (self.new ≡ with_waiting self.old p bytes) }
+        ensures ok { OnOk result (self.new ≡ with_waiting self.old p bytes.now) }
         ensures err { OnErr result (self.new ≡ self.old) }
         ensures processes { length self.new ≡ length self.old }
     {

@@ -1,7 +1,6 @@
 // Datagrams that are delivered to their own sender, and very often.
 ghost use Rattle.std.specs.Prelude.{◌≡◌, ◌<◌, length};
 
-use fri_bytes::Bytes;
 use lamport_tag::Tag;
 use lossy_net::Net;
 use std::test::Fail;
@@ -31,7 +30,7 @@ fn takes(net: &mut Net, p: u32, tag: Option<Tag>, payload: &[u8]) -> bool
 fn a_process_sends_to_itself(rt: HostRuntime) -> Result<(), Fail> {
     let alloc = rt.alloc();
     let mut net = Net::new(alloc, 1)?;
-    net.add_sent(0, 0, Bytes::from_slice(alloc, PING)?)?;
+    net.add_sent(0, 0, PING, &[])?;
     assert!(rt; net.deliver(0, 1)?);
     assert!(rt; net.deliver(0, 1)?);
     assert!(rt; takes(&mut net, 0, Some(PING_TAG), b"ping"));
@@ -45,7 +44,8 @@ fn a_process_sends_to_itself(rt: HostRuntime) -> Result<(), Fail> {
 fn a_datagram_is_kept_once(rt: HostRuntime) -> Result<(), Fail> {
     let alloc = rt.alloc();
     let mut net = Net::new(alloc, 2)?;
-    net.add_sent(0, 1, Bytes::from_vec(vec![in alloc; 7; 60_000]?))?;
+    let payload = vec![in alloc; 7; 60_000]?;
+    net.add_sent(0, 1, &[], &payload)?;
     for _ in 0..100_000 {
         assert!(rt; net.deliver(0, 1)?);
     }
