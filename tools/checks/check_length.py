@@ -28,10 +28,10 @@ MOST = {
     "docs/lines.md": 2300,
     "docs/theorem.md": 900,
     "docs/proved.md": 5400,
-    "docs/performance.md": 400,
-    "docs/architecture.md": 3500,
+    "docs/performance.md": 520,
+    "docs/architecture.md": 3300,
     "docs/DECISIONS.md": 3400,
-    "docs/contributing.md": 2400,
+    "docs/contributing.md": 2470,
     "tools/README.md": 3850,
 }
 # The definitions that the main theorem reaches down to known words, and their lines.
