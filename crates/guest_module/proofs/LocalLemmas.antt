@@ -1,5 +1,5 @@
 -- What is kept of a function for its calls: its locals without the runs of count 0, and what its type says.
-use Rattle.std.proofs.Common.{◌≡◌, ℕ, Bool, true, false, List, [], ◌∷◌, ◌++◌, Option, Some, None, IsSomeAnd, option_and_then, option_map, if◌then◌else◌, length, nat_lt, replicate, slice_get, refl, sym, ap, ◌∙◌, subst, arith, All}
+use Rattle.std.proofs.Common.{◌≡◌, ℕ, Bool, true, false, List, [], ◌∷◌, ◌++◌, Option, Some, None, IsSomeAnd, option_and_then, option_map, if◌then◌else◌, length, nat_lt, nat_le, ◌&&◌, replicate, slice_get, refl, sym, ap, ◌∙◌, subst, arith, All}
 use Rattle.std.proofs.lemmas.Option.{get_or_from_slice_get, slice_get_within}
 use Rattle.std.specs.Option.{option_map_or}
 use Rattle.std.proofs.lemmas.Bool.Decides.{nat_tests}
@@ -43,6 +43,13 @@ module _ (m : Module) (o : Option Func) (f : Func) (row : CallRow) (at : o ≡ S
   -- what it keeps starts as the function's locals do
   pub row_zeros : zeros row.declared ≡ zeros f.locals
   row_zeros = ap (λ (row : CallRow). zeros row.declared) (sym same_row) ∙ zeros-filled f.locals
+
+  -- it is few where the function takes and declares few
+  pub row_few : row.few ≡ (nat_le row.takes 4 && nat_le (length (zeros f.locals)) 4)
+  row_few =
+      ap (λ (row : CallRow). row.few) (sym same_row)
+      ∙ ap (λ (row : CallRow). nat_le row.takes 4 && nat_le (length (zeros row.declared)) 4) same_row
+      ∙ ap (λ (values : List Value). nat_le row.takes 4 && nat_le (length values) 4) row_zeros
 
   -- of a valid module it has what the function's type says
   pub row_typed : (place : ℕ) → IsValid m → slice_get m.funcs place ≡ Some f → HasCallType m f row.takes row.gives

@@ -1,5 +1,5 @@
 // A function of the module as calls take it.
-ghost use Rattle.std.specs.Prelude.{◌≡◌, ◌<◌, IfNone, IfSome, None, Some, length, slice_get};
+ghost use Rattle.std.specs.Prelude.{◌≡◌, ◌<◌, IfNone, IfSome, None, Some, ◌&&◌, length, nat_le, slice_get};
 ghost use Rattle.guest_module.specs.Calls.{HasCallType};
 ghost use Rattle.wasm_types.specs.Code.{trees};
 ghost use Rattle.wasm_types.specs.Locals.{zeros};
@@ -82,12 +82,14 @@ fn callee_there<'m>(module: &'m ValidModule, place: usize) -> Callee<'m>
     Callee { func, declared }
 }
 
-/// A function of the module, with how many operands a call of it takes and the type of what that leaves.
+/// A function of the module, with how many operands a call of it takes, the type of what that leaves, and whether it takes
+/// few operands and declares few locals.
 #[derive(Drop)]
 pub struct Called<'m> {
     pub callee: Callee<'m>,
     pub takes: usize,
     pub gives: Option<ValType>,
+    pub few: bool,
 }
 
 /// The module's own function at this place, which there is, with what a call takes and gives.
@@ -96,6 +98,7 @@ pub fn called_at<'m>(module: &'m ValidModule, place: usize) -> Called<'m>
     requires { place < length (module_of «module».now).funcs }
     ensures own { slice_get (module_of «module».now).funcs place ≡ Some result.callee }
     ensures typed { HasCallType (module_of «module».now) result.callee result.takes result.gives }
+    ensures few { result.few ≡ (nat_le result.takes 4 && nat_le (length (zeros result.callee.locals)) 4) }
 {
     // Its `ensures` tells the proof that the module is valid.
     let _ = module.module();
@@ -105,5 +108,6 @@ pub fn called_at<'m>(module: &'m ValidModule, place: usize) -> Called<'m>
         callee,
         takes: row.takes,
         gives: row.gives,
+        few: row.few,
     }
 }

@@ -1,6 +1,7 @@
 // Modules that are known to be valid.
-ghost use Rattle.std.specs.Prelude.{◌≡◌, ◌<◌, IfOk, IfSome, Some, length, map, option_map, slice_get};
+ghost use Rattle.std.specs.Prelude.{◌≡◌, ◌<◌, IfOk, IfSome, Some, length, map, nat_le, option_map, slice_get};
 ghost use Rattle.wasm_types.specs.Context.{filled_runs};
+ghost use Rattle.wasm_types.specs.Locals.{zeros};
 ghost use Rattle.guest_module.specs.inside.CallRows.{call_rows, row_of};
 ghost use Rattle.guest_module.specs.Library.{importable, kind_at};
 ghost use Rattle.wasm_types.specs.Modules.{func, module_of};
@@ -17,13 +18,17 @@ use wasm_types::{Declared, Func, Import, Module, ValType, result_of, type_at};
 /// Of so many locals what they start as is kept, in all of a module.
 const MOST_KEPT_LOCALS: usize = 1_048_576;
 
-/// What calls of one of the module's own functions look up: the locals that it declares, how many operands a call takes, and
-/// the type of what it leaves.
+/// So few values are copied one by one.
+const FEW: usize = 4;
+
+/// What calls of one of the module's own functions look up: the locals that it declares, how many operands a call takes,
+/// the type of what it leaves, and whether it takes few operands and declares few locals.
 #[derive(Drop)]
 pub(crate) struct CallRow {
     pub(crate) declared: Declared,
     pub(crate) takes: usize,
     pub(crate) gives: Option<ValType>,
+    pub(crate) few: bool,
 }
 
 /// A module that is valid. Contracts see it as its module.
@@ -110,17 +115,26 @@ fn row_of(module: &Module, function: &Func, declared: Declared) -> CallRow
     requires { declared ≡ filled_runs (func function.now).locals }
     ensures { result ≡ row_of (module_of «module».now) (func function.now) }
 {
-    match type_at(module, function.type_index) {
-        Some(typing) => CallRow {
-            declared,
-            takes: typing.params.len(),
-            gives: result_of(typing),
-        },
-        None => CallRow {
-            declared,
-            takes: 0,
-            gives: None,
-        },
+    let (takes, gives) = match type_at(module, function.type_index) {
+        Some(typing) => (typing.params.len(), result_of(typing)),
+        None => (0, None),
+    };
+    let few = takes <= FEW && declares_few(&declared);
+    CallRow {
+        declared,
+        takes,
+        gives,
+        few,
+    }
+}
+
+// Whether a function declares few locals.
+fn declares_few(declared: &Declared) -> bool
+    ensures { result ≡ nat_le (length (zeros declared.now)) 4 }
+{
+    match declared.count() {
+        Some(count) => count <= FEW,
+        None => false,
     }
 }
 

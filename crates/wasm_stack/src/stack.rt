@@ -656,7 +656,7 @@ fn keeps_limits(frames: usize, operands: usize, labels: usize, locals: usize, mo
 pub(crate) const MOST_FRAMES: usize = 512;
 
 /// Room is made for so many operands at a time.
-const ROOM: usize = 512;
+const ROOM: usize = 2048;
 
 #[inline(always)]
 fn one_less(n: usize) -> usize

@@ -99,7 +99,7 @@ pub(crate) fn call_in_place<'m>(thread: &mut Stack<'m>, module: &'m ValidModule,
     ensures same { result ≡ false → thread.new ≡ thread.old }
 {
     let called = own_called(module, index);
-    if has_few(&called) {
+    if called.few {
         thread.enter_within(index, called, 0, true)
     } else {
         enter_many(thread, index, called, 0)
@@ -144,7 +144,7 @@ pub(crate) fn call_indirect_in_place<'m>(
     if !has_type(module.module(), &called.callee, type_index) {
         return false;
     }
-    if has_few(&called) {
+    if called.few {
         thread.enter_within(index, called, 1, true)
     } else {
         enter_many(thread, index, called, 1)
@@ -288,6 +288,7 @@ fn own_called<'m>(module: &'m ValidModule, index: u32) -> Called<'m>
     requires past { length (module_of «module».now).imports ≤ index }
     requires there { index - length (module_of «module».now).imports < length (module_of «module».now).funcs }
     ensures types { HasOwnType (module_of «module».now) index result.callee }
+    ensures few { IsTrue result.few → (result.takes ≤ 4) × (length (zeros result.callee.locals) ≤ 4) }
     ensures calls { (t : Thread) → call (module_of «module».now) index t
         ≡ frame_goes_on t (called_with (arguments result.takes t) result.takes t index result.callee result.gives) }
 {
@@ -314,20 +315,6 @@ fn has_equal_type(module: &Module, callee: &Callee<'_>, type_index: u32) -> bool
     };
     match type_at(module, type_index) {
         Some(wanted) => is_same_type(typing, wanted),
-        None => false,
-    }
-}
-
-/// So many values are copied one by one.
-const FEW: usize = 4;
-
-// Whether a frame takes so few arguments and declared locals that each is copied by itself.
-#[inline(always)]
-fn has_few(called: &Called<'_>) -> bool
-    ensures { IsTrue result → (called.now.takes ≤ 4) × (length (zeros called.now.callee.locals) ≤ 4) }
-{
-    match called.callee.declared().starts() {
-        Some(starts) => starts.len() <= FEW && called.takes <= FEW,
         None => false,
     }
 }

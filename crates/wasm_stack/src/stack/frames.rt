@@ -10,7 +10,7 @@ ghost use Rattle.wasm_stack.specs.Control.{leave_with_top};
 use super::{MOST_FRAMES, Stack, StackFrame, push_to};
 use guest_module::{Called, Callee};
 use std::alloc::AllocError;
-use wasm_types::{MOST_THREAD_SIZE, Slot, ValType};
+use wasm_types::{Slot, ValType};
 
 impl<'m> Stack<'m> {
     /// A function at its start, with these arguments.
@@ -95,8 +95,8 @@ impl<'m> Stack<'m> {
         };
         let height = self.operands.len() - above;
         let locals_from = self.locals.len();
-        let left = MOST_THREAD_SIZE - self.labels.len() - locals_from;
-        if left - height < starts.len()
+        let room = self.room;
+        if room < height + starts.len()
             || self.locals.capacity() - locals_from < n + starts.len()
             || self.callers.len() + 1 >= MOST_FRAMES
             || self.callers.len() >= self.callers.capacity()
@@ -112,7 +112,7 @@ impl<'m> Stack<'m> {
         self.here.bottom = first;
         self.here.func = index;
         self.here.gives = called.gives;
-        self.room = (left - starts.len() - n).min(self.operands.capacity());
+        self.room = room - (n + starts.len());
         append_reserved(&mut self.locals, &self.operands[first..height], few);
         append_reserved(&mut self.locals, starts, few);
         self.operands.truncate(first);
