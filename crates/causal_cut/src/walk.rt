@@ -34,9 +34,7 @@ pub(crate) fn walk(
     let mut clocks = Clocks::none(alloc, numbers.len())?;
     let mut asks = Vec::new(alloc);
     'events: loop {
-        let (next, event) = here.forward()?;
-        here = next;
-        let Some(event) = event else {
+        let Some(event) = here.forward()? else {
             let counts = clocks.counts(alloc)?;
             return Ok(Walked { asks, counts });
         };

@@ -36,8 +36,7 @@ pub(crate) fn watch(alloc: Global, group: Group<'_, '_>) -> Result<Watched, Allo
     let mut last = eval(&watchpoint, &here, &NoVariables);
     let mut firings = 0;
     'positions: loop {
-        let (next, event) = here.forward()?;
-        here = next;
+        let event = here.forward()?;
         let events = here.position();
         if event.is_none() {
             return Ok(Watched {

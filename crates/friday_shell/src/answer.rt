@@ -23,26 +23,23 @@ use std::alloc::{AllocError, Global};
 use std::sync::ledger::Ledger;
 use watch_expr::Steps;
 
-/// What a command answers, whose line without outer blanks is this, and where the group then is.
-pub(crate) fn perform<'m, 'a, L: Ledger>(
+/// Does a command, whose line without outer blanks is this, and gives what it answers.
+pub(crate) fn perform<L: Ledger>(
     alloc: Global,
-    group: Group<'m, 'a>,
+    group: &mut Group<'_, '_>,
     kept: &mut PointsAndVariables,
     line: &[u8],
     command: DebuggerCommand,
     steps: &mut Steps<L>,
-) -> Result<(Group<'m, 'a>, Text), AllocError>
-    ensures answer { IfOk result (λ done.
-        PerformsCommand (command_answer (state_with group.entry kept.old) line.now (command_meant command)) (state_with done.0 kept.new) done.1) }
-    ensures start { IfOk result (λ done. done.0.start ≡ group.entry.start) }
-    ensures ticks { IfOk result (λ done. steps.new ≡ steps.old + command_ticks (state_with group.entry kept.old) (command_meant command) done.0.at) }
+) -> Result<Text, AllocError>
+    ensures answer { IfOk result (
+        PerformsCommand (command_answer (state_with group.old kept.old) line.now (command_meant command)) (state_with group.new kept.new)) }
+    ensures start { OnOk result (group.new.start ≡ group.old.start) }
+    ensures ticks { OnOk result (steps.new ≡ steps.old + command_ticks (state_with group.old kept.old) (command_meant command) group.new.at) }
 {
     match command {
         DebuggerCommand::Moves(command) => go(alloc, group, kept, command, steps),
-        DebuggerCommand::Stays(command) => {
-            let text = stay(alloc, &group, kept, line, command)?;
-            Ok((group, text))
-        }
+        DebuggerCommand::Stays(command) => stay(alloc, group, kept, line, command),
     }
 }
 
@@ -54,8 +51,8 @@ fn stay(
     line: &[u8],
     command: StayCommand,
 ) -> Result<Text, AllocError>
-    ensures { IfOk result (λ text.
-        PerformsCommand (command_answer (state_with group.now kept.old) line.now (stay_command command)) (state_with group.now kept.new) text) }
+    ensures { IfOk result (
+        PerformsCommand (command_answer (state_with group.now kept.old) line.now (stay_command command)) (state_with group.now kept.new)) }
 {
     match command {
         StayCommand::Print(expression) => print(alloc, group, &kept.variables, &expression),
@@ -78,16 +75,16 @@ fn stay(
 }
 
 // What a command answers that moves the group.
-fn go<'m, 'a, L: Ledger>(
+fn go<L: Ledger>(
     alloc: Global,
-    group: Group<'m, 'a>,
+    group: &mut Group<'_, '_>,
     kept: &mut PointsAndVariables,
     command: MoveCommand,
     steps: &mut Steps<L>,
-) -> Result<(Group<'m, 'a>, Text), AllocError>
-    ensures answer { (line : List ℕ) → IfOk result (λ went.
-        PerformsCommand (command_answer (state_with group.entry kept.old) line (move_command command)) (state_with went.0 kept.new) went.1) }
-    ensures ticks { IfOk result (λ went. steps.new ≡ steps.old + command_ticks (state_with group.entry kept.old) (move_command command) went.0.at) }
+) -> Result<Text, AllocError>
+    ensures answer { (line : List ℕ) → IfOk result (
+        PerformsCommand (command_answer (state_with group.old kept.old) line (move_command command)) (state_with group.new kept.new)) }
+    ensures ticks { OnOk result (steps.new ≡ steps.old + command_ticks (state_with group.old kept.old) (move_command command) group.new.at) }
 {
     match command {
         MoveCommand::Goto(position) => go_to(alloc, group, position),
@@ -100,157 +97,129 @@ fn go<'m, 'a, L: Ledger>(
 }
 
 // Goes to a position.
-fn go_to<'m, 'a>(
-    alloc: Global,
-    group: Group<'m, 'a>,
-    position: u64,
-) -> Result<(Group<'m, 'a>, Text), AllocError>
-    ensures { (kept : Kept) → IfOk result (λ went. PerformsCommand (command_answer (state_with group.entry kept) [] (Goto position)) (state_with went.0 kept) went.1) }
+fn go_to(alloc: Global, group: &mut Group<'_, '_>, position: u64) -> Result<Text, AllocError>
+    ensures { (kept : Kept) → IfOk result (PerformsCommand (command_answer (state_with group.old kept) [] (Goto position)) (state_with group.new kept)) }
 {
-    let (group, there) = group.goto(alloc, position)?;
-    if there {
-        arrived(alloc, group)
+    if group.goto(alloc, position)? {
+        position_text(alloc, group)
     } else {
-        let text = refused(alloc, LineRefusal::NoPosition)?;
-        Ok((group, text))
+        refused(alloc, LineRefusal::NoPosition)
     }
 }
 
-// The line of the position of the group, which is there.
-fn arrived<'m, 'a>(alloc: Global, group: Group<'m, 'a>) -> Result<(Group<'m, 'a>, Text), AllocError>
-    ensures group { IfOk result (λ there. there.0 ≡ group.entry) }
-    ensures text { IfOk result (λ there. there.1 ≡ position_line group.entry) }
+// The line of the position of the group.
+fn position_text(alloc: Global, group: &Group<'_, '_>) -> Result<Text, AllocError>
+    ensures { IfOk result (λ text. text ≡ position_line group.now) }
 {
     let mut text = Text::new(alloc);
-    push_position(&mut text, &group)?;
-    Ok((group, text))
+    push_position(&mut text, group)?;
+    Ok(text)
 }
 
 // Goes so many positions forward, and at most to the end.
-fn step<'m, 'a>(
-    alloc: Global,
-    group: Group<'m, 'a>,
-    count: u64,
-) -> Result<(Group<'m, 'a>, Text), AllocError>
-    ensures { (kept : Kept) → IfOk result (λ went. PerformsCommand (command_answer (state_with group.entry kept) [] (Step count)) (state_with went.0 kept) went.1) }
+fn step(alloc: Global, group: &mut Group<'_, '_>, count: u64) -> Result<Text, AllocError>
+    ensures { (kept : Kept) → IfOk result (PerformsCommand (command_answer (state_with group.old kept) [] (Step count)) (state_with group.new kept)) }
 {
-    let group = advance(group, count)?;
-    arrived(alloc, group)
+    advance(group, count)?;
+    position_text(alloc, group)
 }
 
-// The group so many positions further, and at most at the end.
-fn advance<'m, 'a>(group: Group<'m, 'a>, count: u64) -> Result<Group<'m, 'a>, AllocError>
-    ensures { IfOk result (λ there. there ≡ place_at group.entry.start (min (group.entry.at + count) (length (events_of_replays group.entry.start)))) }
+// The same, without a word.
+fn advance(group: &mut Group<'_, '_>, count: u64) -> Result<(), AllocError>
+    ensures { OnOk result (group.new ≡ place_at group.old.start (min (group.old.at + count) (length (events_of_replays group.old.start)))) }
 {
-    let mut group = group;
+    let _ = group.position();
     let mut left = count;
     'steps: while left > 0 {
-        let (next, event) = group.forward()?;
-        group = next;
-        if event.is_none() {
-            return Ok(group);
+        if group.forward()?.is_none() {
+            return Ok(());
         }
         left -= 1;
     }
-    Ok(group)
+    Ok(())
 }
 
 // Goes so many positions back, and at most to position 0.
-fn back<'m, 'a>(
-    alloc: Global,
-    group: Group<'m, 'a>,
-    count: u64,
-) -> Result<(Group<'m, 'a>, Text), AllocError>
-    ensures { (kept : Kept) → IfOk result (λ went. PerformsCommand (command_answer (state_with group.entry kept) [] (Back count)) (state_with went.0 kept) went.1) }
+fn back(alloc: Global, group: &mut Group<'_, '_>, count: u64) -> Result<Text, AllocError>
+    ensures { (kept : Kept) → IfOk result (PerformsCommand (command_answer (state_with group.old kept) [] (Back count)) (state_with group.new kept)) }
 {
     let position = group.position().saturating_sub(count);
     go_to(alloc, group, position)
 }
 
 // Goes on to where a point fires, and over so many positions at most.
-fn go_on<'m, 'a, L: Ledger>(
+fn go_on<L: Ledger>(
     alloc: Global,
-    group: Group<'m, 'a>,
+    group: &mut Group<'_, '_>,
     kept: &mut PointsAndVariables,
     most: Option<u64>,
     steps: &mut Steps<L>,
-) -> Result<(Group<'m, 'a>, Text), AllocError>
-    ensures answer { IfOk result (λ went. PerformsCommand (command_answer (state_with group.entry kept.old) [] (Continue most)) (state_with went.0 kept.new) went.1) }
-    ensures ticks { IfOk result (λ went. steps.new ≡ steps.old + command_ticks (state_with group.entry kept.old) (Continue most) went.0.at) }
+) -> Result<Text, AllocError>
+    ensures answer { IfOk result (PerformsCommand (command_answer (state_with group.old kept.old) [] (Continue most)) (state_with group.new kept.new)) }
+    ensures ticks { OnOk result (steps.new ≡ steps.old + command_ticks (state_with group.old kept.old) (Continue most) group.new.at) }
 {
-    let (group, mut text) = kept
+    let mut text = kept
         .points
         .walk(alloc, group, &mut kept.variables, most, steps)?;
-    push_position(&mut text, &group)?;
-    Ok((group, text))
+    push_position(&mut text, group)?;
+    Ok(text)
 }
 
 // Goes back to where a point fired last.
-fn return_back<'m, 'a, L: Ledger>(
+fn return_back<L: Ledger>(
     alloc: Global,
-    group: Group<'m, 'a>,
+    group: &mut Group<'_, '_>,
     kept: &PointsAndVariables,
     steps: &mut Steps<L>,
-) -> Result<(Group<'m, 'a>, Text), AllocError>
-    ensures answer { IfOk result (λ went. PerformsCommand (command_answer (state_with group.entry kept.now) [] Rcontinue) (state_with went.0 kept.now) went.1) }
-    ensures ticks { OnOk result (steps.new ≡ steps.old + command_ticks (state_with group.entry kept.now) Rcontinue 0) }
+) -> Result<Text, AllocError>
+    ensures answer { IfOk result (PerformsCommand (command_answer (state_with group.old kept.now) [] Rcontinue) (state_with group.new kept.now)) }
+    ensures ticks { OnOk result (steps.new ≡ steps.old + command_ticks (state_with group.old kept.now) Rcontinue 0) }
 {
-    let (group, mut text) = kept.points.walk_back(alloc, group, steps)?;
-    push_position(&mut text, &group)?;
-    Ok((group, text))
+    let mut text = kept.points.walk_back(alloc, group, steps)?;
+    push_position(&mut text, group)?;
+    Ok(text)
 }
 
 // The last events up to the position, which are made once more.
-fn last_events<'m, 'a>(
-    alloc: Global,
-    group: Group<'m, 'a>,
-    count: u64,
-) -> Result<(Group<'m, 'a>, Text), AllocError>
-    ensures group { IfOk result (λ done. done.0 ≡ group.entry) }
-    ensures text { IfOk result (λ done. done.1 ≡ last_lines group.entry count) }
+fn last_events(alloc: Global, group: &mut Group<'_, '_>, count: u64) -> Result<Text, AllocError>
+    ensures group { OnOk result (group.new ≡ group.old) }
+    ensures text { IfOk result (λ text. text ≡ last_lines group.old count) }
 {
     let at = group.position();
     let from = at.saturating_sub(count);
-    let (group, _) = group.goto(alloc, from)?;
+    group.goto(alloc, from)?;
     let mut text = Text::new(alloc);
-    let group = write_events(group, from, at, &mut text)?;
-    Ok((group, text))
+    write_events(group, from, at, &mut text)?;
+    Ok(text)
 }
 
 // Writes the events from position `from`, where the group is, up to position `at`, as they are made.
-fn write_events<'m, 'a>(
-    group: Group<'m, 'a>,
+fn write_events(
+    group: &mut Group<'_, '_>,
     from: u64,
     at: u64,
     text: &mut Text,
-) -> Result<Group<'m, 'a>, AllocError>
-    requires begins { group.at ≡ from }
+) -> Result<(), AllocError>
+    requires begins { group.old.at ≡ from }
     requires before { from ≤ at }
-    requires within { at ≤ length (events_of_replays group.start) }
-    ensures group { IfOk result (λ there. there ≡ place_at group.entry.start at) }
-    ensures text { OnOk result (text.new ≡ text.old ++ event_lines group.entry.start (suc from) (drop from (take at (events_of_replays group.entry.start)))) }
+    requires within { at ≤ length (events_of_replays group.old.start) }
+    ensures group { OnOk result (group.new ≡ place_at group.old.start at) }
+    ensures text { OnOk result (text.new ≡ text.old ++ event_lines group.old.start (suc from) (drop from (take at (events_of_replays group.old.start)))) }
 {
-    let mut group = group;
     for position in from..at {
-        group = write_next(group, position + 1, text)?;
+        write_next(group, position + 1, text)?;
     }
-    Ok(group)
+    Ok(())
 }
 
 // Makes the next event, which there is and leads to this position, and writes it.
-fn write_next<'m, 'a>(
-    group: Group<'m, 'a>,
-    position: u64,
-    text: &mut Text,
-) -> Result<Group<'m, 'a>, AllocError>
-    requires next { position ≡ suc group.at }
-    requires within { position ≤ length (events_of_replays group.start) }
-    ensures { IfOk result (λ next. WritesNext group.entry next text.old text.new) }
+fn write_next(group: &mut Group<'_, '_>, position: u64, text: &mut Text) -> Result<(), AllocError>
+    requires next { position ≡ suc group.old.at }
+    requires within { position ≤ length (events_of_replays group.old.start) }
+    ensures { OnOk result (WritesNext group.old group.new text.old text.new) }
 {
-    let (group, event) = group.forward()?;
-    let Some(event) = event else {
+    let Some(event) = group.forward()? else {
         unreachable!();
     };
-    push_event_line(text, &group, position, &event)?;
-    Ok(group)
+    push_event_line(text, group, position, &event)
 }

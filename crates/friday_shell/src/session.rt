@@ -1,5 +1,5 @@
 // A session of the debugger.
-ghost use Rattle.std.specs.Prelude.{◌≡◌, ℕ, ◌+◌, ◌<◌, ◌≤◌, ◌^◌, IfOk, List, Ok, codes, length, true};
+ghost use Rattle.std.specs.Prelude.{◌≡◌, ℕ, ◌+◌, ◌<◌, ◌≤◌, ◌^◌, IfOk, OnOk, List, Ok, codes, length, true};
 ghost use Rattle.std.specs.Result.{IsOk};
 ghost use Rattle.conversation.specs.Talker.{is_quit};
 ghost use Rattle.group_state.specs.Place.{node_names};
@@ -89,12 +89,12 @@ impl<'m, 'a> Session<'m, 'a> {
         ensures ticks { IfOk result (λ said. steps.new ≡ steps.old + line_ticks self.entry line.now said.0.place.at) }
     {
         let Session {
-            group,
+            mut group,
             mut kept,
             names,
         } = self;
         let meant = read_line(alloc, line, &names)?;
-        let (group, text, goes) = answer_meant(alloc, group, &mut kept, line, meant, steps)?;
+        let (text, goes) = answer_meant(alloc, &mut group, &mut kept, line, meant, steps)?;
         let session = Session { group, kept, names };
         Ok((session, text, goes))
     }
@@ -107,27 +107,27 @@ impl<'m, 'a> Session<'m, 'a> {
     }
 }
 
-// What a line answers that was read so, where the group then is, and whether the session goes on.
-fn answer_meant<'m, 'a, L: Ledger>(
+// What a line answers that was read so, and whether the session goes on.
+fn answer_meant<L: Ledger>(
     alloc: Global,
-    group: Group<'m, 'a>,
+    group: &mut Group<'_, '_>,
     kept: &mut PointsAndVariables,
     line: &[u8],
     meant: Line,
     steps: &mut Steps<L>,
-) -> Result<(Group<'m, 'a>, Text, Go), AllocError>
-    ensures answer { IfOk result (λ said. IsLineAnswer (answer_of_meaning (state_with group.entry kept.old) (trimmed line.now) (meaning meant)) (state_with said.0 kept.new) said.1 said.2) }
-    ensures start { IfOk result (λ said. said.0.start ≡ group.entry.start) }
+) -> Result<(Text, Go), AllocError>
+    ensures answer { IfOk result (λ said. IsLineAnswer (answer_of_meaning (state_with group.old kept.old) (trimmed line.now) (meaning meant)) (state_with group.new kept.new) said.0 said.1) }
+    ensures start { OnOk result (group.new.start ≡ group.old.start) }
     ensures silent { meant ≡ Silent → IsOk result }
-    ensures ticks { IfOk result (λ said. steps.new ≡ steps.old + meaning_ticks (state_with group.entry kept.old) (meaning meant) said.0.at) }
+    ensures ticks { OnOk result (steps.new ≡ steps.old + meaning_ticks (state_with group.old kept.old) (meaning meant) group.new.at) }
 {
     match meant {
-        Line::Silent => Ok((group, Text::new(alloc), Go::On)),
-        Line::Refused(why) => Ok((group, refused(alloc, why)?, Go::On)),
+        Line::Silent => Ok((Text::new(alloc), Go::On)),
+        Line::Refused(why) => Ok((refused(alloc, why)?, Go::On)),
         Line::Does(command) => {
             let goes = go_after(&command);
-            let (group, text) = perform(alloc, group, kept, trimmed(line), command, steps)?;
-            Ok((group, text, goes))
+            let text = perform(alloc, group, kept, trimmed(line), command, steps)?;
+            Ok((text, goes))
         }
     }
 }

@@ -1,4 +1,5 @@
 pub mod FirstHead
+pub mod KnownMotions
 pub mod LeastEvent
 pub mod MergedOrder
 pub mod SendReceivers

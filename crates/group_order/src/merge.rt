@@ -1,5 +1,5 @@
 // Which process of a group comes next.
-ghost use Rattle.std.specs.Prelude.{◌≡◌, ◌<◌, None, IfOk, IfSome, length, replicate, slice_set};
+ghost use Rattle.std.specs.Prelude.{◌≡◌, ◌<◌, [], None, IfOk, IfSome, length, replicate, slice_set};
 ghost use Rattle.group_order.specs.Heads.{IsNextNode};
 
 use std::alloc::{AllocError, Global};
@@ -36,6 +36,13 @@ impl Merge {
     {
         let heads = Vec::from_elem(alloc, None, nodes as usize)?;
         Ok(Merge { heads })
+    }
+
+    /// No nodes are left.
+    pub fn clear(&mut self)
+        ensures { self.new ≡ [] }
+    {
+        self.heads.clear();
     }
 
     /// Gives a node this clock, or none.

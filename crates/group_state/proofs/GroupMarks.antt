@@ -15,6 +15,7 @@ use Rattle.guest_process.specs.Marks.{UnmarkedStays}
 use Rattle.guest_process.specs.Next.{next}
 use Rattle.guest_process.specs.OneEvent.{IsKeptByEvents, Rises as AreRising}
 use Rattle.guest_process.specs.State.{State}
+use Rattle.group_order.specs.Motions.{Motions, nth_position, position_of}
 use Rattle.group_order.specs.Order.{NodeEvent}
 use Rattle.proc_replay.specs.Replaying.{Replaying}
 use Rattle.watch_expr.specs.declared.reads.Place.{Place as Location}
@@ -23,7 +24,7 @@ use Rattle.watch_expr.specs.Reads.{AreMemories, SameAtPlace, SamePage}
 use Rattle.watch_expr.specs.View.{Node, ◌>>=◌}
 use Rattle.page_watch.specs.Touch.{MarksTell, node_of}
 use Rattle.group_state.specs.Laws.{IsStepOfGroup}
-use Rattle.group_state.specs.inside.Motions.{AreMotions, Motions, nth_position, position_of, positions, positions_from}
+use Rattle.group_state.specs.inside.Motions.{AreMotions, positions, positions_from}
 use Rattle.group_state.specs.Moves.{last_event_of}
 use Rattle.group_state.specs.Place.{AreGroupReplays, ReplaysFit, GroupPlace, events_of_replays, states_of_nodes}
 use Rattle.group_state.specs.Nodes.{nodes_at, seen_node, signed_global}

@@ -14,13 +14,14 @@ use Rattle.guest_process.specs.Marks.{UnmarkedStays}
 use Rattle.guest_process.specs.Next.{next}
 use Rattle.guest_process.specs.OneEvent.{IsKeptByEvents, Rises as AreRising}
 use Rattle.guest_process.specs.State.{State}
+use Rattle.group_order.specs.Motions.{nth_position}
 use Rattle.group_order.specs.Order.{NodeEvent}
 use Rattle.proc_replay.specs.Replaying.{Replaying}
 use Rattle.watch_expr.specs.declared.reads.Place.{Place as Location}
 use Rattle.watch_expr.specs.declared.reads.Place.TheVariants as location
 use Rattle.page_watch.specs.Touch.{node_of}
 use Rattle.group_state.specs.Laws.{IsStepOfGroup}
-use Rattle.group_state.specs.inside.Motions.{nth_position, positions}
+use Rattle.group_state.specs.inside.Motions.{positions}
 use Rattle.group_state.specs.Place.{AreGroupReplays, ReplaysFit, events_of_replays, states_of_nodes}
 use Rattle.group_state.specs.Touch.{is_touched_by, is_touched_in, mark_of_place, mark_in, is_touched_at}
 use Rattle.group_state.proofs.NodeMoves.{one_more_other, one_more_own}

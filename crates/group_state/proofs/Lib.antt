@@ -5,6 +5,7 @@ pub mod ReplayEnds
 pub mod AheadInOrder
 pub mod GroupSteps
 pub mod NodeMoves
+pub mod NoLogs
 pub mod LastTouches
 pub mod GroupMarks
 pub mod NodeEvents

@@ -6,23 +6,12 @@ use Rattle.std.proofs.lemmas.Bool.Decides.{nat_tests}
 use Rattle.std.proofs.lemmas.List.{replicate-append-replicate, take_more, take-take}
 use Rattle.std.proofs.lemmas.Option.{get_or_from_slice_get}
 use Rattle.lib_calls.specs.declared.entry.Entry.{Entry}
+use Rattle.group_order.specs.Motions.{Motions, no_motions, with_motion}
 use Rattle.group_order.specs.Order.{NodeEvent}
 use Rattle.proc_replay.specs.Replaying.{Replaying}
-use Rattle.group_state.specs.inside.Motions.{AreMotions, Motions, motions_from, no_motions, positions, positions_from, with_motion}
+use Rattle.group_state.specs.inside.Motions.{AreMotions, motions_from, positions, positions_from}
 use Rattle.group_state.specs.Place.{events_of_replays}
 use Rattle.group_state.proofs.ReplaysAfter.{both}
-
--- one node more without an event
-pub one_more : (n : ℕ) (lists new : List (List ℕ)) → lists ≡ replicate n [] → new ≡ lists ++ [] ∷ [] → new ≡ replicate (suc n) []
-one_more n lists new are is =
-    let sum : n + 1 ≡ suc n = omega arith in
-    is ∙ ap (λ (l : List (List ℕ)). l ++ [] ∷ []) are ∙ replicate-append-replicate n 1 [] ∙ ap (λ k. replicate k []) sum
-
-pub added : (old : Motions) (node position : ℕ) (new : List (List ℕ)) → old.reached < position
-    → new ≡ set old.lists node (get_or old.lists node [] ++ position ∷ []) → record { reached = position; lists = new } ≡ with_motion old node position
-added old node position new later is =
-    let test : nat_lt old.reached position ≡ true = lt-ltb old.reached position later in
-    rw test (ap (λ (l : List (List ℕ)). record { reached = position; lists = l }) is)
 
 -- ---- one event more
 

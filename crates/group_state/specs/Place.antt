@@ -17,6 +17,9 @@ pub record GroupPlace : Type 0 where
   pub start : List Replaying
   pub at : ℕ
 
+abbrev pub no_logs : GroupPlace
+no_logs = record { start = []; at = 0 }
+
 -- the names of the processes
 abbrev pub node_names : List Replaying → List (List ℕ)
 node_names start = map (λ r. r.head.name) start

@@ -1,16 +1,15 @@
 // A group at a position.
-ghost use Rattle.std.specs.Prelude.{◌≡◌, ◌≤◌, ◌+◌, ◌-◌, ℕ, if◌then◌else◌, Some, None, IfOk, IsTrue, IsFalse, OnOk, ◌↔◌, length, map, nat_le, option_map, slice_get};
-ghost use Rattle.group_state.specs.Place.{AreGroupReplays, ReplaysFit, GroupPlace, events_of_replays, states_of_nodes};
+ghost use Rattle.std.specs.Prelude.{◌≡◌, ◌≤◌, ◌+◌, ◌-◌, ℕ, if◌then◌else◌, Some, None, IfOk, IsTrue, IsFalse, OnErr, OnOk, ◌↔◌, length, map, nat_le, option_map, slice_get};
+ghost use Rattle.group_state.specs.Place.{AreGroupReplays, ReplaysFit, GroupPlace, events_of_replays, no_logs, states_of_nodes};
 ghost use Rattle.group_state.specs.inside.At.{IsSoundCourse, place_of_course};
 ghost use Rattle.group_state.specs.Moves.{IsAtPosition, GroupMoves, event_of, last_event_of};
 
 use crate::checkpoints::Checkpoints;
 use crate::event::GroupEvent;
 use crate::forward::{head_of, take_turn};
-use crate::motions::Motions;
 use crate::stand::{Stand, merge_of};
 use crate::work::Counter;
-use group_order::Merge;
+use group_order::{Merge, Motions};
 use guest_process::Process;
 use lib_calls::Entry;
 use proc_replay::{Replayer, Turn};
@@ -21,8 +20,7 @@ use std::marker::Model;
 /// clock and then by node. Contracts see the replays at position 0, and the position.
 #[derive(Drop)]
 pub struct Group<'m, 'a> {
-    // Behind a box, since a group is moved at each event.
-    pub(crate) course: Box<Course<'m, 'a>>,
+    pub(crate) course: Course<'m, 'a>,
 }
 
 /// Where a group began, where it stands, and what it knows of the way.
@@ -72,6 +70,20 @@ impl<'m, 'a> Course<'m, 'a> {
         self.checkpoints.keep(self.alloc, &self.here)?;
         self.counter.count_event();
         Ok(true)
+    }
+
+    // Drops all logs.
+    fn clear(&mut self)
+        ensures sound { IsSoundCourse self.new }
+        ensures place { place_of_course self.new ≡ no_logs }
+    {
+        self.start.clear();
+        self.checkpoints.stands.clear();
+        self.here.replayers.clear();
+        self.here.at = 0;
+        self.here.last = None;
+        self.merge.clear();
+        self.motions.clear();
     }
 
     // The event that was made last, if one was made.
@@ -204,33 +216,41 @@ impl<'m, 'a> Group<'m, 'a> {
             motions,
             counter: Counter::new(),
         };
-        let course = Box::new(alloc, course)?;
         Ok(Group { course })
     }
 
-    /// The group after the next event, and that event. None comes exactly at the end, and the group is then
-    /// as it was.
-    pub fn forward(self) -> Result<(Group<'m, 'a>, Option<GroupEvent<'a>>), AllocError>
-        ensures { IfOk result (λ moved. GroupMoves self.entry moved.0 moved.1) }
+    /// Makes the next event, and gives it. None comes exactly at the end, and the group is then as it was. After want
+    /// of memory it has no logs.
+    pub fn forward(&mut self) -> Result<Option<GroupEvent<'a>>, AllocError>
+        ensures moves { IfOk result (GroupMoves self.old self.new) }
+        ensures dropped { OnErr result (self.new ≡ no_logs) }
     {
-        let Group { mut course } = self;
-        let made = course.step()?;
-        let event = course.last_if(made);
-        Ok((Group { course }, event))
+        match self.course.step() {
+            Ok(made) => Ok(self.course.last_if(made)),
+            Err(error) => {
+                self.course.clear();
+                Err(error)
+            }
+        }
     }
 
-    /// The group at position k, and true. False comes exactly where there are fewer than k events, and the
+    /// Goes to position k, and gives true. False comes exactly where there are fewer than k events, and the
     /// group is then as it was. It is replayed from where it is, or from the last checkpoint that is not past
-    /// the position.
-    pub fn goto(self, alloc: Global, k: u64) -> Result<(Group<'m, 'a>, bool), AllocError>
-        ensures { IfOk result (λ went. IsAtPosition self.entry k went.0 went.1) }
+    /// the position. After want of memory it has no logs.
+    pub fn goto(&mut self, alloc: Global, k: u64) -> Result<bool, AllocError>
+        ensures moves { IfOk result (IsAtPosition self.old k self.new) }
+        ensures dropped { OnErr result (self.new ≡ no_logs) }
     {
-        let Group { mut course } = self;
-        let there = course.goto(alloc, k)?;
-        Ok((Group { course }, there))
+        match self.course.goto(alloc, k) {
+            Ok(there) => Ok(there),
+            Err(error) => {
+                self.course.clear();
+                Err(error)
+            }
+        }
     }
 
-    // What is behind the box. The calls that show the group begin with it, so that each need not show again that it is sound.
+    // The calls that show the group begin with this, so that each need not show again that it is sound.
     pub(crate) fn course(&self) -> &Course<'m, 'a>
         ensures sound { IsSoundCourse result.now }
         ensures place { place_of_course result.now ≡ self.now }

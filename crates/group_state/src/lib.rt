@@ -23,7 +23,8 @@
 //! `specs/inside/Stands`), so a checkpoint whose memory is of another position is refused; how many there are and how far
 //! apart is in no clause. A checkpoint has no `Merge`: it is made anew from the heads of at most 16 replays (`merge_of`). A
 //! replay keeps what its next turn gives, so that the clock which the order asks for costs nothing: each entry is read and
-//! judged once. The positions at which nodes had their events are inside too (`specs/inside/Motions`).
+//! judged once. The `Motions` of group_order are the positions at which nodes had their events (`specs/inside/Motions`). An event
+//! takes the replay of its node, which is gone after want of memory there: a group then drops its logs (`no_logs`).
 //!
 //! A report (`Reporter`) is of the replays before their first events, and needs no order and no group, which would copy
 //! each process to go back to. It follows log after log to its end, so that no log's verdict depends on another. With the end
@@ -38,7 +39,6 @@ mod forward;
 mod group;
 mod image;
 pub mod laws;
-mod motions;
 mod one_replay;
 mod report;
 mod stand;

@@ -117,26 +117,25 @@ fn shown(group: &Group<'_, '_>) -> (u64, u64) {
     (group.position(), group.work().events)
 }
 
-// The group after it went to a position.
-fn go<'m>(
+// Goes to a position.
+fn go(
     alloc: Global,
-    group: Group<'m, 'm>,
+    group: &mut Group<'_, '_>,
     target: u64,
     ways: &mut Vec<Way>,
-) -> Result<Group<'m, 'm>, AllocError> {
-    let (_, before) = shown(&group);
-    let (group, _) = group.goto(alloc, target)?;
-    let (position, events) = shown(&group);
+) -> Result<(), AllocError> {
+    let (_, before) = shown(group);
+    group.goto(alloc, target)?;
+    let (position, events) = shown(group);
     ways.push((target, position, events.wrapping_sub(before)))?;
-    Ok(group)
+    Ok(())
 }
 
 // The ways of a group that goes to each of the positions.
-fn ways_of<'m>(alloc: Global, group: Group<'m, 'm>) -> Result<Vec<Way>, AllocError> {
+fn ways_of(alloc: Global, group: &mut Group<'_, '_>) -> Result<Vec<Way>, AllocError> {
     let mut ways = Vec::new(alloc);
-    let mut group = group;
     for (target, _, _) in WAYS {
-        group = go(alloc, group, *target, &mut ways)?;
+        go(alloc, group, *target, &mut ways)?;
     }
     Ok(ways)
 }
@@ -145,7 +144,7 @@ fn ways_of<'m>(alloc: Global, group: Group<'m, 'm>) -> Result<Vec<Way>, AllocErr
 fn a_group_goes_back_from_its_checkpoints(rt: HostRuntime) -> Result<(), Fail> {
     let mut files = files(&rt)?;
     let all = load(rt.alloc(), PAIRS, &mut files)?;
-    let ways = ways_of(rt.alloc(), begin(rt.alloc(), &all)?)?;
+    let ways = ways_of(rt.alloc(), &mut begin(rt.alloc(), &all)?)?;
     assert_eq!(rt; ways.as_slice(), WAYS);
     Ok(())
 }

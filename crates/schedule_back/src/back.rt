@@ -62,8 +62,8 @@ pub fn schedule_back(
     ensures bytes { IfOk result (λ _. IncomingAreBytes (events_of_replays replayers.entry.items)) }
 {
     let draft = begin(alloc, lines)?;
-    let group = Group::begin(alloc, replayers)?;
-    let (group, draft) = walk(alloc, group, draft)?;
+    let mut group = Group::begin(alloc, replayers)?;
+    let draft = walk(alloc, &mut group, draft)?;
     if let Some(process) = first_not_whole(&group) {
         return Err(BackError::NotWhole(process));
     }

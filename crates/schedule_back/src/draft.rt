@@ -1,5 +1,5 @@
 // The text of a schedule in the making.
-ghost use Rattle.std.specs.Prelude.{◌≡◌, ◌≤◌, ◌++◌, ◌∷◌, [], List, length, IfOk, nat_le, if◌then◌else◌, Some, None};
+ghost use Rattle.std.specs.Prelude.{◌≡◌, ◌≤◌, ◌++◌, ◌∷◌, [], List, length, IfOk, OnOk, nat_le, if◌then◌else◌, Some, None};
 ghost use Rattle.fri_bytes.specs.Laws.{AreBytes};
 ghost use Rattle.lib_calls.specs.declared.entry.Entry.{Entry as EntryOf};
 ghost use Rattle.group_order.specs.Order.{NodeEvent};
@@ -58,26 +58,23 @@ fn are_bytes(bytes: &[u8])
 {}
 
 /// Walks a group from position 0 to its end, and adds each event to the draft.
-pub(crate) fn walk<'m, 'a>(
+pub(crate) fn walk(
     alloc: Global,
-    group: Group<'m, 'a>,
+    group: &mut Group<'_, '_>,
     draft: Option<Text>,
-) -> Result<(Group<'m, 'a>, Option<Text>), AllocError>
-    requires { group.at ≡ 0 }
-    ensures start { IfOk result (λ walked. walked.0.start ≡ group.entry.start) }
-    ensures end { IfOk result (λ walked. walked.0.at ≡ length (events_of_replays group.entry.start)) }
-    ensures draft { IfOk result (λ walked. (lines : List LineOf) → IsDraft lines [] draft
-        → IsDraft lines (events_of_replays group.entry.start) walked.1) }
-    ensures bytes { IfOk result (λ _. IncomingAreBytes (events_of_replays group.entry.start)) }
+) -> Result<Option<Text>, AllocError>
+    requires { group.old.at ≡ 0 }
+    ensures start { OnOk result (group.new.start ≡ group.old.start) }
+    ensures end { OnOk result (group.new.at ≡ length (events_of_replays group.old.start)) }
+    ensures draft { IfOk result (λ longer. (lines : List LineOf) → IsDraft lines [] draft
+        → IsDraft lines (events_of_replays group.old.start) longer) }
+    ensures bytes { OnOk result (IncomingAreBytes (events_of_replays group.old.start)) }
 {
-    let mut here = group;
     let mut longer = draft;
     'events: loop {
-        let (next, event) = here.forward()?;
-        here = next;
-        let Some(event) = event else {
-            let _ = here.position();
-            return Ok((here, longer));
+        let Some(event) = group.forward()? else {
+            let _ = group.position();
+            return Ok(longer);
         };
         are_bytes(event.entry.incoming);
         longer = add(alloc, longer, &event)?;

@@ -40,52 +40,49 @@ impl Points {
     /// Goes to the last position before this one at which a point fires that has no program or one with a `stop` in it, and
     /// says what all say that fire there, or else goes to position 0. No program runs. Watchpoints are evaluated at position
     /// 0, which the counter does not count, and then where an event touched something that they read.
-    pub fn walk_back<'m, 'a, L: Ledger>(
+    pub fn walk_back<L: Ledger>(
         &self,
         alloc: Global,
-        group: Group<'m, 'a>,
+        group: &mut Group<'_, '_>,
         steps: &mut Steps<L>,
-    ) -> Result<(Group<'m, 'a>, Text), AllocError>
-        ensures returns { IfOk result (λ done. PointsReturn group.entry self.now done.0 done.1) }
-        ensures ticks { OnOk result (steps.new ≡ steps.old + watch_ticks group.entry.start (watched_expressions self.now) 0 (group.entry.at - 1)) }
+    ) -> Result<Text, AllocError>
+        ensures returns { IfOk result (PointsReturn group.old self.now group.new) }
+        ensures ticks { OnOk result (steps.new ≡ steps.old + watch_ticks group.old.start (watched_expressions self.now) 0 (group.old.at - 1)) }
     {
         let count = group.position().saturating_sub(1);
-        let (group, _) = group.goto(alloc, 0)?;
-        let (group, last) = last_firing(alloc, group, &self.held, count, steps)?;
-        let Return { at, text } = last;
-        let (group, _) = group.goto(alloc, at)?;
-        Ok((group, text))
+        group.goto(alloc, 0)?;
+        let last = last_firing(alloc, group, &self.held, count, steps)?;
+        group.goto(alloc, last.at)?;
+        Ok(last.text)
     }
 }
 
 // Where points fire last that may stop, among so many positions after position 0, at which the group is. What they said
 // before that is not kept.
-fn last_firing<'m, 'a, L: Ledger>(
+fn last_firing<L: Ledger>(
     alloc: Global,
-    group: Group<'m, 'a>,
+    group: &mut Group<'_, '_>,
     points: &[Point],
     count: u64,
     steps: &mut Steps<L>,
-) -> Result<(Group<'m, 'a>, Return), AllocError>
-    requires begins { group.at ≡ 0 }
-    requires within { count ≤ length (events_of_replays group.start) }
-    ensures start { IfOk result (λ done. done.0.start ≡ group.entry.start) }
-    ensures last { IfOk result (λ done. return_of done.1 ≡ return_from (place_at group.entry.start (suc count)) (map {A = Held} seen points.now)) }
-    ensures ticks { OnOk result (steps.new ≡ steps.old + watch_ticks group.entry.start (watched_expressions (map {A = Held} seen points.now)) 0 count) }
+) -> Result<Return, AllocError>
+    requires begins { group.old.at ≡ 0 }
+    requires within { count ≤ length (events_of_replays group.old.start) }
+    ensures start { OnOk result (group.new.start ≡ group.old.start) }
+    ensures last { IfOk result (λ last. return_of last ≡ return_from (place_at group.old.start (suc count)) (map {A = Held} seen points.now)) }
+    ensures ticks { OnOk result (steps.new ≡ steps.old + watch_ticks group.old.start (watched_expressions (map {A = Held} seen points.now)) 0 count) }
 {
     let mut text = Text::new(alloc);
     text.push_str("start\n")?;
     let mut last = Return { at: 0, text };
-    let mut group = group;
-    let mut watching = Watching::begin(alloc, points, &group)?;
+    let mut watching = Watching::begin(alloc, points, group)?;
     'positions: while group.position() < count {
-        let (next, _) = group.forward()?;
-        group = next;
-        let (now, said) = hear_event(alloc, points, watching, &group, steps)?;
+        group.forward()?;
+        let (now, said) = hear_event(alloc, points, watching, group, steps)?;
         last = later(last, group.position(), said);
         watching = now;
     }
-    Ok((group, last))
+    Ok(last)
 }
 
 // What points read after the event that led here, and what they say.

@@ -27,60 +27,58 @@ impl Points {
     /// so many positions at most, where that is given. Gives what points said on the way; their programs may have set variables.
     /// Each watchpoint is evaluated once where the walk begins, which the counter does not count, and then where an event
     /// touched something that it reads.
-    pub fn walk<'m, 'a, L: Ledger>(
+    pub fn walk<L: Ledger>(
         &self,
         alloc: Global,
-        group: Group<'m, 'a>,
+        group: &mut Group<'_, '_>,
         variables: &mut Vars,
         most: Option<u64>,
         steps: &mut Steps<L>,
-    ) -> Result<(Group<'m, 'a>, Text), AllocError>
-        ensures walks { IfOk result (λ done. PointsWalk group.entry self.now variables.old most done.0 variables.new done.1) }
-        ensures ticks { IfOk result (λ done. steps.new ≡ steps.old + watch_ticks group.entry.start (watched_expressions self.now) group.entry.at (done.0.at - group.entry.at)) }
+    ) -> Result<Text, AllocError>
+        ensures walks { IfOk result (PointsWalk group.old self.now variables.old most group.new variables.new) }
+        ensures ticks { OnOk result (steps.new ≡ steps.old + watch_ticks group.old.start (watched_expressions self.now) group.old.at (group.new.at - group.old.at)) }
     {
         let mut text = Text::new(alloc);
-        let group = walk_there(alloc, group, &self.held, variables, &mut text, most, steps)?;
-        Ok((group, text))
+        walk_there(alloc, group, &self.held, variables, &mut text, most, steps)?;
+        Ok(text)
     }
 }
 
-// The group there, what programs made of the variables on the way, and what was said.
-fn walk_there<'m, 'a, L: Ledger>(
+// Goes there. Programs may set variables on the way, and what is said is written.
+fn walk_there<L: Ledger>(
     alloc: Global,
-    group: Group<'m, 'a>,
+    group: &mut Group<'_, '_>,
     points: &[Point],
     variables: &mut Vars,
     text: &mut Text,
     most: Option<u64>,
     steps: &mut Steps<L>,
-) -> Result<Group<'m, 'a>, AllocError>
+) -> Result<(), AllocError>
     requires { text.old ≡ [] }
-    ensures walks { IfOk result (λ there. PointsWalk group.entry (map {A = Held} seen points.now) variables.old most there variables.new text.new) }
-    ensures ticks { IfOk result (λ there. steps.new ≡ steps.old + watch_ticks group.entry.start (watched_expressions (map {A = Held} seen points.now)) group.entry.at (there.at - group.entry.at)) }
+    ensures walks { OnOk result (PointsWalk group.old (map {A = Held} seen points.now) variables.old most group.new variables.new text.new) }
+    ensures ticks { OnOk result (steps.new ≡ steps.old + watch_ticks group.old.start (watched_expressions (map {A = Held} seen points.now)) group.old.at (group.new.at - group.old.at)) }
 {
     let _ = group.position();
-    let mut group = group;
-    let mut watching = Watching::begin(alloc, points, &group)?;
+    let mut watching = Watching::begin(alloc, points, group)?;
     let mut room = MOST_WALK_LINES;
     let mut left = most;
     'positions: loop {
-        if is_over(&group, left) {
-            push_last_word(text, &group)?;
-            return Ok(group);
+        if is_over(group, left) {
+            push_last_word(text, group)?;
+            return Ok(());
         }
-        let (next, _) = group.forward()?;
-        group = next;
+        group.forward()?;
         left = one_less(left);
-        let (now, treated) = meet_event(alloc, points, watching, &group, variables, steps)?;
+        let (now, treated) = meet_event(alloc, points, watching, group, variables, steps)?;
         watching = now;
         text.push_bytes(treated.text.bytes())?;
         if treated.stops {
-            return Ok(group);
+            return Ok(());
         }
         let lines = lines_in(&treated.text);
         if lines >= room {
             text.push_str("paused\n")?;
-            return Ok(group);
+            return Ok(());
         }
         room -= lines;
     }

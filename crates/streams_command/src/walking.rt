@@ -53,9 +53,7 @@ fn walk(alloc: Global, replayers: Vec<Replayer<'_, '_>>) -> Result<Told, AllocEr
     let mut here = Group::begin(alloc, replayers)?;
     let mut told = Told::nothing(alloc);
     'events: loop {
-        let (next, event) = here.forward()?;
-        here = next;
-        let Some(event) = event else {
+        let Some(event) = here.forward()? else {
             return Ok(told);
         };
         // The position bounds the counts.

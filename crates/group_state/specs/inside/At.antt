@@ -11,7 +11,7 @@ abbrev pub place_of_course : Course → GroupPlace
 place_of_course g = record { start = g.start.items; at = g.here.at }
 
 abbrev pub place_of_group : Inside → GroupPlace
-place_of_group g = place_of_course g.course.value
+place_of_group g = place_of_course g.course
 
 -- the group stands at its position and stood at its checkpoints, the heads are those of the position, and it knows the
 -- positions of each node's events up to it
@@ -26,4 +26,4 @@ pub record IsSoundCourse (g : Course) : Type 0 where
   pub been : g.here.at ≤ g.motions.reached
 
 abbrev pub IsSoundGroup : Inside → Type 0
-IsSoundGroup g = IsSoundCourse g.course.value
+IsSoundGroup g = IsSoundCourse g.course

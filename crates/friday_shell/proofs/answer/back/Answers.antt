@@ -9,10 +9,10 @@ use Rattle.friday_shell.proofs.answer.back.Goals as goal
 
 pub returns : goal.returns
 returns c = λ kept.
-    let state = state_with c.args.group kept in
+    let state = state_with c.args.group.now kept in
     let k = c.saturating_sub-position.result in
-    let same : k ≡ c.args.group.at - c.args.count = c.saturating_sub-position.ensures ∙ ap (λ (p : ℕ). p - c.args.count) c.position.ensures.position in
-    let below : k ≤ length (events_of_replays c.args.group.start) = omega (arith, same, c.position.ensures.within) in
-    let moved = subst (λ (b : Bool). IfOk c.go_to.result (λ went. PerformsCommand (cond b (arrives_at_position state [] k) (refuses_line state refusal.NoPosition)) (state_with went.0 kept) went.1))
+    let same : k ≡ c.args.group.now.at - c.args.count = c.saturating_sub-position.ensures ∙ ap (λ (p : ℕ). p - c.args.count) c.position.ensures.position in
+    let below : k ≤ length (events_of_replays c.args.group.now.start) = omega (arith, same, c.position.ensures.within) in
+    let moved = subst (λ (b : Bool). IfOk c.go_to.result (PerformsCommand (cond b (arrives_at_position state [] k) (refuses_line state refusal.NoPosition)) (state_with c.go_to.new.group kept)))
     (le-leb _ _ below) (c.go_to.ensures kept) in
-    subst (λ (p : ℕ). IfOk c.go_to.result (λ went. PerformsCommand (arrives_at_position state [] p) (state_with went.0 kept) went.1)) same moved
+    subst (λ (p : ℕ). IfOk c.go_to.result (PerformsCommand (arrives_at_position state [] p) (state_with c.go_to.new.group kept))) same moved

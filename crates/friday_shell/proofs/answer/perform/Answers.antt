@@ -5,4 +5,4 @@ use Rattle.friday_shell.proofs.answer.perform.Goals as goal
 
 pub returns-in-Moves-clause-start : goal.returns-in-Moves-clause-start
 returns-in-Moves-clause-start g c =
-    start_stays (state_with c.args.group c.args.kept.now) c.args.line.now (move_command c.in-Moves.command) c.go.result (λ done. state_with done.0 c.go.new.kept) (λ done. done.1) (c.go.ensures.answer c.args.line.now)
+    start_stays (state_with c.args.group.now c.args.kept.now) c.args.line.now (move_command c.in-Moves.command) c.go.result (state_with c.go.new.group c.go.new.kept) (c.go.ensures.answer c.args.line.now)

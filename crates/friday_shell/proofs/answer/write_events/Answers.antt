@@ -8,11 +8,11 @@ use Rattle.friday_shell.proofs.answer.write_events.Goals as goal
 pub loop-position-preserved : goal.loop-position-preserved
 loop-position-preserved c =
     let i = c.loop-position.invariant in
-    let start = c.args.group.start in
+    let start = c.args.group.now.start in
     let here = c.loop-position.group in
     let k = c.loop-position.position in
     let text = c.loop-position.text in
-    let made = c.in_ok-group.ensures in
+    let made = c.in_ok-write_next.ensures in
     let after : suc here.at ≡ k + 1 = omega (arith, i.at) in
     let found : slice_get (events_of_replays start) k ≡ Some made.event = (λ j. slice_get (events_of_replays (sym i.start j)) (sym i.at j)) ∙ made.gives in
     let line = made.written ∙ (λ j. text ++ event_line (i.start j) (after j) made.event) in

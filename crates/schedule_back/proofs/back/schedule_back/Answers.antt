@@ -14,10 +14,10 @@ returns-clause-answer c =
     let lines = c.args.lines.now in
     let start = c.args.replayers.items in
     let begun : c.in_ok-group.group.start ≡ start = ap (λ (p : GroupPlace). p.start) c.in_ok-group.ensures in
-    let walked : c.in_ok-group-2.group.start ≡ start = c.in_ok-group-2.ensures.start ∙ begun in
+    let walked : c.walk.new.group.start ≡ start = c.in_ok-draft-2.ensures.start ∙ begun in
     let whole : first_not_whole start ≡ None = ap first_not_whole (sym walked) ∙ sym c.first_not_whole.ensures ∙ c.in_default.is in
-    let draft : IsDraft lines (events_of_replays start) c.in_ok-group-2.draft = subst (λ (rs : List Replaying). IsDraft lines (events_of_replays rs) c.in_ok-group-2.draft) begun (c.in_ok-group-2.ensures.draft lines c.in_ok-draft.ensures) in
-    let count : c.position.result ≡ length (events_of_replays start) = c.position.ensures.position ∙ c.in_ok-group-2.ensures.end ∙ ap (λ (rs : List Replaying). length (events_of_replays rs)) begun in
+    let draft : IsDraft lines (events_of_replays start) c.in_ok-draft-2.draft = subst (λ (rs : List Replaying). IsDraft lines (events_of_replays rs) c.in_ok-draft-2.draft) begun (c.in_ok-draft-2.ensures.draft lines c.in_ok-draft.ensures) in
+    let count : c.position.result ≡ length (events_of_replays start) = c.position.ensures.position ∙ c.in_ok-draft-2.ensures.end ∙ ap (λ (rs : List Replaying). length (events_of_replays rs)) begun in
     let few : length (events_of_replays start) ≤ most_runs = omega (arith, c.if-position-gt-MOST_RUNS.false, count) in
     subst (λ r. MatchResult r (λ text. text_or_refusal lines start ≡ Ok text) (IsBackError (text_or_refusal lines start))) (sym c.ok_or.ensures.value)
-    (answers lines start c.in_ok-group-2.draft whole (sym c.first_bad_name.ensures ∙ c.in_default-first_bad_name.is) few draft)
+    (answers lines start c.in_ok-draft-2.draft whole (sym c.first_bad_name.ensures ∙ c.in_default-first_bad_name.is) few draft)

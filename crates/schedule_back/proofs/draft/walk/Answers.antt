@@ -6,15 +6,15 @@ use Rattle.schedule_back.proofs.draft.walk.Goals as goal
 
 pub returns-in_default-clause-draft : goal.returns-in_default-clause-draft
 returns-in_default-clause-draft c =
-    let moves = subst (λ (e : Option GroupEvent). GroupMoves c.events.here c.in_ok-next.next e) c.in_default.is c.in_ok-next.ensures in
-    (all_walked c.args.group c.events.here c.in_ok-next.next c.args.draft c.events.longer c.events.invariant moves).draft
+    let moves = subst (λ (e : Option GroupEvent). GroupMoves c.events.group c.forward.new.self e) c.in_default.is c.in_ok-event.ensures.moves in
+    (all_walked c.args.group.now c.events.group c.forward.new.self c.args.draft c.events.longer c.events.invariant moves).draft
 
 pub returns-in_default-clause-bytes : goal.returns-in_default-clause-bytes
 returns-in_default-clause-bytes c =
-    let moves = subst (λ (e : Option GroupEvent). GroupMoves c.events.here c.in_ok-next.next e) c.in_default.is c.in_ok-next.ensures in
-    (all_walked c.args.group c.events.here c.in_ok-next.next c.args.draft c.events.longer c.events.invariant moves).bytes
+    let moves = subst (λ (e : Option GroupEvent). GroupMoves c.events.group c.forward.new.self e) c.in_default.is c.in_ok-event.ensures.moves in
+    (all_walked c.args.group.now c.events.group c.forward.new.self c.args.draft c.events.longer c.events.invariant moves).bytes
 
 pub events-preserved : goal.events-preserved
 events-preserved c =
-    let moves = subst (λ (e : Option GroupEvent). GroupMoves c.events.here c.in_ok-next.next e) c.in-Some.is c.in_ok-next.ensures in
-    (one_walked c.args.group c.events.here c.in_ok-next.next c.in-Some.event c.args.draft c.events.longer c.in_ok-longer.longer c.events.invariant moves c.in_ok-longer.ensures c.are_bytes.ensures).0
+    let moves = subst (λ (e : Option GroupEvent). GroupMoves c.events.group c.forward.new.self e) c.in-Some.is c.in_ok-event.ensures.moves in
+    (one_walked c.args.group.now c.events.group c.forward.new.self c.in-Some.event c.args.draft c.events.longer c.in_ok-longer.longer c.events.invariant moves c.in_ok-longer.ensures c.are_bytes.ensures).0

@@ -17,40 +17,40 @@ positions-init g c = record {
   start = refl;
   within = omega arith;
   read = c.in_ok-watching.ensures;
-  last = begins_so c.args.group.start (map {A = Held} point c.args.points.now) c.args.group.at c.push_str.new.self c.requires.begins
+  last = begins_so c.args.group.now.start (map {A = Held} point c.args.points.now) c.args.group.now.at c.push_str.new.self c.requires.begins
       (c.in_ok-push_str.ensures.ok ∙ ap (λ (t : List ℕ). t ++ codes "start\n") c.new-text.ensures);
-  ticks = omega (arith, ap (watch_ticks c.args.group.start (watched_expressions (map {A = Held} point c.args.points.now)) 0) c.requires.begins);
+  ticks = omega (arith, ap (watch_ticks c.args.group.now.start (watched_expressions (map {A = Held} point c.args.points.now)) 0) c.requires.begins);
 }
 
 pub hear_event-requires-clause-moved : goal.hear_event-requires-clause-moved
 hear_event-requires-clause-moved g c =
     let old = c.positions.group in
-    let next = c.in_ok-next.next in
-    let went = goes_to c.args.group old next c.in_ok-next.field-0-1 c.args.count c.positions.invariant.start (omega arith) c.requires.within c.in_ok-next.ensures in
-    moved_on c.args.group.start old.at next went
+    let next = c.forward.new.self in
+    let went = goes_to c.args.group.now old next _ c.args.count c.positions.invariant.start (omega arith) c.requires.within c.in_ok-forward.ensures.moves in
+    moved_on c.args.group.now.start old.at next went
 
 pub hear_event-requires-clause-before : goal.hear_event-requires-clause-before
 hear_event-requires-clause-before g c =
     let old = c.positions.group in
-    let next = c.in_ok-next.next in
-    let went = goes_to c.args.group old next c.in_ok-next.field-0-1 c.args.count c.positions.invariant.start (omega arith) c.requires.within c.in_ok-next.ensures in
-    read_before c.args.group.start old.at (map {A = Held} point c.args.points.now) c.positions.watching next went c.positions.invariant.read
+    let next = c.forward.new.self in
+    let went = goes_to c.args.group.now old next _ c.args.count c.positions.invariant.start (omega arith) c.requires.within c.in_ok-forward.ensures.moves in
+    read_before c.args.group.now.start old.at (map {A = Held} point c.args.points.now) c.positions.watching next went c.positions.invariant.read
 
 pub positions-smaller : goal.positions-smaller
 positions-smaller g c =
     let old = c.positions.group in
-    let went = goes_to c.args.group old c.in_ok-next.next c.in_ok-next.field-0-1 c.args.count c.positions.invariant.start (omega arith) c.requires.within c.in_ok-next.ensures in
-    let at : c.in_ok-next.next.at ≡ suc old.at = ap (λ (p : GroupPlace). p.at) went in
+    let went = goes_to c.args.group.now old c.forward.new.self _ c.args.count c.positions.invariant.start (omega arith) c.requires.within c.in_ok-forward.ensures.moves in
+    let at : c.forward.new.self.at ≡ suc old.at = ap (λ (p : GroupPlace). p.at) went in
     omega (arith, at)
 
 pub positions-preserved : goal.positions-preserved
 positions-preserved g c =
     let i = c.positions.invariant in
-    let start = c.args.group.start in
+    let start = c.args.group.now.start in
     let old = c.positions.group in
-    let next = c.in_ok-next.next in
+    let next = c.forward.new.self in
     let ps = map {A = Held} point c.args.points.now in
-    let went = goes_to c.args.group old next c.in_ok-next.field-0-1 c.args.count i.start (omega arith) c.requires.within c.in_ok-next.ensures in
+    let went = goes_to c.args.group.now old next _ c.args.count i.start (omega arith) c.requires.within c.in_ok-forward.ensures.moves in
     let at : next.at ≡ suc old.at = ap (λ (p : GroupPlace). p.at) went in
     let same : next.start ≡ start = ap (λ (p : GroupPlace). p.start) went in
     record {

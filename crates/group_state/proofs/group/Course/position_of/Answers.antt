@@ -1,5 +1,5 @@
 use Rattle.std.proofs.Common.{◌∙◌, ap}
-use Rattle.group_state.specs.inside.Motions.{position_of}
+use Rattle.group_order.specs.Motions.{position_of}
 use Rattle.group_state.proofs.GroupMarks.{position_told}
 use Rattle.group_state.proofs.group.Course.position_of.Goals as goal
 

@@ -1,8 +1,7 @@
 use Rattle.std.proofs.Common.{◌∙◌, List, length, map, ap, arith, subst, sym}
 use Rattle.std.proofs.lemmas.List.Elements.{All-nil}
 use Rattle.proc_replay.specs.Replaying.{Replaying}
-use Rattle.group_state.specs.inside.At.{IsSoundCourse}
-use Rattle.group_state.specs.inside.Motions.{no_motions}
+use Rattle.group_order.specs.Motions.{no_motions}
 use Rattle.group_state.specs.Place.{ReplaysFit}
 use Rattle.group_state.specs.inside.Turns.{head_of_replay}
 use Rattle.group_state.specs.inside.Stands.{AreStands, IsStand}
@@ -19,7 +18,7 @@ merge_of-requires c =
 pub invariant_of-result : goal.invariant_of-result
 invariant_of-result c =
     let replayers = c.args.replayers.items in
-    subst IsSoundCourse (sym c.in_ok-course.ensures.ok) (record {
+    record {
       replayers = c.requires;
       fits = subst ReplaysFit c.deref.ensures.value c.in_ok-here.ensures.fits;
       few = few_events c.replays.ensures.turn replayers c.requires.within c.requires.few;
@@ -28,4 +27,4 @@ invariant_of-result c =
       kept = subst (AreStands replayers) (sym c.new.ensures) (All-nil (IsStand replayers));
       moved = first_motions replayers c.in_ok-motions.motions (c.in_ok-motions.ensures ∙ ap no_motions (c.len.ensures ∙ c.args.replayers.ok.0));
       been = omega (arith, c.in_ok-here.ensures.at);
-    })
+    }

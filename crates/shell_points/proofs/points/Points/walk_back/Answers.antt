@@ -12,20 +12,20 @@ use Rattle.shell_points.proofs.points.Points.walk_back.Goals as goal
 
 pub returns-clause-returns : goal.returns-clause-returns
 returns-clause-returns g c =
-    let first = c.args.group in
+    let first = c.args.group.now in
     let ps = map {A = Held} point c.deref.result.now in
     let held : ps ≡ c.args.self.now = ap (λ (l : List Held). map {A = Held} point l) c.deref.ensures.value ∙ c.self.view_is in
     let count = c.saturating_sub-count.result in
-    let r = return_of c.in_ok-group-2.last in
-    let begun = gone_to first c.in_ok-group.group 0 c.in_ok-group.field-0-1 (omega arith) c.in_ok-group.ensures in
-    let same : c.in_ok-group.group.start ≡ first.start = ap (λ (p : GroupPlace). p.start) begun in
-    let walked : c.in_ok-group-2.group.start ≡ first.start = c.in_ok-group-2.ensures.start ∙ same in
+    let r = return_of c.in_ok-last.last in
+    let begun = gone_to first c.goto.new.self 0 _ (omega arith) c.in_ok-goto.ensures.moves in
+    let same : c.goto.new.self.start ≡ first.start = ap (λ (p : GroupPlace). p.start) begun in
+    let walked : c.last_firing.new.group.start ≡ first.start = c.in_ok-last.ensures.start ∙ same in
     let front : count ≡ first.at - 1 = c.saturating_sub-count.ensures ∙ ap (λ (n : ℕ). n - 1) c.position.ensures.position in
     let within : count ≤ length (events_of_replays first.start) = omega (arith, front, c.position.ensures.within) in
-    let last : r ≡ return_from (place_at first.start (suc count)) ps = c.in_ok-group-2.ensures.last ∙ ap (λ (s : List Replaying). return_from (place_at s (suc count)) ps) same in
-    let below : r.at ≤ length (events_of_replays c.in_ok-group-2.group.start) =
+    let last : r ≡ return_from (place_at first.start (suc count)) ps = c.in_ok-last.ensures.last ∙ ap (λ (s : List Replaying). return_from (place_at s (suc count)) ps) same in
+    let below : r.at ≤ length (events_of_replays c.last_firing.new.group.start) =
     omega (arith, last_within first.start ps count (length (events_of_replays first.start)) r within last, ap (λ (s : List Replaying). length (events_of_replays s)) walked) in
-    let came : c.in_ok-group-3.group ≡ place_at first.start r.at =
-    gone_to c.in_ok-group-2.group c.in_ok-group-3.group r.at c.in_ok-group-3.field-0-1 below c.in_ok-group-3.ensures ∙ ap (λ (s : List Replaying). place_at s r.at) walked in
-    subst (λ (qs : List Point). PointsReturn first qs c.in_ok-group-3.group c.in_ok-group-2.last.text) held
-    (returns_there first c.in_ok-group-3.group ps count r c.in_ok-group-2.last.text front last came refl)
+    let came : c.goto-2.new.self ≡ place_at first.start r.at =
+    gone_to c.last_firing.new.group c.goto-2.new.self r.at _ below c.in_ok-goto-2.ensures.moves ∙ ap (λ (s : List Replaying). place_at s r.at) walked in
+    subst (λ (qs : List Point). PointsReturn first qs c.goto-2.new.self c.in_ok-last.last.text) held
+    (returns_there first c.goto-2.new.self ps count r c.in_ok-last.last.text front last came refl)

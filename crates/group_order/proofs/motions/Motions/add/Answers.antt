@@ -1,8 +1,8 @@
 use Rattle.std.proofs.Common.{◌<◌, [], ◌∷◌, ◌++◌, length, map, set, sym, ap, ◌∙◌, arith}
 use Rattle.std.proofs.lemmas.List.{get_or-map, length-map, map-set}
-use Rattle.group_state.specs.inside.Motions.{Motions}
-use Rattle.group_state.proofs.NodeMoves.{added}
-use Rattle.group_state.proofs.motions.Motions.add.Goals as goal
+use Rattle.group_order.specs.Motions.{Motions}
+use Rattle.group_order.proofs.KnownMotions.{added}
+use Rattle.group_order.proofs.motions.Motions.add.Goals as goal
 
 pub returns-in_ok-push : goal.returns-in_ok-push
 returns-in_ok-push c =

@@ -1,6 +1,6 @@
 // At which positions the nodes of a group had their events.
 ghost use Rattle.std.specs.Prelude.{◌≡◌, ◌<◌, IfOk, OnOk, length, slice_index_or};
-ghost use Rattle.group_state.specs.inside.Motions.{no_motions, position_of, with_motion};
+ghost use Rattle.group_order.specs.Motions.{no_motions, position_of, with_motion};
 
 use std::alloc::{AllocError, Global};
 use std::marker::Model;
@@ -8,13 +8,13 @@ use std::marker::Model;
 /// For each node the positions of its events, in order, up to the greatest position at which the group has been. Going back
 /// takes none of them away, since the position of an event never changes.
 #[derive(Drop)]
-pub(crate) struct Motions {
+pub struct Motions {
     reached: u64,
     of: Vec<Vec<u64>>,
 }
 
 impl Model for Motions {
-    ghost use Rattle.group_state.specs.inside.Motions.{Motions as Known};
+    ghost use Rattle.group_order.specs.Motions.{Motions as Known};
 
     ghost Value = { Known };
 
@@ -25,7 +25,7 @@ impl Model for Motions {
 
 impl Motions {
     /// So many nodes have had no event.
-    pub(crate) fn none(alloc: Global, nodes: usize) -> Result<Motions, AllocError>
+    pub fn none(alloc: Global, nodes: usize) -> Result<Motions, AllocError>
         ensures { IfOk result (λ motions. motions ≡ no_motions nodes) }
     {
         let mut of = Vec::new(alloc);
@@ -35,8 +35,16 @@ impl Motions {
         Ok(Motions { reached: 0, of })
     }
 
+    /// No nodes are left.
+    pub fn clear(&mut self)
+        ensures { self.new ≡ no_motions 0 }
+    {
+        self.of.clear();
+        self.reached = 0;
+    }
+
     /// The node had the event of this position, which is known where the group has been there.
-    pub(crate) fn add(&mut self, node: u32, position: u64) -> Result<(), AllocError>
+    pub fn add(&mut self, node: u32, position: u64) -> Result<(), AllocError>
         requires { node < length self.old.lists }
         ensures { OnOk result (self.new ≡ with_motion self.old node position) }
     {
@@ -48,14 +56,14 @@ impl Motions {
     }
 
     /// The greatest position at which the group has been.
-    pub(crate) fn reached(&self) -> u64
+    pub fn reached(&self) -> u64
         ensures { result ≡ self.now.reached }
     {
         self.reached
     }
 
     /// The position of the node's event of this number, from 1. It is 0 where there is none.
-    pub(crate) fn position(&self, node: u32, number: u64) -> u64
+    pub fn position(&self, node: u32, number: u64) -> u64
         ensures { result ≡ position_of self.now node number }
     {
         if number == 0 {
