@@ -59,7 +59,7 @@ pub record IsEntered (s : Inside) (func : Func) (above n first : ℕ) (here : St
   pub locals_are : locals.items ≡ (s.locals.items ++ take n (drop first s.operands.items)) ++ zeros func.locals
   pub callers_are : callers.items ≡ s.callers.items ++ s.here ∷ []
 
-module _ (s : Inside) (func : Func) (above n first : ℕ) (here : StackFrame) (operands locals : Vec Value Global) (callers : Vec StackFrame Global) (room : ℕ) (h : IsStack s) (e : IsEntered s func above n first here operands locals callers) where
+module _ (s : Inside) (func : Func) (above n first : ℕ) (here : StackFrame) (operands locals : Vec Value Global) (callers : Vec StackFrame Global) (room frames : ℕ) (h : IsStack s) (e : IsEntered s func above n first here operands locals callers) where
   abbrev args : List Value
   args = take n (drop first s.operands.items)
 
@@ -68,7 +68,7 @@ module _ (s : Inside) (func : Func) (above n first : ℕ) (here : StackFrame) (o
   cut = record s { operands = operands }
 
   abbrev now : Inside
-  now = record s { here = here; operands = operands; locals = locals; callers = callers; room = room }
+  now = record s { here = here; operands = operands; locals = locals; callers = callers; room = room; frames = frames }
 
   pub height : length operands.items ≡ first
   height = omega (arith, ap length e.operands_are, length-take-le first s.operands.items (omega (arith, e.split)), e.split)
@@ -106,8 +106,8 @@ module _ (s : Inside) (func : Func) (above n first : ℕ) (here : StackFrame) (o
   no_labels : drop here.labels_from s.labels.items ≡ []
   no_labels = drop_all here.labels_from s.labels.items (omega (arith, e.labels_from))
 
-  pub entered_sound : room ≤ operands.cap → room ≤ 16384 - (length s.labels.items + length locals.items) → IsStack now
-  entered_sound place limit =
+  pub entered_sound : room ≤ operands.cap → room ≤ 16384 - (length s.labels.items + length locals.items) → frames ≤ callers.cap → frames < 512 → IsStack now
+  entered_sound place limit frames_place frames_limit =
       let whole : AreFrameParts (s.here ∷ reverse s.callers.items) s.labels.items s.locals.items operands.items = (cut_sound.part, cut_sound.below) in
       let parts1 = subst (λ o. AreFrameParts o s.labels.items s.locals.items operands.items) (sym callers_now) whole in
       let parts2 = subst (λ o. AreFrameParts (reverse callers.items) o s.locals.items operands.items) (sym low_labels) parts1 in
@@ -121,7 +121,7 @@ module _ (s : Inside) (func : Func) (above n first : ℕ) (here : StackFrame) (o
           locals_in = omega (arith, e.locals_from, grown);
         };
         below = subst (λ o. AreFrameParts (reverse callers.items) (take here.labels_from s.labels.items) (take here.locals_from locals.items) o) (sym low_operands) parts3;
-        room = record { place = place; limit = limit };
+        room = record { place = place; limit = limit; frames_place = frames_place; frames_limit = frames_limit };
       }
 
   entered_here : entered_frame (thread_of cut) here.func (trees here.todo.now) (args ++ zeros func.locals) here.gives ≡ thread_of now

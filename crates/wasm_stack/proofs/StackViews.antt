@@ -43,7 +43,7 @@ pub IsSound-operands : (s : Inside) (w : Vec Value Global) → IsStack s → s.o
 IsSound-operands s w h cap k = record {
   part = record { top = k.top; cut = h.part.cut; labels_in = h.part.labels_in; locals_in = h.part.locals_in };
   below = subst (λ o. AreFrameParts (reverse s.callers.items) (take s.here.labels_from s.labels.items) (take s.here.locals_from s.locals.items) o) (sym (below_bottom s w.items h k)) h.below;
-  room = record { place = omega (arith, cap, h.room.place); limit = h.room.limit };
+  room = record { place = omega (arith, cap, h.room.place); limit = h.room.limit; frames_place = h.room.frames_place; frames_limit = h.room.frames_limit };
 }
 
 pub thread_of-operands : (s : Inside) (w : Vec Value Global) → IsStack s → KeepsBelow s w.items → thread_of (record s { operands = w }) ≡ record (thread_of s) { stack = reverse (drop s.here.floor w.items) }
@@ -368,7 +368,7 @@ module _ (s : Inside) (n : ℕ) (w : Vec StackLevel Global) (l : StackLevel) (h 
       record {
         part = subst (λ o. IsFramePart (record s.here { todo = l.todo; floor = l.floor }) o s.locals.items s.operands.items) (sym e) past.part;
         below = subst (λ o. AreFrameParts (reverse s.callers.items) o (take s.here.locals_from s.locals.items) (take s.here.bottom s.operands.items)) low h.below;
-        room = record { place = h.room.place; limit = omega (arith, h.room.limit, many) };
+        room = record { place = h.room.place; limit = omega (arith, h.room.limit, many); frames_place = h.room.frames_place; frames_limit = h.room.frames_limit };
       }
 
 -- the innermost frame is left
@@ -392,8 +392,8 @@ module _ (s : Inside) (v : Vec Value Global) (w : Vec StackLevel Global) (x : Ve
       ∙ ap (λ o. Some (thread_in f o locals v.items y.items)) (sym e.labels_is)
       ∙ ap (λ o. Some (thread_in f w.items o v.items y.items)) (sym e.locals_is)
 
-  pub left_sound : s.operands.cap ≤ v.cap → IsStack (record s { here = f; operands = v; labels = w; locals = x; callers = y })
-  left_sound cap =
+  pub left_sound : s.operands.cap ≤ v.cap → s.callers.cap ≤ y.cap → IsStack (record s { here = f; operands = v; labels = w; locals = x; callers = y })
+  left_sound cap frames =
       let labels = take s.here.labels_from s.labels.items in
       let locals = take s.here.locals_from s.locals.items in
       let ops = take s.here.bottom s.operands.items in
@@ -407,6 +407,8 @@ module _ (s : Inside) (v : Vec Value Global) (w : Vec StackLevel Global) (x : Ve
         room = record {
           place = omega (arith, h.room.place, cap);
           limit = omega (arith, h.room.limit, ap length e.labels_is, ap length e.locals_is, length-take s.here.labels_from s.labels.items, length-take s.here.locals_from s.locals.items);
+          frames_place = omega (arith, h.room.frames_place, frames);
+          frames_limit = h.room.frames_limit;
         };
       }
 
@@ -431,7 +433,7 @@ module _ (s : Inside) (here : StackFrame) (w : Vec StackLevel Global) (l : Stack
           locals_in = h.part.locals_in;
         };
         below = subst (λ o. AreFrameParts (reverse s.callers.items) o (take s.here.locals_from s.locals.items) (take s.here.bottom s.operands.items)) (sym below_now) h.below;
-        room = record { place = omega (arith, h.room.place, fewer); limit = omega (arith, h.room.limit, fewer, more) };
+        room = record { place = omega (arith, h.room.place, fewer); limit = omega (arith, h.room.limit, fewer, more); frames_place = h.room.frames_place; frames_limit = h.room.frames_limit };
       }
 
   pub opened_view : (room : ℕ) →

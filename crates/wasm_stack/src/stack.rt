@@ -57,6 +57,8 @@ pub struct Stack<'m> {
     callers: Vec<StackFrame<'m>>,
     /// With fewer operands than this, one more wants no memory and leaves the size within its limit.
     room: usize,
+    /// The same for the frames that wait.
+    frames: usize,
 }
 
 impl<'m> Model for Stack<'m> {
@@ -87,6 +89,7 @@ impl<'m> Stack<'m> {
             locals: self.locals.clone()?,
             callers: self.callers.clone()?,
             room: 0,
+            frames: 0,
         })
     }
 
@@ -188,7 +191,7 @@ impl<'m> Stack<'m> {
         true
     }
 
-    /// Takes the room that the operands' memory and the limit leave.
+    /// Takes the room that memory and the limits leave.
     #[inline(always)]
     pub fn find_room(&mut self)
         ensures { self.new ≡ self.old }
@@ -198,6 +201,7 @@ impl<'m> Stack<'m> {
             self.locals.len(),
             self.operands.capacity(),
         );
+        self.frames = self.callers.capacity().min(MOST_FRAMES - 1);
     }
 
     /// The topmost operand of the level, which stays.

@@ -1,5 +1,5 @@
 -- The stacks that the code keeps, and the thread that they stand for.
-use Rattle.std.specs.Prelude.{false, List, [], ◌∷◌, Option, is_some, ℕ, reverse, drop, take, ◌≡◌, ◌≤◌, length, ◌+◌, ◌-◌}
+use Rattle.std.specs.Prelude.{false, List, [], ◌∷◌, Option, is_some, ℕ, reverse, drop, take, ◌≡◌, ◌<◌, ◌≤◌, length, ◌+◌, ◌-◌}
 use Rattle.wasm_types.specs.declared.code.ValType.{ValType}
 use Rattle.wasm_types.specs.Code.{End, tree, trees, Trees}
 use Rattle.wasm_types.specs.Limits.{most_thread_size}
@@ -7,7 +7,7 @@ use Rattle.wasm_stack.specs.declared.stack.StackLevel.{StackLevel}
 use Rattle.wasm_types.specs.declared.code.Value.{Value}
 use Rattle.wasm_stack.specs.declared.stack.StackFrame.{StackFrame}
 use Rattle.wasm_stack.specs.declared.stack.Stack.TheInside.{Inside}
-use Rattle.wasm_stack.specs.Thread.{OpenedLevel, Level, Frame, Thread}
+use Rattle.wasm_stack.specs.Thread.{OpenedLevel, Level, Frame, Thread, most_frames}
 use Rattle.wasm_stack.specs.View.{opened_by}
 
 -- the innermost of a function's levels, with these around it: what the last of them opened, or the function's own
@@ -80,14 +80,16 @@ AreFrameParts (f ∷ fs) labels locals ops =
     IsFramePart f labels locals ops
     × AreFrameParts fs (take f.labels_from labels) (take f.locals_from locals) (take f.bottom ops)
 
--- with fewer operands than the room, one more has its place and keeps to the limit
-pub record HasOperandRoom (s : Inside) : Type 0 where
+-- with fewer operands than the room, one more has its place and keeps to the limit; so it is with the frames that wait
+pub record HasRoom (s : Inside) : Type 0 where
   pub place : s.room ≤ s.operands.cap
   pub limit : s.room ≤ most_thread_size - (length s.labels.items + length s.locals.items)
+  pub frames_place : s.frames ≤ s.callers.cap
+  pub frames_limit : s.frames < most_frames
 
 pub record IsStack (s : Inside) : Type 0 where
   pub part : IsFramePart s.here s.labels.items s.locals.items s.operands.items
   pub below :
       AreFrameParts (reverse s.callers.items) (take s.here.labels_from s.labels.items) (take s.here.locals_from s.locals.items)
       (take s.here.bottom s.operands.items)
-  pub room : HasOperandRoom s
+  pub room : HasRoom s

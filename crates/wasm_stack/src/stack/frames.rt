@@ -7,7 +7,7 @@ ghost use Rattle.wasm_stack.specs.Limits.{ThreadWithin};
 ghost use Rattle.wasm_stack.specs.After.{Ends, Goes, Stops};
 ghost use Rattle.wasm_stack.specs.Control.{leave_with_top};
 
-use super::{MOST_FRAMES, Stack, StackFrame, push_to};
+use super::{Stack, StackFrame, push_to};
 use guest_module::{Called, Callee};
 use std::alloc::AllocError;
 use wasm_types::{Slot, ValType};
@@ -40,6 +40,7 @@ impl<'m> Stack<'m> {
             locals,
             callers: Vec::new(alloc),
             room: 0,
+            frames: 0,
         })
     }
 
@@ -98,8 +99,7 @@ impl<'m> Stack<'m> {
         let room = self.room;
         if room < height + starts.len()
             || self.locals.capacity() - locals_from < n + starts.len()
-            || self.callers.len() + 1 >= MOST_FRAMES
-            || self.callers.len() >= self.callers.capacity()
+            || self.callers.len() >= self.frames
         {
             return false;
         }

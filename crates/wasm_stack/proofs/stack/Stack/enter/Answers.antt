@@ -43,11 +43,11 @@ module _ (c : After-len-self-inside) where
 pub invariant_of-self-2 : goal.invariant_of-self-2
 invariant_of-self-2 c =
     let c' = (goal.at.invariant_of-self-2 c).After-len-self-inside in
-    entered_sound _ _ _ _ _ _ _ _ _ 0 c'.self.invariant (frame c') (omega arith) (omega arith)
+    entered_sound _ _ _ _ _ _ _ _ _ 0 _ c'.self.invariant (frame c') (omega arith) (omega arith) (omega (arith, c'.self.invariant.room.frames_place, c'.in_ok-push_to.ensures.capacity)) c'.self.invariant.room.frames_limit
 
 pub returns : goal.returns
 returns c =
     let c' = (goal.at.returns c).After-len-self-inside in
     ap (λ (t : Thread). called_with (arguments c.args.n t) c.args.n t c.args.index c.args.callee c.args.gives) (sym c.self.view_is)
-    ∙ entered_view _ _ _ _ _ _ _ _ _ 0 c'.self.invariant (frame c')
+    ∙ entered_view _ _ _ _ _ _ _ _ _ 0 0 c'.self.invariant (frame c')
     ∙ ap Some (sym c.find_room.ensures)

@@ -64,25 +64,27 @@ module _ (c : After-truncate) where
   starts = ap length (c.in-Some.ensures ∙ c.declared.ensures)
 
   grown_now : length c.append_reserved-2.new.items.items ≡ length c.self.inside.locals.items + c.args.called.takes + length (zeros c.args.called.callee.locals)
-  grown_now = grown _ _ _ _ _ _ _ _ _ 0 c.self.invariant frame
+  grown_now = grown _ _ _ _ _ _ _ _ _ 0 0 c.self.invariant frame
 
   size : length c.truncate.new.self.items + length c.self.inside.labels.items + length c.append_reserved-2.new.items.items ≤ 16384
   size =
-      omega (arith, height_of _ _ _ _ _ _ _ _ _ 0 c.self.invariant frame, grown_now, starts, size_within c.self.inside c.args.self.now c.self.invariant c.self.view_is c.requires.within, c.self.invariant.room.limit, c.if-room-height.false, split)
+      omega (arith, height_of _ _ _ _ _ _ _ _ _ 0 0 c.self.invariant frame, grown_now, starts, size_within c.self.inside c.args.self.now c.self.invariant c.self.view_is c.requires.within, c.self.invariant.room.limit, c.if-room-height.false, split)
 
 pub invariant_of-self : goal.invariant_of-self
 invariant_of-self c =
-    entered_sound _ _ _ _ _ _ _ _ _ _ c.self.invariant (frame c)
+    entered_sound _ _ _ _ _ _ _ _ _ _ _ c.self.invariant (frame c)
     (omega (arith, c.self.invariant.room.place, c.truncate.ensures.capacity))
     (omega (arith, c.self.invariant.room.limit, grown_now c, starts c))
+    (omega (arith, c.self.invariant.room.frames_place, c.push_reserved.ensures.capacity))
+    c.self.invariant.room.frames_limit
 
 pub returns-clause-entered : goal.returns-clause-entered
 returns-clause-entered c = λ _.
     ap (λ (t : Thread). called_with (arguments c.args.called.takes (without_operands c.args.above t)) c.args.called.takes (without_operands c.args.above t) c.args.index c.args.called.callee c.args.called.gives) (sym c.self.view_is)
-    ∙ entered_view _ _ _ _ _ _ _ _ _ 0 c.self.invariant (frame c)
+    ∙ entered_view _ _ _ _ _ _ _ _ _ 0 0 c.self.invariant (frame c)
 
 pub returns-clause-within : goal.returns-clause-within
 returns-clause-within c =
     within_of _ (invariant_of-self c)
-    (omega (arith, c.push_reserved.ensures.len, c.push_reserved.new.self.ok.0, c.len-else-capacity-locals_from.ensures, c.if-len-ge-MOST_FRAMES.false))
+    (omega (arith, c.push_reserved.ensures.len, c.push_reserved.new.self.ok.0, c.self.invariant.room.frames_limit, c.len-else-capacity-locals_from.ensures, c.if-len-self.false))
     (size c)

@@ -21,7 +21,7 @@ module _ (c : goal.After-truncate-in-Some-2) where
   is_left = record { caller = c.in-Some.ensures.items; ops_is = c.truncate.ensures.items; labels_is = c.truncate-in-Some.ensures.items; locals_is = c.truncate-in-Some-2.ensures.items }
 
   below_sound : IsStack below
-  below_sound = left_sound c.self.inside c.truncate.new.self c.truncate-in-Some.new.self c.truncate-in-Some-2.new.self c.pop.new.self c.in-Some.held c.self.invariant is_left (omega (arith, c.truncate.ensures.capacity))
+  below_sound = left_sound c.self.inside c.truncate.new.self c.truncate-in-Some.new.self c.truncate-in-Some-2.new.self c.pop.new.self c.in-Some.held c.self.invariant is_left (omega (arith, c.truncate.ensures.capacity)) (omega (arith, c.pop.ensures.capacity))
 
 pub invariant_of-self : goal.invariant_of-self
 invariant_of-self c =
