@@ -1,6 +1,7 @@
 // Frames: a thread's start, calls of its functions, and the ends of these.
-ghost use Rattle.std.specs.Prelude.{◌≡◌, ◌+◌, ◌≤◌, [], ◌++◌, length, IfOk, OnOk, Some, None, if◌then◌else◌, IsTrue, false, take};
+ghost use Rattle.std.specs.Prelude.{◌≡◌, ◌+◌, ◌-◌, ◌≤◌, [], ◌++◌, length, IfOk, OnOk, Some, None, if◌then◌else◌, IsTrue, false, take};
 ghost use Rattle.wasm_stack.specs.Thread.{arguments, function_at_start, called_with, left_frame, without_operands};
+ghost use Rattle.wasm_types.specs.Limits.{most_thread_size};
 ghost use Rattle.wasm_types.specs.Locals.{zeros};
 ghost use Rattle.std.specs.Vec.{vec_capacity};
 ghost use Rattle.wasm_stack.specs.Limits.{ThreadWithin};
@@ -10,7 +11,7 @@ ghost use Rattle.wasm_stack.specs.Control.{leave_with_top};
 use super::{Stack, StackFrame, push_to};
 use guest_module::{Called, Callee};
 use std::alloc::AllocError;
-use wasm_types::{Slot, ValType};
+use wasm_types::{MOST_THREAD_SIZE, Slot, ValType};
 
 impl<'m> Stack<'m> {
     /// A function at its start, with these arguments.
@@ -96,8 +97,8 @@ impl<'m> Stack<'m> {
         };
         let height = self.operands.len() - above;
         let locals_from = self.locals.len();
-        let room = self.room;
-        if room < height + starts.len()
+        let most = room_before(self.room, self.labels.len(), locals_from, few);
+        if most < height + starts.len()
             || self.locals.capacity() - locals_from < n + starts.len()
             || self.callers.len() >= self.frames
         {
@@ -112,7 +113,7 @@ impl<'m> Stack<'m> {
         self.here.bottom = first;
         self.here.func = index;
         self.here.gives = called.gives;
-        self.room = room - (n + starts.len());
+        self.room = room_after(most, n + starts.len(), self.operands.capacity(), few);
         append_reserved(&mut self.locals, &self.operands[first..height], few);
         append_reserved(&mut self.locals, starts, few);
         self.operands.truncate(first);
@@ -159,6 +160,35 @@ impl<'m> Stack<'m> {
             None => false,
         }
     }
+}
+
+// How many operands a call finds room for: so many as the thread knows of, if it takes few values, and else what the limit leaves.
+#[inline(always)]
+fn room_before(room: usize, labels: usize, locals: usize, few: bool) -> usize
+    requires { room ≤ most_thread_size - (labels + locals) }
+    ensures limit { result ≤ most_thread_size - (labels + locals) }
+    ensures few { IsTrue few → result ≤ room }
+{
+    if few {
+        return room;
+    }
+    MOST_THREAD_SIZE
+        .saturating_sub(labels)
+        .saturating_sub(locals)
+}
+
+// How many it leaves, if it takes so many. With few values these come off what the thread knows of, until that is found anew.
+#[inline(always)]
+fn room_after(most: usize, taken: usize, capacity: usize, few: bool) -> usize
+    requires enough { taken ≤ most }
+    requires place { IsTrue few → most ≤ capacity }
+    ensures limit { result ≤ most - taken }
+    ensures place { result ≤ capacity }
+{
+    if few {
+        return most - taken;
+    }
+    (most - taken).min(capacity)
 }
 
 #[inline(always)]

@@ -68,13 +68,13 @@ module _ (c : After-truncate) where
 
   size : length c.truncate.new.self.items + length c.self.inside.labels.items + length c.append_reserved-2.new.items.items ≤ 16384
   size =
-      omega (arith, height_of _ _ _ _ _ _ _ _ _ 0 0 c.self.invariant frame, grown_now, starts, size_within c.self.inside c.args.self.now c.self.invariant c.self.view_is c.requires.within, c.self.invariant.room.limit, c.if-room-height.false, split)
+      omega (arith, height_of _ _ _ _ _ _ _ _ _ 0 0 c.self.invariant frame, grown_now, starts, size_within c.self.inside c.args.self.now c.self.invariant c.self.view_is c.requires.within, c.room_before-most.ensures.limit, c.len-2.ensures, c.self.inside.labels.ok.0, c.len-locals_from.ensures, c.self.inside.locals.ok.0, c.if-most-height.false, split)
 
 pub invariant_of-self : goal.invariant_of-self
 invariant_of-self c =
     entered_sound _ _ _ _ _ _ _ _ _ _ _ c.self.invariant (frame c)
-    (omega (arith, c.self.invariant.room.place, c.truncate.ensures.capacity))
-    (omega (arith, c.self.invariant.room.limit, grown_now c, starts c))
+    (omega (arith, c.room_after-self-inside.ensures.place, c.capacity-2.ensures, c.truncate.ensures.capacity))
+    (omega (arith, c.room_after-self-inside.ensures.limit, c.room_before-most.ensures.limit, c.len-2.ensures, c.self.inside.labels.ok.0, c.len-locals_from.ensures, c.self.inside.locals.ok.0, grown_now c, starts c))
     (omega (arith, c.self.invariant.room.frames_place, c.push_reserved.ensures.capacity))
     c.self.invariant.room.frames_limit
 
