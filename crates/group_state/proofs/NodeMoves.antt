@@ -1,9 +1,9 @@
 -- At which positions nodes had their events.
 use Rattle.std.proofs.Common.{◌≡◌, ◌<◌, ◌≤◌, ℕ, zero, suc, ◌+◌, ◌==◌, true, false, List, [], ◌∷◌, ◌++◌, length, length-take, get_or, set, take, drop, take-append-drop, Some, inl, inr, refl, sym, ap, ◌∙◌, subst, arith}
 use Rattle.std.specs.Prelude.{nat_lt, replicate, slice_get}
-use Rattle.std.proofs.lemmas.Bool.{cases_Bool, lt-ltb, ltb-false, ltb-true}
+use Rattle.std.proofs.lemmas.Bool.{cases_Bool, ltb-false, ltb-true}
 use Rattle.std.proofs.lemmas.Bool.Decides.{nat_tests}
-use Rattle.std.proofs.lemmas.List.{replicate-append-replicate, take_more, take-take}
+use Rattle.std.proofs.lemmas.List.{take_more, take-take}
 use Rattle.std.proofs.lemmas.Option.{get_or_from_slice_get}
 use Rattle.lib_calls.specs.declared.entry.Entry.{Entry}
 use Rattle.group_order.specs.Motions.{Motions, no_motions, with_motion}
