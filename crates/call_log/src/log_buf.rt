@@ -12,7 +12,6 @@ use std::marker::Model;
 const NAME_START: usize = 17;
 
 /// A log that keeps its bytes, with its head found in them.
-#[derive(Drop)]
 pub struct LogBuf {
     bytes: Vec<u8>,
     version: Version,
@@ -20,6 +19,19 @@ pub struct LogBuf {
     process: u32,
     // Where the name ends, and with it the head.
     head_end: usize,
+}
+
+// By hand, so that it is proved here, and not in each crate that owns one.
+impl Drop for LogBuf {
+    fn drop(self) {
+        let Self {
+            bytes: _bytes,
+            version: _version,
+            count: _count,
+            process: _process,
+            head_end: _head_end,
+        } = self;
+    }
 }
 
 impl Model for LogBuf {

@@ -22,9 +22,15 @@ pub(crate) struct ModuleFile {
 }
 
 /// The modules of the files that were read, each with the name of its file.
-#[derive(Drop)]
 pub struct ModuleFiles {
     pub(crate) kept: Vec<ModuleFile>,
+}
+
+// By hand, so that it is proved here, and not in each crate that owns one.
+impl Drop for ModuleFiles {
+    fn drop(self) {
+        let Self { kept: _kept } = self;
+    }
 }
 
 impl ModuleFiles {

@@ -12,9 +12,15 @@ const LINE_ROOM: usize = 64;
 
 /// Text in the making. Contracts see the list of its bytes. Each call adds at the end, and adds nothing
 /// where there is no memory for all of it.
-#[derive(Drop)]
 pub struct Text {
     bytes: Vec<u8>,
+}
+
+// By hand, so that it is proved here, and not in each crate that owns one.
+impl Drop for Text {
+    fn drop(self) {
+        let Self { bytes: _bytes } = self;
+    }
 }
 
 impl Model for Text {
@@ -46,7 +52,8 @@ impl Text {
     pub fn into_vec(self) -> Vec<u8>
         ensures { result.items ≡ self }
     {
-        self.bytes
+        let Self { bytes } = self;
+        bytes
     }
 
     /// Takes all bytes out. Their room is kept.

@@ -29,11 +29,21 @@ use watch_expr::Steps;
 
 /// A debugger over the logs of a group. Contracts see where its group is, the points that it holds, how many were
 /// made, and the variables.
-#[derive(Drop)]
 pub struct Session<'m, 'a> {
     group: Group<'m, 'a>,
     kept: PointsAndVariables,
     names: Vec<Bytes>,
+}
+
+// By hand, so that it is proved here, and not in each crate that owns one.
+impl Drop for Session<'_, '_> {
+    fn drop(self) {
+        let Self {
+            group: _group,
+            kept: _kept,
+            names: _names,
+        } = self;
+    }
 }
 
 impl<'m, 'a> Model for Session<'m, 'a> {

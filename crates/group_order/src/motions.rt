@@ -7,10 +7,19 @@ use std::marker::Model;
 
 /// For each node the positions of its events, in order, up to the greatest position at which the group has been. Going back
 /// takes none of them away, since the position of an event never changes.
-#[derive(Drop)]
 pub struct Motions {
     reached: u64,
     of: Vec<Vec<u64>>,
+}
+
+// By hand, so that it is proved here, and not in each crate that owns one.
+impl Drop for Motions {
+    fn drop(self) {
+        let Self {
+            reached: _reached,
+            of: _of,
+        } = self;
+    }
 }
 
 impl Model for Motions {

@@ -9,10 +9,16 @@ use std::marker::Model;
 
 /// The sends of a group's processes. Contracts see a map from the number and the clock of a sender to the
 /// receiver.
-#[derive(Drop)]
 pub struct SendIndex {
     // A sender's number and clock, and the receiver, in order.
     sends: Vec<((u32, u64), u32)>,
+}
+
+// By hand, so that it is proved here, and not in each crate that owns one.
+impl Drop for SendIndex {
+    fn drop(self) {
+        let Self { sends: _sends } = self;
+    }
 }
 
 impl Model for SendIndex {

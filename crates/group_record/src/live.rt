@@ -19,9 +19,15 @@ use std::marker::Model;
 /// A group that goes on try by try. No log is kept, but the size of each is, so that no event is made for which a
 /// log would have no room. Contracts see its processes, the world around them and what they printed
 /// (`LiveParts`). After want of memory at an event it has no process.
-#[derive(Drop)]
 pub struct LiveGroup<'m> {
     parts: Parts<'m>,
+}
+
+// By hand, so that it is proved here, and not in each crate that owns one.
+impl Drop for LiveGroup<'_> {
+    fn drop(self) {
+        let Self { parts: _parts } = self;
+    }
 }
 
 impl<'m> Model for LiveGroup<'m> {

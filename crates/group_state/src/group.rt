@@ -18,9 +18,15 @@ use std::marker::Model;
 
 /// The logs of a group at a position: the number of events that have been made, of all accepted events by
 /// clock and then by node. Contracts see the replays at position 0, and the position.
-#[derive(Drop)]
 pub struct Group<'m, 'a> {
     pub(crate) course: Course<'m, 'a>,
+}
+
+// By hand, so that it is proved here, and not in each crate that owns one.
+impl Drop for Group<'_, '_> {
+    fn drop(self) {
+        let Self { course: _course } = self;
+    }
 }
 
 /// Where a group began, where it stands, and what it knows of the way.

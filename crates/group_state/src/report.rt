@@ -107,9 +107,15 @@ impl<'m, 'a> ReportCourse<'m, 'a> {
 
 /// A report that is made log after log, each replayed to its first entry that is not legal, whatever the other logs hold.
 /// Contracts see the replays of the logs that are left, and what is said of all logs.
-#[derive(Drop)]
 pub struct Reporter<'m, 'a> {
     course: ReportCourse<'m, 'a>,
+}
+
+// By hand, so that it is proved here, and not in each crate that owns one.
+impl Drop for Reporter<'_, '_> {
+    fn drop(self) {
+        let Self { course: _course } = self;
+    }
 }
 
 impl<'m, 'a> Model for Reporter<'m, 'a> {

@@ -27,13 +27,25 @@ pub struct Receipt {
 }
 
 /// Counts the datagrams of accepted events. The events of a group's logs may come in any order.
-#[derive(Drop)]
 pub struct Tally {
     count: u32,
     sends: u64,
     untagged: u64,
     sent: SendIndex,
     taken: Vec<Receipt>,
+}
+
+// By hand, so that it is proved here, and not in each crate that owns one.
+impl Drop for Tally {
+    fn drop(self) {
+        let Self {
+            count: _count,
+            sends: _sends,
+            untagged: _untagged,
+            sent: _sent,
+            taken: _taken,
+        } = self;
+    }
 }
 
 impl Model for Tally {

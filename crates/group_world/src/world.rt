@@ -16,11 +16,21 @@ use std::marker::Model;
 
 /// What is on its way between the processes of a group, and what is around each of them. Contracts
 /// see the network and what is around each process.
-#[derive(Drop)]
 pub struct World {
     count: u32,
     net: Net,
     surroundings: Vec<Surroundings>,
+}
+
+// By hand, so that it is proved here, and not in each crate that owns one.
+impl Drop for World {
+    fn drop(self) {
+        let Self {
+            count: _count,
+            net: _net,
+            surroundings: _surroundings,
+        } = self;
+    }
 }
 
 impl Model for World {

@@ -7,9 +7,15 @@ use std::marker::Model;
 use std::rc::Rc;
 
 /// An owner of a valid module, which is kept once however many owners it has. Contracts see it as its module.
-#[derive(Drop)]
 pub struct SharedModule {
     owned: Rc<ValidModule>,
+}
+
+// By hand, so that it is proved here, and not in each crate that owns one.
+impl Drop for SharedModule {
+    fn drop(self) {
+        let Self { owned: _owned } = self;
+    }
 }
 
 impl Model for SharedModule {

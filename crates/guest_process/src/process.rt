@@ -34,10 +34,16 @@ use wasm_step::{StartError, Store, Strand};
 use wasm_types::Value;
 
 /// A process of a guest.
-#[derive(Drop)]
 pub struct Process<'m> {
     // Behind a box, since a process is moved at each event.
     pub(crate) body: Box<Body<'m>>,
+}
+
+// By hand, so that it is proved here, and not in each crate that owns one.
+impl Drop for Process<'_> {
+    fn drop(self) {
+        let Self { body: _body } = self;
+    }
 }
 
 impl<'m> Model for Process<'m> {
@@ -135,7 +141,7 @@ impl<'m> Process<'m> {
         // Their laws tell the proof what a burst and a write leave as it is, and what they mark.
         wasm_step::laws::never_stuck();
         wasm_step::laws::marked();
-        let mut body = self.body;
+        let Self { mut body } = self;
         body.advance(entry)?;
         Ok(Process { body })
     }

@@ -27,11 +27,21 @@ pub struct Pair<'a> {
 }
 
 /// A pair that was read: the name of the module's file, the module, and the log.
-#[derive(Drop)]
 pub struct Loaded<'a> {
     pub(crate) module_file: &'a str,
     pub(crate) module: SharedModule,
     pub(crate) log: LogBuf,
+}
+
+// By hand, so that it is proved here, and not in each crate that owns one.
+impl Drop for Loaded<'_> {
+    fn drop(self) {
+        let Self {
+            module_file: _module_file,
+            module: _module,
+            log: _log,
+        } = self;
+    }
 }
 
 impl Loaded<'_> {

@@ -18,10 +18,19 @@ use watch_expr::{Expr, Steps};
 
 /// Watches that are asked together. With them are kept all places that they were read from, so that an event that touched
 /// none of these costs little, however many watches there are. Contracts see the list of them.
-#[derive(Drop)]
 pub struct Watches {
     watches: Vec<Watch>,
     places: AllPlaces,
+}
+
+// By hand, so that it is proved here, and not in each crate that owns one.
+impl Drop for Watches {
+    fn drop(self) {
+        let Self {
+            watches: _watches,
+            places: _places,
+        } = self;
+    }
 }
 
 impl Model for Watches {

@@ -12,9 +12,15 @@ use watch_expr::Scope;
 
 /// The variables of a session, in the order in which they were first mentioned. Contracts see them as a list
 /// of names and values, None for undef.
-#[derive(Drop)]
 pub struct Vars {
     values: IndexMap<Vec<u8>, Option<i64>>,
+}
+
+// By hand, so that it is proved here, and not in each crate that owns one.
+impl Drop for Vars {
+    fn drop(self) {
+        let Self { values: _values } = self;
+    }
 }
 
 impl Model for Vars {

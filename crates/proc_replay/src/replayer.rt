@@ -14,11 +14,20 @@ use std::alloc::{AllocError, Global};
 use std::marker::Model;
 
 /// A process after the events so far, and what is left of its log.
-#[derive(Drop)]
 pub struct Replayer<'m, 'a> {
     process: Process<'m>,
     // Behind a box, since a replay is moved at each event.
     ahead: Box<Ahead<'a>>,
+}
+
+// By hand, so that it is proved here, and not in each crate that owns one.
+impl Drop for Replayer<'_, '_> {
+    fn drop(self) {
+        let Self {
+            process: _process,
+            ahead: _ahead,
+        } = self;
+    }
 }
 
 // What is left of the log; what the next turn gives, so that each entry is read and judged once; and the log after the

@@ -8,10 +8,19 @@ use std::marker::Model;
 
 /// A schedule: the processes of a group, numbered from 0, and what happens to them, in order. Each
 /// schedule is in range: `IsSchedule` holds of it. Contracts see the two lists.
-#[derive(Drop)]
 pub struct Schedule {
     processes: Vec<ProcessLine>,
     items: Vec<Item>,
+}
+
+// By hand, so that it is proved here, and not in each crate that owns one.
+impl Drop for Schedule {
+    fn drop(self) {
+        let Self {
+            processes: _processes,
+            items: _items,
+        } = self;
+    }
 }
 
 impl Model for Schedule {

@@ -15,9 +15,15 @@ use std::marker::Model;
 use watch_expr::Expr;
 
 /// The points that a session holds. Contracts see them as a list, in the order in which they were added.
-#[derive(Drop)]
 pub struct Points {
     pub(crate) held: Vec<Point>,
+}
+
+// By hand, so that it is proved here, and not in each crate that owns one.
+impl Drop for Points {
+    fn drop(self) {
+        let Self { held: _held } = self;
+    }
 }
 
 impl Model for Points {

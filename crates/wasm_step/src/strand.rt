@@ -18,11 +18,21 @@ use wasm_store::Store;
 use wasm_types::{Slot, Trap, Value};
 
 /// A thread of a module, with its whole stack.
-#[derive(Drop)]
 pub struct Strand<'m> {
     module: &'m ValidModule,
     stack: Box<Stack<'m>>,
     call: Option<u32>,
+}
+
+// By hand, so that it is proved here, and not in each crate that owns one.
+impl Drop for Strand<'_> {
+    fn drop(self) {
+        let Self {
+            module: _module,
+            stack: _stack,
+            call: _call,
+        } = self;
+    }
 }
 
 impl<'m> Model for Strand<'m> {

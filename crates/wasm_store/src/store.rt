@@ -20,13 +20,25 @@ use wasm_types::{Module, Value};
 
 /// A module's memory, its globals and its table, with the numbers of the events that last set each global and
 /// made the memory larger.
-#[derive(Drop)]
 pub struct Store<'m> {
     module: &'m ValidModule,
     memory: Memory,
     globals: Vec<Global>,
     table: Vec<Option<u32>>,
     size_stamp: u64,
+}
+
+// By hand, so that it is proved here, and not in each crate that owns one.
+impl Drop for Store<'_> {
+    fn drop(self) {
+        let Self {
+            module: _module,
+            memory: _memory,
+            globals: _globals,
+            table: _table,
+            size_stamp: _size_stamp,
+        } = self;
+    }
 }
 
 impl<'m> Model for Store<'m> {
